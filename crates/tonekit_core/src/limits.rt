@@ -1,0 +1,16 @@
+// Document 01's limits.
+pub const TONES: usize = 8;
+
+pub const ACCENTS: usize = 8;
+
+pub const RULES: usize = 64;
+
+pub const PARTS_OF_A_RULE: usize = 4;
+
+pub const PARTS: usize = 128;
+
+pub const KNOTS: usize = 10;
+
+pub const VARIANTS: usize = 4;
+
+pub const FRAMES: usize = 1024;
