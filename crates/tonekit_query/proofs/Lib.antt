@@ -1,0 +1,4 @@
+pub mod Parts
+pub mod Steps
+pub mod Laws
+pub mod Enough

@@ -1,0 +1,86 @@
+-- Worked queries, by computing: one that loads, and one refusal of each number with its place.
+use Prim.Native.Nat.{ℕ}
+use mathlib.Core.Path.{_≡_, refl}
+use mathlib.Core.Bool.{false}
+use mathlib.Core.List.{List, [], _∷_, _++_}
+use lib.IntN.{pos}
+use lib.Ieee.{fin, ofBits, lt}
+use lib.ListN.{take, replicate}
+use Rattle.tonekit_core.specs.Loop.{turns, range, turnsTo, rangeTo}
+use Rattle.tonekit_core.specs.declared.Refusal.the-variants.{Misplaced, CutShort, Overrun, Crowded, BadQuery}
+use Rattle.tonekit_core.specs.declared.Checked.the-variants.{Loads, Refused}
+use Rattle.tonekit_query.specs.declared.Frame.the-variants.{Voiced, Unvoiced}
+use Rattle.tonekit_query.specs.Query.{variantFine, variantsFine, recordVerdict, frameVerdict, fieldsOf, readQuery, loadQuery, checkQuery, framesOf}
+use Rattle.tonekit_query.specs.Frames.{frameAt}
+
+-- a fixed record: final, the high byte of the issues, the variant count and variants, the two bytes of the frame count
+abbrev fixed : ℕ → ℕ → ℕ → List ℕ → ℕ → ℕ → List ℕ
+fixed last issues variants slots low high = 48 ∷ 1 ∷ 1 ∷ 0 ∷ last ∷ (replicate 17 0 ++ (issues ∷ variants ∷ (slots ++ (low ∷ high ∷ []))))
+
+abbrev unused : List ℕ
+unused = replicate 20 0
+
+-- a first variant of tone 0 and weight −0
+abbrev minusZero : List ℕ
+minusZero = 0 ∷ 0 ∷ 0 ∷ 0 ∷ 128 ∷ replicate 15 0
+
+abbrev plain : ℕ → List ℕ
+plain count = fixed 0 0 0 unused count 0
+
+-- a frame's kind, flag and four bytes of hz; voiced_p is 1
+abbrev frame : ℕ → ℕ → List ℕ → List ℕ
+frame kind flag hz = kind ∷ flag ∷ (hz ++ (0 ∷ 0 ∷ 128 ∷ 63 ∷ []))
+
+abbrev a110 : List ℕ
+a110 = 0 ∷ 0 ∷ 220 ∷ 66 ∷ []
+
+abbrev voiced : List ℕ
+voiced = frame 50 1 a110
+
+loads : (checkQuery (plain 1 ++ voiced) ≡ Loads) × (checkQuery (plain 0) ≡ Loads) × (checkQuery (fixed 1 3 1 minusZero 0 0) ≡ Loads)
+unfolding checkQuery loadQuery readQuery recordVerdict variantsFine variantFine frameVerdict fieldsOf turns range turnsTo rangeTo
+loads = (refl, refl, refl)
+
+-- 1: another kind, of the record and of a frame
+misplaced : (checkQuery (49 ∷ plain 0) ≡ Refused Misplaced 0) × (checkQuery (plain 1 ++ frame 51 1 a110) ≡ Refused Misplaced 46)
+unfolding checkQuery loadQuery readQuery recordVerdict variantsFine variantFine frameVerdict fieldsOf turns range turnsTo rangeTo
+misplaced = (refl, refl)
+
+-- 2: no input, a record cut by a byte, a frame that is missing (at the input's end), a frame cut by a byte (at its offset)
+cut : (checkQuery [] ≡ Refused CutShort 0)
+    × (checkQuery (take 45 (plain 0)) ≡ Refused CutShort 0)
+    × (checkQuery (plain 2 ++ voiced) ≡ Refused CutShort 56)
+    × (checkQuery (plain 2 ++ (voiced ++ take 9 voiced)) ≡ Refused CutShort 56)
+unfolding checkQuery loadQuery readQuery recordVerdict variantsFine variantFine frameVerdict fieldsOf turns range turnsTo rangeTo
+cut = (refl, refl, refl, refl)
+
+-- 3: a byte behind
+overrun : checkQuery (plain 1 ++ (voiced ++ (0 ∷ []))) ≡ Refused Overrun 56
+unfolding checkQuery loadQuery readQuery recordVerdict variantsFine variantFine frameVerdict fieldsOf turns range turnsTo rangeTo
+overrun = refl
+
+-- 4: five variants; 1,025 frames; before 10 in one record
+crowded : (checkQuery (fixed 0 0 5 unused 0 0) ≡ Refused Crowded 0)
+    × (checkQuery (fixed 0 0 0 unused 1 4) ≡ Refused Crowded 0)
+    × (checkQuery (fixed 2 0 5 unused 0 0) ≡ Refused Crowded 0)
+unfolding checkQuery loadQuery readQuery recordVerdict variantsFine variantFine frameVerdict fieldsOf turns range turnsTo rangeTo
+crowded = (refl, refl, refl)
+
+-- 10: final 2; issue bit 10; an unused variant that is not zero bytes; a frame's flag 2
+bad : (checkQuery (fixed 2 0 0 unused 0 0) ≡ Refused BadQuery 0)
+    × (checkQuery (fixed 0 4 0 unused 0 0) ≡ Refused BadQuery 0)
+    × (checkQuery (fixed 0 0 0 minusZero 0 0) ≡ Refused BadQuery 0)
+    × (checkQuery (plain 2 ++ (voiced ++ frame 50 2 a110)) ≡ Refused BadQuery 56)
+unfolding checkQuery loadQuery readQuery recordVerdict variantsFine variantFine frameVerdict fieldsOf turns range turnsTo rangeTo
+bad = (refl, refl, refl, refl)
+
+-- 110 Hz; flag 0; 0, −1, infinite and no number of Hz; past the end
+frames : (frameAt (framesOf (plain 1 ++ voiced) 1) 0 ≡ Voiced (fin false 55 (pos 1)) (fin false 1 (pos 0)))
+    × (frameAt (frame 50 0 a110) 0 ≡ Unvoiced)
+    × (frameAt (frame 50 1 (0 ∷ 0 ∷ 0 ∷ 0 ∷ [])) 0 ≡ Unvoiced)
+    × (frameAt (frame 50 1 (0 ∷ 0 ∷ 128 ∷ 191 ∷ [])) 0 ≡ Unvoiced)
+    × (frameAt (frame 50 1 (0 ∷ 0 ∷ 128 ∷ 127 ∷ [])) 0 ≡ Unvoiced)
+    × (frameAt (frame 50 1 (0 ∷ 0 ∷ 192 ∷ 127 ∷ [])) 0 ≡ Unvoiced)
+    × (frameAt voiced 1 ≡ Unvoiced)
+unfolding frameAt ofBits lt
+frames = (refl, refl, refl, refl, refl, refl, refl)

@@ -1,0 +1,21 @@
+-- A frame as document 01 has it: "Where the voiced flag is 0, hz is ignored"; "frames with non-finite or non-positive hz are unvoiced".
+use Prim.Native.Nat.{ℕ, _+_, _*_}
+use mathlib.Core.Bool.{Bool, false, cond, _&&_}
+use mathlib.Core.List.{List}
+use lib.Dec.{eqb}
+use lib.IntN.{pos}
+use lib.Ieee.{Float, inf, fin, lt}
+use Rattle.tonekit_bytes.specs.Fields.{byteAt, f32At}
+use Rattle.tonekit_query.specs.declared.Frame.{Frame}
+use Rattle.tonekit_query.specs.declared.Frame.the-variants.{Voiced, Unvoiced}
+
+-- above 0 and finite
+abbrev pub pitch : Float → Bool
+pitch hz = lt (fin false 0 (pos 0)) hz && lt hz (inf false)
+
+-- frame i of the part that holds the frames: its hz and voiced_p
+unfoldable pub frameAt : List ℕ → ℕ → Frame
+frameAt frames i =
+    cond (eqb (byteAt frames (10 * i + 1)) 1 && pitch (f32At frames (10 * i + 2)))
+    (Voiced (f32At frames (10 * i + 2)) (f32At frames (10 * i + 6)))
+    Unvoiced
