@@ -1,0 +1,10 @@
+pub mod Split
+pub mod Numbers
+pub mod InOrder
+pub mod Each
+pub mod Records
+pub mod Reading
+pub mod Single
+pub mod Turns
+pub mod Loads
+pub mod Front

@@ -1,0 +1,80 @@
+use mathlib.Core.Path.{refl, sym, _∙_}
+use borrow.Author.Needs.{needs}
+use native.Mathlib.Omega.{arith}
+use Prim.Native.Nat.{_+_, _-_}
+use lib.ListN.{length, getD}
+use Rattle.tonekit_pack.specs.Pack.{readPack}
+use Rattle.tonekit_pack.proofs.Records.{size-pos}
+use Rattle.tonekit_pack.proofs.Reading.{Going, refuses, close, ok, ends, room2, room3, room4, room5, goes}
+use Rattle.tonekit_pack.proofs.read_pack.Statement.{statement}
+use Rattle.tonekit_pack.proofs.read_pack.Tie as tie
+
+abbrev Inv-loop : tie.InvT-loop
+Inv-loop pack st₀ at₀ st at = Going pack st at
+
+abbrev μ-loop : tie.MeasureT-loop
+μ-loop pack st₀ at₀ st at = length pack - at
+
+loop-holds : tie.Need-loop-holds Inv-loop μ-loop
+unfolding readPack
+loop-holds c =
+    let e = c .nothing .ensures .0 in
+    record {
+      roomy = c .nothing .ensures .1;
+      near = rw e (record { first = λ q. refl; early = λ q. omega arith; near = omega arith });
+      inside = omega arith;
+      fuel = length (c .before .before .args .pack .now) + 1;
+      enough = omega arith;
+      same = rw e refl;
+    }
+
+record-verdict-requires : tie.Need-record-verdict-requires Inv-loop μ-loop
+record-verdict-requires c κs = c .loop .inv .roomy
+
+returns : tie.Need-returns Inv-loop μ-loop
+returns c = (refuses _ (c .before .before .before .before .loop .st) (c .before .before .before .before .loop .at) (c .before .before .before .before .loop .inv) _ (sym (c .before .before .before .record-verdict .ensures) ∙ c .before .v .given .1), c .before .before .before .before .loop .inv .roomy)
+
+shared-slice-read-k : tie.Need-shared-slice-read-k Inv-loop μ-loop
+shared-slice-read-k c = ok _ (c .before .before .before .before .loop .st) (c .before .before .before .before .loop .at) (c .before .before .before .before .loop .inv) (sym (c .before .before .before .record-verdict .ensures) ∙ c .before .enum-told .given .1) .inside
+
+add-t11 : tie.Need-add-t11 Inv-loop μ-loop
+add-t11 c = omega (arith, ok _ (c .before .before .before .before .before .loop .st) (c .before .before .before .before .before .loop .at) (c .before .before .before .before .before .loop .inv) (sym (c .before .before .before .before .record-verdict .ensures) ∙ c .before .before .enum-told .given .1) .inside)
+
+returns-2 : tie.Need-returns-2 Inv-loop μ-loop
+returns-2 c = (ends _ (c .before .before .before .before .before .loop .st) (c .before .before .before .before .before .loop .at) (c .before .before .before .before .before .loop .inv) (sym (c .before .before .before .before .record-verdict .ensures) ∙ c .before .before .enum-told .given .1) (c .if1 .taken), c .before .before .before .before .before .loop .inv .roomy)
+
+add-requires : tie.Need-add-requires Inv-loop μ-loop
+add-requires c κs =
+    let v = (sym (c .before .before .before .before .record-verdict .ensures) ∙ c .before .before .enum-told .given .1) in
+    (c .before .before .before .before .before .loop .inv .roomy, close _ (c .before .before .before .before .before .loop .st) (c .before .before .before .before .before .loop .at) (c .before .before .before .before .before .loop .inv), room2 _ (c .before .before .before .before .before .loop .st) (c .before .before .before .before .before .loop .at) (c .before .before .before .before .before .loop .inv) v, room3 _ (c .before .before .before .before .before .loop .st) (c .before .before .before .before .before .loop .at) (c .before .before .before .before .before .loop .inv) v, room4 _ (c .before .before .before .before .before .loop .st) (c .before .before .before .before .before .loop .at) (c .before .before .before .before .before .loop .inv) v, room5 _ (c .before .before .before .before .before .loop .st) (c .before .before .before .before .before .loop .at) (c .before .before .before .before .before .loop .inv) v)
+
+add-at : tie.Need-add-at Inv-loop μ-loop
+add-at c = omega (arith, ok _ (c .before .before .before .before .before .before .before .loop .st) (c .before .before .before .before .before .before .before .loop .at) (c .before .before .before .before .before .before .before .loop .inv) (sym (c .before .before .before .before .before .before .record-verdict .ensures) ∙ c .before .before .before .before .enum-told .given .1) .whole)
+
+loop-less : tie.Need-loop-less Inv-loop μ-loop
+loop-less c = omega (arith, ok _ (c .before .before .before .before .before .before .before .loop .st) (c .before .before .before .before .before .before .before .loop .at) (c .before .before .before .before .before .before .before .loop .inv) (sym (c .before .before .before .before .before .before .record-verdict .ensures) ∙ c .before .before .before .before .enum-told .given .1) .whole, size-pos (getD (c .before .before .before .before .before .before .before .before .before .before .args .pack .now) (c .before .before .before .before .before .before .before .loop .at) 0))
+
+loop-again : tie.Need-loop-again Inv-loop μ-loop
+loop-again c = rw (c .size-of .ensures) (goes _ (c .before .before .before .before .before .before .before .loop .st) (c .before .before .before .before .before .before .before .loop .at) (c .before .before .before .before .before .before .before .loop .inv) (sym (c .before .before .before .before .before .before .record-verdict .ensures) ∙ c .before .before .before .before .enum-told .given .1) _ (c .before .before .if1 .left) (c .before .add .ensures .0) (c .before .add .ensures .1))
+
+-- nothing-requires, enum-known-v, enum-told, size-of-requires: by search
+pub read-pack-spec : {M : Type 1} → statement M
+read-pack-spec =
+    tie.close
+    (tie.spec
+    Inv-loop
+    μ-loop
+    (λ c κs. search needs)
+    loop-holds
+    record-verdict-requires
+    (λ c. search needs)
+    returns
+    (λ c. search needs)
+    shared-slice-read-k
+    add-t11
+    returns-2
+    add-requires
+    (λ c κs. search needs)
+    add-at
+    loop-less
+    loop-again)

@@ -1,0 +1,4 @@
+pub mod Ranges
+pub mod Pack
+pub mod Held
+pub mod Bench

@@ -1,0 +1,95 @@
+// The pack reader: which bytes are a pack, and the refusal and place of those that are not.
+ghost use mathlib.Core.Path.{_≡_};
+ghost use Rattle.tonekit_pack.specs.Pack.{readPack, loadPack, checkPack};
+ghost use Rattle.tonekit_pack.specs.Held.{answered, Roomy};
+
+mod ranges;
+mod read;
+
+use tonekit_core::Checked;
+use tonekit_core::Refusal;
+use tonekit_core::Verdict;
+
+// What was read of a pack: how many of each, and the offsets of the records.
+pub struct Pack {
+    pub last: u8,
+    pub tones: usize,
+    pub accents: usize,
+    pub rules: usize,
+    pub parts: usize,
+    pub total: usize,
+    pub toneat: [u16; 8],
+    pub accentat: [u16; 8],
+    pub firstrule: [u8; 8],
+    pub ruleat: [u16; 64],
+}
+
+// The answer of the reader, beside what was read: where the pack ends, or why it is none and where.
+pub enum PackRead {
+    Good(usize),
+    Refused(Refusal, usize),
+}
+
+pub struct Loaded {
+    pub read: PackRead,
+    pub pack: Pack,
+}
+
+// Reads the pack at the front of a longer input: where it ends, or its refusal and place.
+pub fn read_pack(pack: &[u8]) -> Loaded
+    ensures { λ r. ⌜ (answered r ≡ readPack (now (pack .entry))) × Roomy (r .pack) ⌝ }
+{
+    let mut st = read::nothing();
+    let mut at: usize = 0;
+    loop {
+        let v = read::record_verdict(pack, at, st);
+        if let Verdict::Refused(r) = v {
+            return Loaded {
+                read: PackRead::Refused(r, at),
+                pack: st,
+            };
+        }
+        let k = pack[at];
+        if k == 6 {
+            return Loaded {
+                read: PackRead::Good(at + 1),
+                pack: st,
+            };
+        }
+        st = read::add(k, at, st);
+        at = at + read::size_of(k);
+    }
+}
+
+// Reads an input that is one pack: what read_pack answers, and Overrun at the first byte behind it.
+pub fn load_pack(pack: &[u8]) -> Loaded
+    ensures { λ r. ⌜ (answered r ≡ loadPack (now (pack .entry))) × Roomy (r .pack) ⌝ }
+{
+    let l = read_pack(pack);
+    let read = l.read;
+    let held = l.pack;
+    match read {
+        PackRead::Good(e) => {
+            if e < pack.len() {
+                return Loaded {
+                    read: PackRead::Refused(Refusal::Overrun, e),
+                    pack: held,
+                };
+            }
+            l
+        }
+        PackRead::Refused(r, place) => l,
+    }
+}
+
+// Whether an input loads as one pack, or its refusal and place.
+pub fn check_pack(pack: &[u8]) -> Checked
+    ensures { λ r. ⌜ r ≡ checkPack (now (pack .entry)) ⌝ }
+{
+    let l = load_pack(pack);
+    let read = l.read;
+    match read {
+        PackRead::Good(e) => Checked::Loads,
+        PackRead::Refused(r, place) => Checked::Refused(r, place),
+    }
+}

@@ -1,0 +1,268 @@
+// What is said of one record of a pack, and what is kept of it.
+ghost use mathlib.Core.Path.{_≡_};
+ghost use Prim.Native.Nat.{_+_, _<_, _≤_};
+ghost use lib.ListN.{length};
+ghost use Rattle.tonekit_pack.specs.Pack.{dueAfter, sizeOf, holds, zeroOrHeld, inTurn, settingsVerdict, toneVerdict, accentVerdict, ruleVerdict, lastRule, single, partVerdict, bodyVerdict, recordVerdict, added, start};
+ghost use Rattle.tonekit_pack.specs.Held.{inOrder, shown, Roomy};
+use crate::Pack;
+use crate::ranges::a_share;
+use crate::ranges::above_zero;
+use crate::ranges::knots_fine;
+use crate::ranges::region_fine;
+use crate::ranges::tolerances_fine;
+use crate::ranges::weight_fine;
+use tonekit_bytes::byte_at;
+use tonekit_bytes::f32_at;
+use tonekit_bytes::u32_at;
+use tonekit_core::Refusal;
+use tonekit_core::Verdict;
+
+// Whether a record of kind k may follow one of kind last (0 at the start).
+fn due(last: u8, k: u8) -> bool
+    ensures { λ r. ⌜ r ≡ dueAfter last k ⌝ }
+{
+    match k {
+        1 => last == 0,
+        2 => (last == 1) | (last == 2),
+        3 => (last == 2) | ((last == 3) | (last == 5)),
+        4 => (last == 3) | (last == 5),
+        5 => (last == 4) | (last == 5),
+        6 => (last == 3) | (last == 5),
+        _ => false,
+    }
+}
+
+// The bytes of a record of kind k, its kind among them.
+pub fn size_of(k: u8) -> usize
+    ensures { λ r. ⌜ r ≡ sizeOf k ⌝ }
+{
+    match k {
+        1 => 9,
+        2 => 56,
+        3 => 19,
+        4 => 7,
+        5 => 46,
+        _ => 1,
+    }
+}
+
+// A kept offset as an index.
+fn index_of(o: u16) -> usize
+    ensures { λ r. ⌜ (r ≡ o) × (r < 65536) ⌝ }
+{
+    o as usize
+}
+
+// Whether one of the first n records at these offsets has x as its number.
+fn holds(s: &[u8], at: [u16; 8], n: usize, x: u8) -> bool
+    requires { ⌜ n ≤ 8 ⌝ }
+    ensures { λ r. ⌜ r ≡ holds (now (s .entry)) (inOrder at n) x ⌝ }
+{
+    let mut i: usize = 0;
+    while i < n {
+        if byte_at(s, index_of(at[i]), 1) == x {
+            return true;
+        }
+        i += 1;
+    }
+    false
+}
+
+// 0, or the number of one of the first n records.
+fn zero_or_held(s: &[u8], at: [u16; 8], n: usize, x: u8) -> bool
+    requires { ⌜ n ≤ 8 ⌝ }
+    ensures { λ r. ⌜ r ≡ zeroOrHeld (now (s .entry)) (inOrder at n) x ⌝ }
+{
+    (x == 0) | holds(s, at, n, x)
+}
+
+// One test after another: the first that fails decides.
+fn in_turn(crowded: bool, fine: bool, new: bool, held: bool) -> Verdict
+    ensures { λ r. ⌜ r ≡ inTurn crowded fine new held ⌝ }
+{
+    if crowded {
+        return Verdict::Refused(Refusal::Crowded);
+    }
+    if !fine {
+        return Verdict::Refused(Refusal::OffScale);
+    }
+    if !new {
+        return Verdict::Refused(Refusal::Doubled);
+    }
+    if !held {
+        return Verdict::Refused(Refusal::Loose);
+    }
+    Verdict::Fine
+}
+
+// What is said of a record of each kind that is due and whole. Every test is made, since only the last record read can fail one.
+fn settings_verdict(s: &[u8], o: usize) -> Verdict
+    ensures { λ r. ⌜ r ≡ settingsVerdict (now (s .entry)) o ⌝ }
+{
+    let fine = above_zero(f32_at(s, o, 1)) & a_share(f32_at(s, o, 5));
+    in_turn(false, fine, true, true)
+}
+
+fn tone_verdict(s: &[u8], o: usize, st: Pack) -> Verdict
+    requires { ⌜ Roomy st × (o + 56 ≤ length (now s)) ⌝ }
+    ensures { λ r. ⌜ r ≡ toneVerdict (now (s .entry)) o (shown st) ⌝ }
+{
+    let at = st.toneat;
+    let n = st.tones;
+    let number = byte_at(s, o, 1);
+    let share = a_share(f32_at(s, o, 2));
+    let knots = byte_at(s, o, 6);
+    let curve = knots_fine(s, o + 7, knots);
+    let region = region_fine(s, o + 47);
+    let crowded = (8 <= n) | (10 < knots);
+    let fine = (number != 0) & (share & (curve & region));
+    let new = !holds(s, at, n, number);
+    in_turn(crowded, fine, new, true)
+}
+
+fn accent_verdict(s: &[u8], o: usize, st: Pack) -> Verdict
+    requires { ⌜ Roomy st × (o + 19 ≤ length (now s)) ⌝ }
+    ensures { λ r. ⌜ r ≡ accentVerdict (now (s .entry)) o (shown st) ⌝ }
+{
+    let at = st.accentat;
+    let n = st.accents;
+    let number = byte_at(s, o, 1);
+    let parent = byte_at(s, o, 2);
+    let fine = (number != 0) & tolerances_fine(s, o + 3);
+    let new = !holds(s, at, n, number);
+    in_turn(8 <= n, fine, new, zero_or_held(s, at, n, parent))
+}
+
+fn rule_verdict(s: &[u8], o: usize, st: Pack) -> Verdict
+    requires { ⌜ Roomy st ⌝ }
+    ensures { λ r. ⌜ r ≡ ruleVerdict (now (s .entry)) o (shown st) ⌝ }
+{
+    let at = st.toneat;
+    let n = st.tones;
+    let tone = byte_at(s, o, 3);
+    let prev = byte_at(s, o, 4);
+    let last = byte_at(s, o, 5);
+    let form = byte_at(s, o, 6);
+    let fine = (last <= 2) & ((form == 2) | (form == 3));
+    let held = zero_or_held(s, at, n, tone) & zero_or_held(s, at, n, prev);
+    in_turn(64 <= st.rules, fine, true, held)
+}
+
+// The offset of the last rule, 0 where there is none.
+fn last_rule(st: Pack) -> usize
+    requires { ⌜ Roomy st ⌝ }
+    ensures { λ r. ⌜ r ≡ lastRule (shown st) ⌝ }
+{
+    let at = st.ruleat;
+    let n = st.rules;
+    if n == 0 {
+        return 0;
+    }
+    index_of(at[n - 1])
+}
+
+// Whether the last rule's form is 2.
+fn single(s: &[u8], st: Pack) -> bool
+    requires { ⌜ Roomy st ⌝ }
+    ensures { λ r. ⌜ r ≡ single (now (s .entry)) (shown st) ⌝ }
+{
+    byte_at(s, last_rule(st), 6) == 2
+}
+
+fn part_verdict(s: &[u8], o: usize, st: Pack) -> Verdict
+    requires { ⌜ Roomy st × (o + 46 ≤ length (now s)) ⌝ }
+    ensures { λ r. ⌜ r ≡ partVerdict (now (s .entry)) o (shown st) ⌝ }
+{
+    let weight = u32_at(s, o, 1);
+    let knots = byte_at(s, o, 5);
+    let one = single(s, st);
+    let curve = knots_fine(s, o + 6, knots);
+    let crowded = (4 <= st.parts) | ((128 <= st.total) | ((one & (1 <= st.parts)) | (10 < knots)));
+    let fine = weight_fine(weight) & ((!one | (weight == 0x3f80_0000)) & ((knots != 0) & curve));
+    in_turn(crowded, fine, true, true)
+}
+
+fn body_verdict(k: u8, s: &[u8], o: usize, st: Pack) -> Verdict
+    requires { ⌜ Roomy st × (o + sizeOf k ≤ length (now s)) ⌝ }
+    ensures { λ r. ⌜ r ≡ bodyVerdict k (now (s .entry)) o (shown st) ⌝ }
+{
+    match k {
+        1 => settings_verdict(s, o),
+        2 => tone_verdict(s, o, st),
+        3 => accent_verdict(s, o, st),
+        4 => rule_verdict(s, o, st),
+        5 => part_verdict(s, o, st),
+        _ => Verdict::Fine,
+    }
+}
+
+// What is said of the record at o, after what st has.
+pub fn record_verdict(s: &[u8], o: usize, st: Pack) -> Verdict
+    requires { ⌜ Roomy st ⌝ }
+    ensures { λ r. ⌜ r ≡ recordVerdict (now (s .entry)) o (shown st) ⌝ }
+{
+    if s.len() <= o {
+        return Verdict::Refused(Refusal::CutShort);
+    }
+    let k = s[o];
+    if !due(st.last, k) {
+        return Verdict::Refused(Refusal::Misplaced);
+    }
+    if s.len() - o < size_of(k) {
+        return Verdict::Refused(Refusal::CutShort);
+    }
+    body_verdict(k, s, o, st)
+}
+
+// Before the first record.
+pub fn nothing() -> Pack
+    ensures { λ r. ⌜ (shown r ≡ start .st) × Roomy r ⌝ }
+{
+    Pack {
+        last: 0,
+        tones: 0,
+        accents: 0,
+        rules: 0,
+        parts: 0,
+        total: 0,
+        toneat: [0; 8],
+        accentat: [0; 8],
+        firstrule: [0; 8],
+        ruleat: [0; 64],
+    }
+}
+
+// What is kept once the record of kind k at o is fine.
+pub fn add(k: u8, o: usize, st: Pack) -> Pack
+    requires { ⌜ Roomy st × (o < 65536) × (k ≡ 2 → st .tones < 8) × (k ≡ 3 → st .accents < 8) × (k ≡ 4 → st .rules < 64) × (k ≡ 5 → (st .parts < 4) × (st .total < 128)) ⌝ }
+    ensures { λ r. ⌜ (shown r ≡ added k o (shown st)) × Roomy r ⌝ }
+{
+    let mut next = st;
+    next.last = k;
+    if k == 2 {
+        let n = st.tones;
+        next.toneat[n] = o as u16;
+        next.tones = n + 1;
+        return next;
+    }
+    if k == 3 {
+        let n = st.accents;
+        next.accentat[n] = o as u16;
+        next.firstrule[n] = st.rules as u8;
+        next.accents = n + 1;
+        return next;
+    }
+    if k == 4 {
+        let n = st.rules;
+        next.ruleat[n] = o as u16;
+        next.rules = n + 1;
+        next.parts = 0;
+        return next;
+    }
+    if k == 5 {
+        next.parts = st.parts + 1;
+        next.total = st.total + 1;
+        return next;
+    }
+    next
+}
