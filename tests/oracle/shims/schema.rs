@@ -1,0 +1,1 @@
+//! Stands in for schema.rs, of which nothing is named.

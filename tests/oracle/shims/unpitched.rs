@@ -1,0 +1,1 @@
+//! Stands in for unpitched.rs, of which nothing is named.
