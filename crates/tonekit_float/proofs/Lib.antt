@@ -9,5 +9,7 @@ pub mod Picked
 pub mod Whole
 pub mod Magnitude
 pub mod Total
-mod NarrowRound
-mod Narrowing
+pub mod NarrowRound
+pub mod Narrowing
+pub mod Patterns
+pub mod Signs

@@ -1,0 +1,4 @@
+pub mod Constants
+pub mod Log
+pub mod Exp
+pub mod Bench

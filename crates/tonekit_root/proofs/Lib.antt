@@ -1,0 +1,7 @@
+mod Squares
+mod Nearest
+mod Spacing
+mod Exact
+mod Cases
+mod Rooted
+pub mod Laws
