@@ -9,8 +9,8 @@ pub const PARTS_OF_A_RULE: usize = 4;
 
 pub const PARTS: usize = 128;
 
-pub const KNOTS: usize = 10;
+pub const KNOTS: u8 = 10;
 
-pub const VARIANTS: usize = 4;
+pub const VARIANTS: u8 = 4;
 
-pub const FRAMES: usize = 1024;
+pub const FRAMES: u16 = 1024;

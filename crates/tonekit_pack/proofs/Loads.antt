@@ -460,7 +460,7 @@ loads s st e h =
       few-in-all = omega arith;
     })
 
--- the same, by places: at least one tone and accent; no number 0; none twice; each parent at a lower place; each tone that a rule names
+-- the same, by places: at least one tone and one accent, where it ends at the latest, no number twice, each parent at a lower place
 module _ (s : List ℕ) (st : Pst) (e : ℕ) (l : Loads s st e) where
   pub some-tones : 1 ≤ length (st .tones)
   some-tones = l .kept .some-tone (omega arith)

@@ -16,6 +16,7 @@ use tonekit_bytes::f32_at;
 use tonekit_bytes::u32_at;
 use tonekit_core::Refusal;
 use tonekit_core::Verdict;
+use tonekit_core::limits;
 
 // Whether a record of kind k may follow one of kind last (0 at the start).
 fn due(last: u8, k: u8) -> bool
@@ -114,7 +115,7 @@ fn tone_verdict(s: &[u8], o: usize, st: Pack) -> Verdict
     let knots = byte_at(s, o, 6);
     let curve = knots_fine(s, o + 7, knots);
     let region = region_fine(s, o + 47);
-    let crowded = (8 <= n) | (10 < knots);
+    let crowded = (limits::TONES <= n) | (limits::KNOTS < knots);
     let fine = (number != 0) & (share & (curve & region));
     let new = !holds(s, at, n, number);
     in_turn(crowded, fine, new, true)
@@ -130,7 +131,12 @@ fn accent_verdict(s: &[u8], o: usize, st: Pack) -> Verdict
     let parent = byte_at(s, o, 2);
     let fine = (number != 0) & tolerances_fine(s, o + 3);
     let new = !holds(s, at, n, number);
-    in_turn(8 <= n, fine, new, zero_or_held(s, at, n, parent))
+    in_turn(
+        limits::ACCENTS <= n,
+        fine,
+        new,
+        zero_or_held(s, at, n, parent),
+    )
 }
 
 fn rule_verdict(s: &[u8], o: usize, st: Pack) -> Verdict
@@ -145,7 +151,7 @@ fn rule_verdict(s: &[u8], o: usize, st: Pack) -> Verdict
     let form = byte_at(s, o, 6);
     let fine = (last <= 2) & ((form == 2) | (form == 3));
     let held = zero_or_held(s, at, n, tone) & zero_or_held(s, at, n, prev);
-    in_turn(64 <= st.rules, fine, true, held)
+    in_turn(limits::RULES <= st.rules, fine, true, held)
 }
 
 // The offset of the last rule, 0 where there is none.
@@ -177,7 +183,8 @@ fn part_verdict(s: &[u8], o: usize, st: Pack) -> Verdict
     let knots = byte_at(s, o, 5);
     let one = single(s, st);
     let curve = knots_fine(s, o + 6, knots);
-    let crowded = (4 <= st.parts) | ((128 <= st.total) | ((one & (1 <= st.parts)) | (10 < knots)));
+    let crowded = (limits::PARTS_OF_A_RULE <= st.parts)
+        | ((limits::PARTS <= st.total) | ((one & (1 <= st.parts)) | (limits::KNOTS < knots)));
     let fine = weight_fine(weight) & ((!one | (weight == 0x3f80_0000)) & ((knots != 0) & curve));
     in_turn(crowded, fine, true, true)
 }

@@ -46,18 +46,20 @@ misplaced : (checkQuery (49 ∷ plain 0) ≡ Refused Misplaced 0) × (checkQuery
 unfolding checkQuery loadQuery readQuery recordVerdict variantsFine variantFine frameVerdict fieldsOf turns range turnsTo rangeTo
 misplaced = (refl, refl)
 
--- 2: no input, a record cut by a byte, a frame that is missing (at the input's end), a frame cut by a byte (at its offset)
+-- 2: no input, a record cut by a byte, before 4 in one record; a frame that is missing (at the input's end), a frame cut by a byte (at its offset)
 cut : (checkQuery [] ≡ Refused CutShort 0)
     × (checkQuery (take 45 (plain 0)) ≡ Refused CutShort 0)
+    × (checkQuery (take 45 (fixed 0 0 5 unused 0 0)) ≡ Refused CutShort 0)
     × (checkQuery (plain 2 ++ voiced) ≡ Refused CutShort 56)
     × (checkQuery (plain 2 ++ (voiced ++ take 9 voiced)) ≡ Refused CutShort 56)
 unfolding checkQuery loadQuery readQuery recordVerdict variantsFine variantFine frameVerdict fieldsOf turns range turnsTo rangeTo
-cut = (refl, refl, refl, refl)
+cut = (refl, refl, refl, refl, refl)
 
--- 3: a byte behind
-overrun : checkQuery (plain 1 ++ (voiced ++ (0 ∷ []))) ≡ Refused Overrun 56
+-- 3: a byte behind; after 10 in a frame
+overrun : (checkQuery (plain 1 ++ (voiced ++ (0 ∷ []))) ≡ Refused Overrun 56)
+    × (checkQuery (plain 1 ++ (frame 50 2 a110 ++ (0 ∷ []))) ≡ Refused BadQuery 46)
 unfolding checkQuery loadQuery readQuery recordVerdict variantsFine variantFine frameVerdict fieldsOf turns range turnsTo rangeTo
-overrun = refl
+overrun = (refl, refl)
 
 -- 4: five variants; 1,025 frames; before 10 in one record
 crowded : (checkQuery (fixed 0 0 5 unused 0 0) ≡ Refused Crowded 0)

@@ -10,6 +10,8 @@ use tonekit_bytes::u32_at;
 use tonekit_core::Checked;
 use tonekit_core::Refusal;
 use tonekit_core::Verdict;
+use tonekit_core::kinds;
+use tonekit_core::limits;
 
 // How many bytes the fixed record takes, and a frame.
 const RECORD_SIZE: usize = 46;
@@ -85,16 +87,16 @@ fn record_verdict(query: &[u8]) -> Verdict
     if query.len() == 0 {
         return Verdict::Refused(Refusal::CutShort);
     }
-    if byte_at(query, 0, 0) != 48 {
+    if byte_at(query, 0, 0) != kinds::QUERY {
         return Verdict::Refused(Refusal::Misplaced);
     }
     if query.len() < RECORD_SIZE {
         return Verdict::Refused(Refusal::CutShort);
     }
-    if 4 < byte_at(query, 0, 23) {
+    if limits::VARIANTS < byte_at(query, 0, 23) {
         return Verdict::Refused(Refusal::Crowded);
     }
-    if 1024 < u16_at(query, 0, 44) {
+    if limits::FRAMES < u16_at(query, 0, 44) {
         return Verdict::Refused(Refusal::Crowded);
     }
     if 1 < byte_at(query, 0, 4) {
@@ -117,7 +119,7 @@ fn frame_verdict(query: &[u8], at: usize) -> Verdict
     if query.len() <= at {
         return Verdict::Refused(Refusal::CutShort);
     }
-    if query[at] != 50 {
+    if query[at] != kinds::FRAME {
         return Verdict::Refused(Refusal::Misplaced);
     }
     if query.len() - at < FRAME_SIZE {

@@ -1,3 +1,4 @@
+-- `check_pack` meets its contract. Assumes nothing.
 use borrow.Author.Needs.{needs}
 use Rattle.tonekit_pack.proofs.Single.{said-loads, said-refused}
 use Rattle.tonekit_pack.proofs.check_pack.Statement.{statement}

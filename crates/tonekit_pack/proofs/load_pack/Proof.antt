@@ -1,3 +1,4 @@
+-- `load_pack` meets its contract: bytes behind the pack, none, or a refusal. Assumes nothing.
 use borrow.Author.Needs.{needs}
 use Rattle.tonekit_pack.proofs.Single.{over, exact, turned}
 use Rattle.tonekit_pack.proofs.load_pack.Statement.{statement}

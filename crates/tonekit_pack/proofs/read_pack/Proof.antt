@@ -1,3 +1,4 @@
+-- `read_pack` meets its contract: before each record, what is left to read gives what the whole gives (`Going`). Assumes nothing.
 use mathlib.Core.Path.{refl, sym, _∙_}
 use borrow.Author.Needs.{needs}
 use native.Mathlib.Omega.{arith}
@@ -32,30 +33,51 @@ record-verdict-requires : tie.Need-record-verdict-requires Inv-loop μ-loop
 record-verdict-requires c κs = c .loop .inv .roomy
 
 returns : tie.Need-returns Inv-loop μ-loop
-returns c = (refuses _ (c .before .before .before .before .loop .st) (c .before .before .before .before .loop .at) (c .before .before .before .before .loop .inv) _ (sym (c .before .before .before .record-verdict .ensures) ∙ c .before .v .given .1), c .before .before .before .before .loop .inv .roomy)
+returns c =
+    let l = c .before .before .before .before .loop in
+    (refuses _ (l .st) (l .at) (l .inv) _ (sym (c .before .before .before .record-verdict .ensures) ∙ c .before .v .given .1), l .inv .roomy)
 
 shared-slice-read-k : tie.Need-shared-slice-read-k Inv-loop μ-loop
-shared-slice-read-k c = ok _ (c .before .before .before .before .loop .st) (c .before .before .before .before .loop .at) (c .before .before .before .before .loop .inv) (sym (c .before .before .before .record-verdict .ensures) ∙ c .before .enum-told .given .1) .inside
+shared-slice-read-k c =
+    let l = c .before .before .before .before .loop in
+    let v = sym (c .before .before .before .record-verdict .ensures) ∙ c .before .enum-told .given .1 in
+    ok _ (l .st) (l .at) (l .inv) v .inside
 
 add-t11 : tie.Need-add-t11 Inv-loop μ-loop
-add-t11 c = omega (arith, ok _ (c .before .before .before .before .before .loop .st) (c .before .before .before .before .before .loop .at) (c .before .before .before .before .before .loop .inv) (sym (c .before .before .before .before .record-verdict .ensures) ∙ c .before .before .enum-told .given .1) .inside)
+add-t11 c =
+    let l = c .before .before .before .before .before .loop in
+    let v = sym (c .before .before .before .before .record-verdict .ensures) ∙ c .before .before .enum-told .given .1 in
+    omega (arith, ok _ (l .st) (l .at) (l .inv) v .inside)
 
 returns-2 : tie.Need-returns-2 Inv-loop μ-loop
-returns-2 c = (ends _ (c .before .before .before .before .before .loop .st) (c .before .before .before .before .before .loop .at) (c .before .before .before .before .before .loop .inv) (sym (c .before .before .before .before .record-verdict .ensures) ∙ c .before .before .enum-told .given .1) (c .if1 .taken), c .before .before .before .before .before .loop .inv .roomy)
+returns-2 c =
+    let l = c .before .before .before .before .before .loop in
+    let v = sym (c .before .before .before .before .record-verdict .ensures) ∙ c .before .before .enum-told .given .1 in
+    (ends _ (l .st) (l .at) (l .inv) v (c .if1 .taken), l .inv .roomy)
 
 add-requires : tie.Need-add-requires Inv-loop μ-loop
 add-requires c κs =
-    let v = (sym (c .before .before .before .before .record-verdict .ensures) ∙ c .before .before .enum-told .given .1) in
-    (c .before .before .before .before .before .loop .inv .roomy, close _ (c .before .before .before .before .before .loop .st) (c .before .before .before .before .before .loop .at) (c .before .before .before .before .before .loop .inv), room2 _ (c .before .before .before .before .before .loop .st) (c .before .before .before .before .before .loop .at) (c .before .before .before .before .before .loop .inv) v, room3 _ (c .before .before .before .before .before .loop .st) (c .before .before .before .before .before .loop .at) (c .before .before .before .before .before .loop .inv) v, room4 _ (c .before .before .before .before .before .loop .st) (c .before .before .before .before .before .loop .at) (c .before .before .before .before .before .loop .inv) v, room5 _ (c .before .before .before .before .before .loop .st) (c .before .before .before .before .before .loop .at) (c .before .before .before .before .before .loop .inv) v)
+    let l = c .before .before .before .before .before .loop in
+    let v = sym (c .before .before .before .before .record-verdict .ensures) ∙ c .before .before .enum-told .given .1 in
+    (l .inv .roomy, close _ (l .st) (l .at) (l .inv), room2 _ (l .st) (l .at) (l .inv) v, room3 _ (l .st) (l .at) (l .inv) v, room4 _ (l .st) (l .at) (l .inv) v, room5 _ (l .st) (l .at) (l .inv) v)
 
 add-at : tie.Need-add-at Inv-loop μ-loop
-add-at c = omega (arith, ok _ (c .before .before .before .before .before .before .before .loop .st) (c .before .before .before .before .before .before .before .loop .at) (c .before .before .before .before .before .before .before .loop .inv) (sym (c .before .before .before .before .before .before .record-verdict .ensures) ∙ c .before .before .before .before .enum-told .given .1) .whole)
+add-at c =
+    let l = c .before .before .before .before .before .before .before .loop in
+    let v = sym (c .before .before .before .before .before .before .record-verdict .ensures) ∙ c .before .before .before .before .enum-told .given .1 in
+    omega (arith, ok _ (l .st) (l .at) (l .inv) v .whole)
 
 loop-less : tie.Need-loop-less Inv-loop μ-loop
-loop-less c = omega (arith, ok _ (c .before .before .before .before .before .before .before .loop .st) (c .before .before .before .before .before .before .before .loop .at) (c .before .before .before .before .before .before .before .loop .inv) (sym (c .before .before .before .before .before .before .record-verdict .ensures) ∙ c .before .before .before .before .enum-told .given .1) .whole, size-pos (getD (c .before .before .before .before .before .before .before .before .before .before .args .pack .now) (c .before .before .before .before .before .before .before .loop .at) 0))
+loop-less c =
+    let l = c .before .before .before .before .before .before .before .loop in
+    let v = sym (c .before .before .before .before .before .before .record-verdict .ensures) ∙ c .before .before .before .before .enum-told .given .1 in
+    omega (arith, ok _ (l .st) (l .at) (l .inv) v .whole, size-pos (getD (c .before .before .before .before .before .before .before .before .before .before .args .pack .now) (l .at) 0))
 
 loop-again : tie.Need-loop-again Inv-loop μ-loop
-loop-again c = rw (c .size-of .ensures) (goes _ (c .before .before .before .before .before .before .before .loop .st) (c .before .before .before .before .before .before .before .loop .at) (c .before .before .before .before .before .before .before .loop .inv) (sym (c .before .before .before .before .before .before .record-verdict .ensures) ∙ c .before .before .before .before .enum-told .given .1) _ (c .before .before .if1 .left) (c .before .add .ensures .0) (c .before .add .ensures .1))
+loop-again c =
+    let l = c .before .before .before .before .before .before .before .loop in
+    let v = sym (c .before .before .before .before .before .before .record-verdict .ensures) ∙ c .before .before .before .before .enum-told .given .1 in
+    rw (c .size-of .ensures) (goes _ (l .st) (l .at) (l .inv) v _ (c .before .before .if1 .left) (c .before .add .ensures .0) (c .before .add .ensures .1))
 
 -- nothing-requires, enum-known-v, enum-told, size-of-requires: by search
 pub read-pack-spec : {M : Type 1} → statement M

@@ -1,3 +1,4 @@
+-- `a_share` meets its contract: the two comparisons. Assumes nothing.
 use borrow.Author.Needs.{needs}
 use Rattle.tonekit_pack.specs.Ranges.{aShare}
 use lib.Ieee.{lt, le, ofBits}

@@ -1,3 +1,4 @@
+-- `above_zero` meets its contract: the two comparisons, and 1 / 0 is infinity. Assumes nothing.
 use borrow.Author.Needs.{needs}
 use Rattle.tonekit_pack.specs.Ranges.{aboveZero}
 use lib.Ieee.{lt, div, ofBits}

@@ -1,3 +1,4 @@
+-- `knot_fine` meets its contract: the two comparisons. Assumes nothing.
 use borrow.Author.Needs.{needs}
 use Rattle.tonekit_pack.specs.Ranges.{knotFine}
 use lib.Ieee.{le, neg, ofBits}

@@ -1,3 +1,4 @@
+-- `knots_fine` meets its contract: from each slot on, the slots left give what all ten give. Assumes nothing.
 use mathlib.Core.Path.{_≡_, refl, sym, ap}
 use borrow.Author.Needs.{needs}
 use Prim.Native.Nat.{_-_, _≤_}

@@ -1,3 +1,4 @@
+-- `region_fine` meets its contract, without a region and with one. Assumes nothing.
 use borrow.Author.Needs.{needs}
 use native.Mathlib.Nat.{add-zero}
 use borrow.Author.Tests.{eq-eqb, ne-eqb}

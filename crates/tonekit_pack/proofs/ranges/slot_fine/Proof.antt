@@ -1,3 +1,4 @@
+-- `slot_fine` meets its contract, as a knot and as an unused slot. Assumes nothing.
 use borrow.Author.Needs.{needs}
 use borrow.Author.Tests.{lt-ltb, le-ltb}
 use Rattle.tonekit_pack.specs.Ranges.{slotFine}

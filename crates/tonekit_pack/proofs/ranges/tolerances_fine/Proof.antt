@@ -1,3 +1,4 @@
+-- `tolerances_fine` meets its contract: one test for each tolerance. Assumes nothing.
 use borrow.Author.Needs.{needs}
 use native.Mathlib.Nat.{add-zero}
 use Rattle.tonekit_pack.specs.Ranges.{tolerancesFine}

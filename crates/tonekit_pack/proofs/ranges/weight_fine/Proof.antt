@@ -1,3 +1,4 @@
+-- `weight_fine` meets its contract: the one comparison. Assumes nothing.
 use mathlib.Core.Path.{refl}
 use Rattle.tonekit_pack.specs.Ranges.{weightFine}
 use Rattle.tonekit_pack.proofs.ranges.weight_fine.Statement.{statement}

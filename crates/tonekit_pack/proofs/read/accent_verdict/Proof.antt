@@ -1,3 +1,4 @@
+-- `accent_verdict` meets its contract: each test is the definition's. Assumes nothing.
 use borrow.Author.Needs.{needs}
 use Rattle.tonekit_pack.proofs.InOrder.{order-length}
 use Rattle.tonekit_pack.specs.Pack.{accentVerdict}

@@ -1,3 +1,4 @@
+-- `add` meets its contract, kind by kind: a store behind the entries read is one entry more. Assumes nothing.
 use mathlib.Core.Path.{refl}
 use borrow.Author.Needs.{needs}
 use borrow.Author.Tests.{eq-eqb, ne-eqb}

@@ -1,3 +1,4 @@
+-- `body_verdict` meets its contract, kind by kind. Assumes nothing.
 use borrow.Author.Needs.{needs}
 use borrow.Author.Tests.{ne-eqb}
 use Rattle.tonekit_pack.specs.Pack.{sizeOf, bodyVerdict}

@@ -1,3 +1,4 @@
+-- `due` meets its contract, kind by kind. Assumes nothing.
 use borrow.Author.Tests.{ne-eqb}
 use Rattle.tonekit_pack.specs.Pack.{dueAfter}
 use Rattle.tonekit_pack.proofs.read.due.Statement.{statement}

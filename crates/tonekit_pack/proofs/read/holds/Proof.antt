@@ -1,3 +1,4 @@
+-- `holds` meets its contract: from each record on, those left hold the number exactly if all do. Assumes nothing.
 use mathlib.Core.Path.{_≡_, sym, _∙_}
 use borrow.Author.Needs.{needs}
 use Prim.Native.Nat.{_-_, _≤_}

@@ -1,3 +1,4 @@
+-- `in_turn` meets its contract, answer by answer. Assumes nothing.
 use Rattle.tonekit_pack.proofs.read.in_turn.Statement.{statement}
 use Rattle.tonekit_pack.proofs.read.in_turn.Tie as tie
 

@@ -1,3 +1,4 @@
+-- `last_rule` meets its contract, with no rule and with some. Assumes nothing.
 use mathlib.Core.Path.{sym, _∙_}
 use borrow.Author.Needs.{needs}
 use Rattle.tonekit_pack.proofs.InOrder.{last-none, last-read}

@@ -1,3 +1,4 @@
+-- `nothing` meets its contract: empty lists, and room for all. Assumes nothing.
 use mathlib.Core.Path.{refl}
 use native.Mathlib.Omega.{arith}
 use Rattle.tonekit_pack.specs.Held.{inOrder}

@@ -1,3 +1,4 @@
+-- `part_verdict` meets its contract: each test is the definition's. Assumes nothing.
 use borrow.Author.Needs.{needs}
 use Rattle.tonekit_pack.specs.Pack.{partVerdict}
 use Rattle.tonekit_pack.proofs.read.part_verdict.Statement.{statement}

@@ -1,3 +1,4 @@
+-- `record_verdict` meets its contract: missing, not due, cut, or what is said of its body. Assumes nothing.
 use borrow.Author.Needs.{needs}
 use native.Mathlib.Omega.{arith}
 use Prim.Native.Nat.{_+_}

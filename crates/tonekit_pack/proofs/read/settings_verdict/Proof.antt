@@ -1,3 +1,4 @@
+-- `settings_verdict` meets its contract: each test is the definition's. Assumes nothing.
 use borrow.Author.Needs.{needs}
 use Rattle.tonekit_pack.specs.Pack.{settingsVerdict}
 use Rattle.tonekit_pack.proofs.read.settings_verdict.Statement.{statement}

@@ -1,3 +1,4 @@
+-- `single` meets its contract. Assumes nothing.
 use borrow.Author.Needs.{needs}
 use Rattle.tonekit_pack.proofs.read.single.Statement.{statement}
 use Rattle.tonekit_pack.proofs.read.single.Tie as tie

@@ -1,3 +1,4 @@
+-- `size_of` meets its contract, kind by kind. Assumes nothing.
 use borrow.Author.Tests.{ne-eqb}
 use Rattle.tonekit_pack.specs.Pack.{sizeOf}
 use Rattle.tonekit_pack.proofs.read.size_of.Statement.{statement}

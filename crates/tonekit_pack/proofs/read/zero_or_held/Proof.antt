@@ -1,3 +1,4 @@
+-- `zero_or_held` meets its contract. Assumes nothing.
 use borrow.Author.Needs.{needs}
 use Rattle.tonekit_pack.specs.Pack.{zeroOrHeld}
 use Rattle.tonekit_pack.proofs.read.zero_or_held.Statement.{statement}

@@ -1,0 +1,84 @@
+// The calls, exported for C and Rust: slices go as a pointer and a length, an answer as a number (0
+// where nothing was refused) and, through `place`, the place of a refusal or the bytes written.
+ghost use mathlib.Core.Path.{_≡_};
+ghost use lib.Ieee.{binary32, binary64, ofBits, toBits};
+ghost use Rattle.tonekit_float.specs.Narrow.{narrowed};
+ghost use Rattle.tonekit_root.specs.Root.{rootOf};
+ghost use Rattle.tonekit_log.specs.Log.{lnOf, log2Of};
+ghost use Rattle.tonekit_log.specs.Exp.{expOf};
+ghost use Rattle.tonekit_pack.specs.Pack.{checkPack};
+ghost use Rattle.tonekit_query.specs.Query.{checkQuery};
+ghost use Rattle.tonekit_c.specs.Export.{checkedNumber, checkedPlace};
+use tonekit_core::Checked;
+
+// The number of a check's answer, and its place.
+fn hand_checked(c: Checked, place: &mut u64) -> u32
+    ensures { λ r. ⌜ (r ≡ checkedNumber c) × (now (place .exit) ≡ checkedPlace c) ⌝ }
+{
+    match c {
+        Checked::Loads => {
+            *place = 0;
+            0
+        }
+        Checked::Refused(r, at) => {
+            *place = at as u64;
+            tonekit_core::refusal_number(r) as u32
+        }
+    }
+}
+
+// Whether the bytes are a pack: 0, or the refusal's number.
+#[no_mangle]
+pub extern "C" fn tonekit_check_pack(pack: &[u8], place: &mut u64) -> u32
+    ensures { λ r. ⌜ (r ≡ checkedNumber (checkPack (now (pack .entry)))) × (now (place .exit) ≡ checkedPlace (checkPack (now (pack .entry)))) ⌝ }
+{
+    hand_checked(tonekit_pack::check_pack(pack), place)
+}
+
+// Whether the bytes are a query: 0, or the refusal's number.
+#[no_mangle]
+pub extern "C" fn tonekit_check_query(query: &[u8], place: &mut u64) -> u32
+    ensures { λ r. ⌜ (r ≡ checkedNumber (checkQuery (now (query .entry)))) × (now (place .exit) ≡ checkedPlace (checkQuery (now (query .entry)))) ⌝ }
+{
+    hand_checked(tonekit_query::check_query(query), place)
+}
+
+// The bits of the f32 nearest to an f64.
+#[no_mangle]
+pub extern "C" fn tonekit_narrow(bits: u64) -> u32
+    ensures { λ r. ⌜ r ≡ toBits binary32 (narrowed (ofBits binary64 bits)) ⌝ }
+{
+    tonekit_float::bits_of_f32(tonekit_float::narrow(tonekit_float::f64_of_bits(bits)))
+}
+
+// The bits of the square root of an f64.
+#[no_mangle]
+pub extern "C" fn tonekit_root(bits: u64) -> u64
+    ensures { λ r. ⌜ r ≡ toBits binary64 (rootOf (ofBits binary64 bits)) ⌝ }
+{
+    tonekit_float::bits_of_f64(tonekit_root::sqrt(tonekit_float::f64_of_bits(bits)))
+}
+
+// The bits of the natural logarithm of an f64.
+#[no_mangle]
+pub extern "C" fn tonekit_ln(bits: u64) -> u64
+    ensures { λ r. ⌜ r ≡ toBits binary64 (lnOf (ofBits binary64 bits)) ⌝ }
+{
+    tonekit_float::bits_of_f64(tonekit_log::ln(tonekit_float::f64_of_bits(bits)))
+}
+
+// The bits of the binary logarithm of an f64.
+#[no_mangle]
+pub extern "C" fn tonekit_log2(bits: u64) -> u64
+    ensures { λ r. ⌜ r ≡ toBits binary64 (log2Of (ofBits binary64 bits)) ⌝ }
+{
+    tonekit_float::bits_of_f64(tonekit_log::log2(tonekit_float::f64_of_bits(bits)))
+}
+
+// The bits of the exponential of an f64.
+#[no_mangle]
+pub extern "C" fn tonekit_exp(bits: u64) -> u64
+    ensures { λ r. ⌜ r ≡ toBits binary64 (expOf (ofBits binary64 bits)) ⌝ }
+{
+    tonekit_float::bits_of_f64(tonekit_log::exp(tonekit_float::f64_of_bits(bits)))
+}

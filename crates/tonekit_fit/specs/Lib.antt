@@ -1,0 +1,3 @@
+pub mod Chao
+pub mod Fit
+pub mod Bench
