@@ -3,6 +3,7 @@
 ghost use Prim.Native.Nat.{_<_};
 use tonekit_bytes::byte_at;
 use tonekit_bytes::u32_at;
+use tonekit_core::Answer;
 use tonekit_core::Checked;
 
 // How many calls were run, and how many differ.
@@ -39,11 +40,22 @@ fn checked_so(c: Checked, number: u8, place: u32) -> bool {
     }
 }
 
+// Whether a query's shape record is as recorded.
+fn shaped_so(query: &[u8], number: u8, place: u32, bytes: &[u8]) -> bool {
+    let mut out = [0u8; 124];
+    match tonekit_shape::write_shape(query, &mut out) {
+        Answer::Written(n) => (number == 0) & (n == place as usize) & check::same(&out, bytes),
+        Answer::Refused(r, at) => (tonekit_core::refusal_number(r) == number)
+            & (at == place as usize),
+    }
+}
+
 // Whether a call answers as recorded: the recorded number, place or length, and bytes.
-fn agrees(call: u8, first: &[u8], number: u8, place: u32) -> bool {
+fn agrees(call: u8, first: &[u8], number: u8, place: u32, bytes: &[u8]) -> bool {
     match call {
         1 => checked_so(tonekit_pack::check_pack(first), number, place),
         2 => checked_so(tonekit_query::check_query(first), number, place),
+        4 => shaped_so(first, number, place, bytes),
         _ => false,
     }
 }
@@ -69,15 +81,23 @@ fn replay(s: &[u8]) -> Count {
         let at = 9 + first + second;
         let number = byte_at(rest, at, 0);
         let place = u32_at(rest, at, 1);
+        let length = answer_length(number, place);
+        let bytes = part(rest, at + 5, length);
         c = Count {
             run: std::num::wrapping_add_u64(c.run, 1),
-            differ: if agrees(byte_at(rest, 0, 0), part(rest, 5, first), number, place) {
+            differ: if agrees(
+                byte_at(rest, 0, 0),
+                part(rest, 5, first),
+                number,
+                place,
+                bytes,
+            ) {
                 c.differ
             } else {
                 std::num::wrapping_add_u64(c.differ, 1)
             },
         };
-        rest = part(rest, at + 5 + answer_length(number, place), s.len());
+        rest = part(rest, at + 5 + length, s.len());
         turns -= 1;
     }
     c
@@ -102,4 +122,5 @@ fn report(name: &[u8]) {
 
 fn main() {
     report(b"checks.bin");
+    report(b"shapes.bin");
 }

@@ -1,14 +1,18 @@
 // The calls, exported for C and Rust: slices go as a pointer and a length, an answer as a number (0
 // where nothing was refused) and, through `place`, the place of a refusal or the bytes written.
 ghost use mathlib.Core.Path.{_≡_};
+ghost use lib.ListN.{length};
 ghost use lib.Ieee.{binary32, binary64, ofBits, toBits};
+ghost use Rattle.tonekit_core.specs.Calls.{answerIn, bufferAfter};
 ghost use Rattle.tonekit_float.specs.Narrow.{narrowed};
 ghost use Rattle.tonekit_root.specs.Root.{rootOf};
 ghost use Rattle.tonekit_log.specs.Log.{lnOf, log2Of};
 ghost use Rattle.tonekit_log.specs.Exp.{expOf};
 ghost use Rattle.tonekit_pack.specs.Pack.{checkPack};
 ghost use Rattle.tonekit_query.specs.Query.{checkQuery};
-ghost use Rattle.tonekit_c.specs.Export.{checkedNumber, checkedPlace};
+ghost use Rattle.tonekit_shape.specs.Record.{shapeOutcome};
+ghost use Rattle.tonekit_c.specs.Export.{checkedNumber, checkedPlace, answerNumber, answerPlace};
+use tonekit_core::Answer;
 use tonekit_core::Checked;
 
 // The number of a check's answer, and its place.
@@ -21,6 +25,22 @@ fn hand_checked(c: Checked, place: &mut u64) -> u32
             0
         }
         Checked::Refused(r, at) => {
+            *place = at as u64;
+            tonekit_core::refusal_number(r) as u32
+        }
+    }
+}
+
+// The number of a call's answer, and the bytes it wrote or the place.
+fn hand_answer(a: Answer, place: &mut u64) -> u32
+    ensures { λ r. ⌜ (r ≡ answerNumber a) × (now (place .exit) ≡ answerPlace a) ⌝ }
+{
+    match a {
+        Answer::Written(n) => {
+            *place = n as u64;
+            0
+        }
+        Answer::Refused(r, at) => {
             *place = at as u64;
             tonekit_core::refusal_number(r) as u32
         }
@@ -41,6 +61,14 @@ pub extern "C" fn tonekit_check_query(query: &[u8], place: &mut u64) -> u32
     ensures { λ r. ⌜ (r ≡ checkedNumber (checkQuery (now (query .entry)))) × (now (place .exit) ≡ checkedPlace (checkQuery (now (query .entry)))) ⌝ }
 {
     hand_checked(tonekit_query::check_query(query), place)
+}
+
+// Writes the shape record of a query: 0 and 124 bytes, or the refusal's number and nothing.
+#[no_mangle]
+pub extern "C" fn tonekit_write_shape(query: &[u8], out: &mut [u8], place: &mut u64) -> u32
+    ensures { λ r. ⌜ (r ≡ answerNumber (answerIn (length (now (out .entry))) (shapeOutcome (now (query .entry))))) × (now (place .exit) ≡ answerPlace (answerIn (length (now (out .entry))) (shapeOutcome (now (query .entry))))) × (now (out .exit) ≡ bufferAfter (now (out .entry)) (shapeOutcome (now (query .entry)))) ⌝ }
+{
+    hand_answer(tonekit_shape::write_shape(query, out), place)
 }
 
 // The bits of the f32 nearest to an f64.

@@ -1,6 +1,6 @@
 -- Knots of size at most 100 give points of size at most 128 (`bounded`): the first knot of a line lies in one of eight parts of -100 to 100, each 25 wide,
 -- and in each part the bounds of the point compute.
-use Prim.Native.Nat.{ℕ, zero, suc, _+_, _-_, _^_, _≤_, _<_, zero-le}
+use Prim.Native.Nat.{ℕ, zero, suc, _+_, _-_, _≤_, _<_}
 use mathlib.Core.Path.{_≡_, refl, sym, subst, _∙_}
 use mathlib.Core.Logic.{⊎-elim}
 use mathlib.Core.Bool.{Bool, true, false, _&&_, cond}
@@ -12,19 +12,17 @@ use native.Mathlib.Nat.{le-of-suc-le-suc, eq-or-lt-of-le, lt-irrefl}
 use lib.Dec.{T, ltb, eqb, ltb→lt, eqb→eq, T-not}
 use lib.IntN.{pos}
 use lib.ListN.{length, getD, length-append, List·getD-append}
-use lib.Ieee.{Float, nan, fin, binary32, binary64, add, sub, mul, div, neg, le, lt, eq, ofInt, ofBits, round, fits}
+use lib.Ieee.{Float, nan, fin, binary32, binary64, add, sub, mul, div, neg, le, lt, eq, ofInt, ofBits, round}
 use Rattle.tonekit_float.specs.Whole.{wholePart}
-use lib.Ieee.Fits.{and-l, and-r, eq→eqb, ofInt-fits, mul-fits}
+use lib.Ieee.Fits.{and-l, and-r, eq→eqb}
 use lib.Ieee.Scale.{finite}
-use Rattle.tonekit_float.proofs.Order.{yes, no, le-lt, le-trans-float, between-finite}
+use Rattle.tonekit_float.proofs.Order.{yes, no}
 use Rattle.tonekit_float.specs.Narrow.{narrowed}
-use Rattle.tonekit_contour.specs.Position.{whole64, position}
-use Rattle.tonekit_contour.proofs.Places.{position-in}
-use Rattle.tonekit_expect.specs.Knots.{segment, fraction, onLine, pointAt, firstPoints, expanded, knotsAt, Knot, Point, Knots}
+use Rattle.tonekit_contour.specs.Position.{position}
+use Rattle.tonekit_expect.specs.Knots.{segment, fraction, onLine, pointAt, firstPoints, expanded, knotsAt, pointLeast, pointMost, Knot, Point, Knots}
 use Rattle.tonekit_float.specs.Bounds.{In}
 use Rattle.tonekit_float.proofs.Monotone.{zeroF}
-use Rattle.tonekit_float.proofs.Bounds.{finite4, about0, in-wider, in-cut, in-add, in-sub, in-scale, in-narrow, in-div}
-use Rattle.tonekit_float.proofs.Exact.{whole-le, whole-worth, in-part}
+use Rattle.tonekit_float.proofs.Bounds.{finite4, about0, in-wider, in-cut, in-add, in-sub, in-scale, in-narrow}
 
 abbrev oneF : Float
 oneF = fin false 1 (pos 0)
@@ -51,7 +49,7 @@ highest lo hi = add binary64 hi (mul binary64 oneF (most lo))
 
 module _ (a b t : Float) (B : Knot b) (F : In zeroF oneF t) where
   part : (lo hi : Float) → T (finite4 minus100 plus100 lo hi) → T (about0 (least hi) (most lo) oneF) → T (finite4 lo hi (mul binary64 oneF (least hi)) (mul binary64 oneF (most lo)))
-      → T (finite (lowest lo hi) && finite (highest lo hi)) → T (le (fin true 1 (pos 7)) (narrowed (lowest lo hi)) && le (narrowed (highest lo hi)) (fin false 1 (pos 7))) → In lo hi a → Point (onLine a b t)
+      → T (finite (lowest lo hi) && finite (highest lo hi)) → T (le pointLeast (narrowed (lowest lo hi)) && le (narrowed (highest lo hi)) pointMost) → In lo hi a → Point (onLine a b t)
   unfolding onLine
   part lo hi t1 t2 t3 t4 t5 A = in-wider t5 (in-narrow t4 (in-add binary64 t3 A (in-scale binary64 t2 F (in-sub binary32 t1 B A))))
 

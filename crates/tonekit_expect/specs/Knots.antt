@@ -5,7 +5,7 @@ use mathlib.Core.List.{List, [], _∷_, _++_}
 use lib.IntN.{pos}
 use lib.Dec.{eqb, ltb}
 use lib.ListN.{length, getD}
-use lib.Ieee.{Float, nan, fin, binary32, binary64, add, sub, mul, div, ofInt, ofBits}
+use lib.Ieee.{Float, nan, fin, binary32, binary64, add, sub, mul}
 use Rattle.tonekit_float.specs.Whole.{wholePart}
 use Rattle.tonekit_float.specs.Narrow.{narrowed}
 use Rattle.tonekit_float.specs.Bounds.{In}
@@ -51,12 +51,19 @@ unfoldable pub knotsAt : List ℕ → ℕ → ℕ → List Float
 knotsAt s o zero = []
 knotsAt s o (suc n) = knotsAt s o n ++ (f32At s (o + 4 * n) ∷ [])
 
+-- the greatest point, and the least
+abbrev pub pointMost : Float
+pointMost = fin false 1 (pos 7)
+
+abbrev pub pointLeast : Float
+pointLeast = fin true 1 (pos 7)
+
 -- of size at most 100, and at most 128
 abbrev pub Knot : Float → Type 0
 Knot x = In (fin true 25 (pos 2)) (fin false 25 (pos 2)) x
 
 abbrev pub Point : Float → Type 0
-Point x = In (fin true 1 (pos 7)) (fin false 1 (pos 7)) x
+Point x = In pointLeast pointMost x
 
 -- one to ten knots of size at most 100
 pub record Knots (knots : List Float) : Type 0 where

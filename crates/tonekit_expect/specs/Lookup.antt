@@ -66,6 +66,7 @@ toRule st i = cond (ltb (i + 1) (length (st .accents))) (getD (st .firsts) (i + 
 abbrev pub bestTurn : List ℕ → List ℕ → Context → ℕ → Found → Found
 bestTurn s rules c k best = betterOf s c best (getD rules k 0)
 
+-- the best of them that match
 unfoldable pub bestRule : List ℕ → Pst → Context → ℕ → Found
 unfolding betterOf
 bestRule s st c i = range (bestTurn s (st .rules) c) (fromRule st i) (toRule st i) found.Nothing
@@ -75,6 +76,7 @@ abbrev pub toParent : Found → Turn ℕ Winner
 toParent found.Nothing = stop winner.Nothing
 toParent (found.At j) = next j
 
+-- the place of accent i's parent
 abbrev pub parentOf : List ℕ → Pst → ℕ → Found
 parentOf s st i = indexOf s (st .accents) (byteAt s (getD (st .accents) i 0 + 2))
 
@@ -126,6 +128,7 @@ componentOf s l j =
     (record { owner = l .owner; form = l .form; label = l .label; part = 0; weight = oneF; points = expanded (knotsAt s (l .at + 7) (byteAt s (l .at + 6))) })
     (record { owner = l .owner; form = l .form; label = l .label; part = cond (eqb (l .form) 3) j 0; weight = f32At s (l .at + 46 * j + 1); points = expanded (knotsAt s (l .at + 46 * j + 6) (byteAt s (l .at + 46 * j + 5))) })
 
+-- its knots
 abbrev pub knotsOf : List ℕ → Listing → ℕ → List Float
 knotsOf s l j =
     cond (eqb (l .form) 1) (knotsAt s (l .at + 7) (byteAt s (l .at + 6)))

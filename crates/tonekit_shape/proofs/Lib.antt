@@ -1,0 +1,6 @@
+mod Fill
+mod Smooth
+mod Found
+mod Built
+mod Parts
+mod Outcomes

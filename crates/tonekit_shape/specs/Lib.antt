@@ -1,0 +1,3 @@
+pub mod Extract
+pub mod Record
+pub mod Bench
