@@ -1,0 +1,4 @@
+mod Slots
+mod Agree
+mod Parts
+pub mod Bounds

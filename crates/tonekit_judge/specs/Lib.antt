@@ -1,0 +1,3 @@
+pub mod Judge
+pub mod Record
+pub mod Bench
