@@ -1,11 +1,11 @@
 -- chao.rs: semitones, Chao values, and the definition of a voiced frame. The operations are the Rust's, in its order.
 use Prim.Native.Nat.{ℕ}
-use mathlib.Core.Bool.{Bool, true, false, cond, _&&_}
+use mathlib.Core.Bool.{Bool, cond, _&&_}
 use mathlib.Core.List.{List}
 use lib.Ieee.{Float, binary64, add, sub, mul, div, lt, ofBits}
 use lib.Ieee.Scale.{finite}
 use Rattle.tonekit_log.specs.Log.{log2Of}
-use Rattle.tonekit_query.specs.Frames.{frameAt}
+use Rattle.tonekit_query.specs.Frames.{frameAt, voicedOf}
 use Rattle.tonekit_query.specs.declared.Frame.{Frame}
 use Rattle.tonekit_query.specs.declared.Frame.the-variants.{Voiced, Unvoiced}
 
@@ -39,14 +39,10 @@ widthOf floor ceil =
 unfoldable pub stToChao : Float → Float → Float → Float
 stToChao floor width st = add binary64 one64 (div binary64 (mul binary64 four (sub binary64 st floor)) width)
 
--- a frame's semitones, +0 where it is unvoiced; and whether it is voiced
+-- a frame's semitones and its voiced_p, +0 where it is unvoiced; and whether it is voiced
 abbrev pub semitonesOf : Frame → Float
 semitonesOf (Voiced hz p) = hzToSt hz
 semitonesOf Unvoiced = zero64
-
-abbrev pub voicedOf : Frame → Bool
-voicedOf (Voiced hz p) = true
-voicedOf Unvoiced = false
 
 abbrev pub confidenceOf : Frame → Float
 confidenceOf (Voiced hz p) = p

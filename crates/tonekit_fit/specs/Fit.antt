@@ -1,16 +1,16 @@
 -- fit.rs: least-squares fits over the truly voiced frames of the voiced part. Frame j of the part is frame first + j of the query. Sums begin at +0.
 use Prim.Native.Nat.{ℕ, _+_, _-_}
-use mathlib.Core.Bool.{Bool, true, false, cond, _&&_}
+use mathlib.Core.Bool.{cond}
 use mathlib.Core.List.{List, [], _∷_}
 use lib.Dec.{ltb}
-use lib.IntN.{pos}
 use lib.ListN.{length, getD, set, replicate}
-use lib.Ieee.{Float, nan, binary64, add, sub, mul, div, lt, ofInt, ofBits}
+use lib.Ieee.{Float, nan, binary64, add, sub, mul, div, lt, ofBits}
 use Rattle.tonekit_core.specs.Loop.{Turn, next, stop, range, rangeTo}
 use Rattle.tonekit_float.specs.Magnitude.{magnitude}
 use Rattle.tonekit_float.specs.Magnitude.{totalLe}
 use Rattle.tonekit_contour.specs.Position.{whole64}
 use Rattle.tonekit_fit.specs.Chao.{zero64, one64, voiced}
+use Rattle.tonekit_fit.specs.declared.Sums.{Sums}
 use Rattle.tonekit_fit.specs.declared.Moments.{Moments}
 
 -- the part: its frames' bytes, its first frame, its curve in Chao values
@@ -42,6 +42,13 @@ square mx j = mul binary64 (sub binary64 (seconds j) mx) (sub binary64 (seconds 
 
 abbrev pub product : Part → Float → Float → ℕ → Float
 product p mx my j = mul binary64 (sub binary64 (seconds j) mx) (sub binary64 (chaoAt p j) my)
+
+-- two sums that one pass makes
+abbrev pub pointSums : Part → Sums
+pointSums p = record { x = voicedSum p seconds; y = voicedSum p (chaoAt p) }
+
+abbrev pub productSums : Part → Float → Float → Sums
+productSums p mx my = record { x = voicedSum p (square mx); y = voicedSum p (product p mx my) }
 
 unfoldable pub lineSlope : Part → ℕ → Float
 lineSlope p count =

@@ -7,8 +7,13 @@ ghost use Prim.Native.Nat.{ℕ, _+_, _≤_, _<_};
 ghost use lib.ListN.{length};
 ghost use Rattle.tonekit_query.specs.Frames.{frameAt};
 ghost use Rattle.tonekit_fit.specs.Chao.{hzToSt, widthOf, stToChao, voiced, semitonesOf};
-ghost use Rattle.tonekit_fit.specs.Fit.{Part, voicedSum, seconds, fraction, chaoAt, square, product, lineSlope, pointAdded, momentsOf, normalEquations, pivotOf, swapRows, rowCleared, belowCleared, firstOf, leadOf, quadraticCoefficient};
-use tonekit_query::Frame;
+ghost use Rattle.tonekit_fit.specs.Fit.{Part, voicedSum, seconds, fraction, pointSums, productSums, lineSlope, pointAdded, momentsOf, normalEquations, pivotOf, swapRows, rowCleared, belowCleared, firstOf, leadOf, quadraticCoefficient};
+
+// A sum along the times, and one with the Chao values.
+pub struct Sums {
+    pub x: f64,
+    pub y: f64,
+}
 
 // Sums of powers of x, and of y times powers of x.
 pub struct Moments {
@@ -47,19 +52,17 @@ pub fn st_to_chao(floor: f64, width: f64, st: f64) -> f64
 pub fn voiced(frames: &[u8], i: usize) -> bool
     ensures { λ r. ⌜ r ≡ voiced (now (frames .entry)) i ⌝ }
 {
-    match tonekit_query::read_frame(frames, i) {
-        Frame::Voiced(_, _) => true,
-        Frame::Unvoiced => false,
-    }
+    tonekit_query::voiced(frames, i)
 }
 
 // The semitones of frame i, 0 where it is unvoiced.
 pub fn semitones_of(frames: &[u8], i: usize) -> f64
     ensures { λ r. ⌜ r ≡ semitonesOf (frameAt (now (frames .entry)) i) ⌝ }
 {
-    match tonekit_query::read_frame(frames, i) {
-        Frame::Voiced(hz, _) => hz_to_st(tonekit_float::widen(hz)),
-        Frame::Unvoiced => 0.0,
+    if tonekit_query::voiced(frames, i) {
+        hz_to_st(tonekit_float::widen(tonekit_query::frame_hz(frames, i)))
+    } else {
+        0.0
     }
 }
 
@@ -70,61 +73,38 @@ fn seconds(j: usize) -> f64
     tonekit_float::f64_of(j) * 0.01
 }
 
-// The sum of the voiced frames' times.
-fn sum_seconds(frames: &[u8], first: usize, chao: &[f64]) -> f64
+// The sums of the voiced frames' times and of their Chao values.
+fn sum_points(frames: &[u8], first: usize, chao: &[f64]) -> Sums
     requires { ⌜ (first ≤ 1024) × (length (now chao) ≤ 1024) ⌝ }
-    ensures { λ r. ⌜ r ≡ voicedSum (record { frames = now (frames .entry); first = first; chao = now (chao .entry) }) seconds ⌝ }
+    ensures { λ r. ⌜ r ≡ pointSums (record { frames = now (frames .entry); first = first; chao = now (chao .entry) }) ⌝ }
 {
-    let mut t = 0.0;
+    let mut x = 0.0;
+    let mut y = 0.0;
     for j in 0..chao.len() {
         if voiced(frames, first + j) {
-            t = t + seconds(j);
+            x = x + seconds(j);
+            y = y + chao[j];
         }
     }
-    t
+    Sums { x, y }
 }
 
-// The sum of the voiced frames' Chao values.
-fn sum_chao(frames: &[u8], first: usize, chao: &[f64]) -> f64
+// The sums of the squares of the times, and of their products with the Chao values, each from its
+// mean.
+fn sum_products(frames: &[u8], first: usize, chao: &[f64], mx: f64, my: f64) -> Sums
     requires { ⌜ (first ≤ 1024) × (length (now chao) ≤ 1024) ⌝ }
-    ensures { λ r. ⌜ r ≡ voicedSum (record { frames = now (frames .entry); first = first; chao = now (chao .entry) }) (chaoAt (record { frames = now (frames .entry); first = first; chao = now (chao .entry) })) ⌝ }
+    ensures { λ r. ⌜ r ≡ productSums (record { frames = now (frames .entry); first = first; chao = now (chao .entry) }) mx my ⌝ }
 {
-    let mut t = 0.0;
+    let mut x = 0.0;
+    let mut y = 0.0;
     for j in 0..chao.len() {
         if voiced(frames, first + j) {
-            t = t + chao[j];
+            let d = seconds(j) - mx;
+            x = x + d * d;
+            y = y + d * (chao[j] - my);
         }
     }
-    t
-}
-
-// The sum of the squares of the times from their mean.
-fn sum_squares(frames: &[u8], first: usize, chao: &[f64], mx: f64) -> f64
-    requires { ⌜ (first ≤ 1024) × (length (now chao) ≤ 1024) ⌝ }
-    ensures { λ r. ⌜ r ≡ voicedSum (record { frames = now (frames .entry); first = first; chao = now (chao .entry) }) (square mx) ⌝ }
-{
-    let mut t = 0.0;
-    for j in 0..chao.len() {
-        if voiced(frames, first + j) {
-            let x = seconds(j) - mx;
-            t = t + x * x;
-        }
-    }
-    t
-}
-
-// The sum of the products of times and Chao values, each from its mean.
-fn sum_products(frames: &[u8], first: usize, chao: &[f64], mx: f64, my: f64) -> f64
-    requires { ⌜ (first ≤ 1024) × (length (now chao) ≤ 1024) ⌝ }
-    ensures { λ r. ⌜ r ≡ voicedSum (record { frames = now (frames .entry); first = first; chao = now (chao .entry) }) (product (record { frames = now (frames .entry); first = first; chao = now (chao .entry) }) mx my) ⌝ }
-{
-    let mut t = 0.0;
-    for j in 0..chao.len() {
-        if voiced(frames, first + j) {
-            t = t + (seconds(j) - mx) * (chao[j] - my);
-        }
-    }
-    t
+    Sums { x, y }
 }
 
 // The least-squares slope of Chao values against seconds over the voiced frames, of which there are
@@ -134,11 +114,10 @@ pub fn line_slope(frames: &[u8], first: usize, count: usize, chao: &[f64]) -> f6
     ensures { λ r. ⌜ r ≡ lineSlope (record { frames = now (frames .entry); first = first; chao = now (chao .entry) }) count ⌝ }
 {
     let n = tonekit_float::f64_of(count);
-    let mx = sum_seconds(frames, first, chao) / n;
-    let my = sum_chao(frames, first, chao) / n;
-    let sxx = sum_squares(frames, first, chao, mx);
-    if 0.0 < sxx {
-        return sum_products(frames, first, chao, mx, my) / sxx;
+    let sums = sum_points(frames, first, chao);
+    let s = sum_products(frames, first, chao, sums.x / n, sums.y / n);
+    if 0.0 < s.x {
+        return s.y / s.x;
     }
     0.0
 }

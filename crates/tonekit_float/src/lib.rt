@@ -71,7 +71,11 @@ pub fn f32_of(n: u32) -> f32
 pub fn f64_of(n: usize) -> f64
     ensures { λ r. ⌜ r ≡ ofInt binary64 (pos n) ⌝ }
 {
-    std::num::nearest_u64_to_f64(n as u64)
+    if n < 0x20_0000_0000_0000 {
+        (n as i64) as f64
+    } else {
+        std::num::nearest_u64_to_f64(n as u64)
+    }
 }
 
 // n, and 897 where n is less: the exponent's field of the least f32 that is not subnormal.

@@ -1,4 +1,5 @@
 pub mod Parts
+pub mod Pitch
 pub mod Steps
 pub mod Laws
 pub mod Enough

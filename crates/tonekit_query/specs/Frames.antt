@@ -1,6 +1,6 @@
 -- A frame as document 01 has it: "Where the voiced flag is 0, hz is ignored"; "frames with non-finite or non-positive hz are unvoiced".
 use Prim.Native.Nat.{ℕ, _+_, _*_}
-use mathlib.Core.Bool.{Bool, false, cond, _&&_}
+use mathlib.Core.Bool.{Bool, true, false, cond, _&&_}
 use mathlib.Core.List.{List}
 use lib.Dec.{eqb}
 use lib.IntN.{pos}
@@ -13,9 +13,17 @@ use Rattle.tonekit_query.specs.declared.Frame.the-variants.{Voiced, Unvo
 abbrev pub pitch : Float → Bool
 pitch hz = lt (fin false 0 (pos 0)) hz && lt hz (inf false)
 
+-- whether the frame at an offset is voiced
+abbrev pub voicedAt : List ℕ → ℕ → Bool
+voicedAt frames at = eqb (byteAt frames (at + 1)) 1 && pitch (f32At frames (at + 2))
+
 -- frame i of the part that holds the frames: its hz and voiced_p
 unfoldable pub frameAt : List ℕ → ℕ → Frame
 frameAt frames i =
-    cond (eqb (byteAt frames (10 * i + 1)) 1 && pitch (f32At frames (10 * i + 2)))
+    cond (voicedAt frames (10 * i))
     (Voiced (f32At frames (10 * i + 2)) (f32At frames (10 * i + 6)))
     Unvoiced
+
+abbrev pub voicedOf : Frame → Bool
+voicedOf (Voiced hz p) = true
+voicedOf Unvoiced = false

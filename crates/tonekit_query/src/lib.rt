@@ -1,8 +1,11 @@
 // The query reader: a query's small fields by value, its frames as a part of the caller's bytes.
 ghost use mathlib.Core.Path.{_≡_};
-ghost use Prim.Native.Nat.{_<_, min};
+ghost use Prim.Native.Nat.{_+_, _*_, _≤_, _<_, min};
+ghost use lib.ListN.{length};
+ghost use lib.Ieee.{binary32, ofBits};
+ghost use Rattle.tonekit_bytes.specs.Fields.{u32At, f32At};
 ghost use Rattle.tonekit_query.specs.Query.{variantFine, variantsFine, recordVerdict, frameVerdict, fieldsOf, readFrames, readQuery, loadQuery, checkQuery, endOf, framesOf, variantTone, variantWeight};
-ghost use Rattle.tonekit_query.specs.Frames.{pitch, frameAt};
+ghost use Rattle.tonekit_query.specs.Frames.{pitch, voicedAt, frameAt};
 use tonekit_bytes::byte_at;
 use tonekit_bytes::f32_at;
 use tonekit_bytes::u16_at;
@@ -255,6 +258,96 @@ pub fn read_frame(frames: &[u8], i: usize) -> Frame
     } else {
         Frame::Unvoiced
     }
+}
+
+// A byte at a wider type, with its bound.
+fn wide(x: u8) -> u16
+    ensures { λ r. ⌜ (r ≡ x) × (r < 256) ⌝ }
+{
+    x as u16
+}
+
+// The u32 at an index, where its four bytes are there.
+fn whole_u32(s: &[u8], at: usize) -> u32
+    requires { ⌜ at + 4 ≤ length (now s) ⌝ }
+    ensures { λ r. ⌜ r ≡ u32At (now (s .entry)) at ⌝ }
+{
+    let low = wide(s[at]) + 256 * wide(s[at + 1]);
+    let high = wide(s[at + 2]) + 256 * wide(s[at + 3]);
+    low as u32 + 65536 * (high as u32)
+}
+
+// Whether the bits of an hz are a pitch's: those above 0 and below infinity's.
+fn bits_pitch(b: u32) -> bool
+    ensures { λ r. ⌜ r ≡ pitch (ofBits binary32 b) ⌝ }
+{
+    0 < b && b < 0x7f80_0000
+}
+
+// Whether the frame at an index is voiced, where its ten bytes are there.
+fn whole_voiced(frames: &[u8], at: usize) -> bool
+    requires { ⌜ at + 10 ≤ length (now frames) ⌝ }
+    ensures { λ r. ⌜ r ≡ voicedAt (now (frames .entry)) at ⌝ }
+{
+    if frames[at + 1] != 1 {
+        return false;
+    }
+    bits_pitch(whole_u32(frames, at + 2))
+}
+
+// Whether the first frame of bytes that may end within it is voiced.
+fn cut_voiced(frame: &[u8]) -> bool
+    ensures { λ r. ⌜ r ≡ voicedAt (now (frame .entry)) 0 ⌝ }
+{
+    match read_frame(frame, 0) {
+        Frame::Voiced(_, _) => true,
+        Frame::Unvoiced => false,
+    }
+}
+
+// Whether frame i is voiced, as `read_frame` says.
+pub fn voiced(frames: &[u8], i: usize) -> bool
+    ensures { λ r. ⌜ r ≡ voicedAt (now (frames .entry)) (10 * i) ⌝ }
+{
+    let whole = frames.len() / FRAME_SIZE;
+    if i < whole {
+        return whole_voiced(frames, FRAME_SIZE * i);
+    }
+    if whole < i {
+        return false;
+    }
+    let at = FRAME_SIZE * i;
+    cut_voiced(&frames[at..])
+}
+
+// The float k bytes into frame i, bytes past the end read as 0.
+fn field(frames: &[u8], i: usize, k: usize) -> f32
+    requires { ⌜ k ≤ 6 ⌝ }
+    ensures { λ r. ⌜ r ≡ f32At (now (frames .entry)) (10 * i + k) ⌝ }
+{
+    let whole = frames.len() / FRAME_SIZE;
+    if i < whole {
+        return tonekit_float::f32_of_bits(whole_u32(frames, FRAME_SIZE * i + k));
+    }
+    if whole < i {
+        return tonekit_float::f32_of_bits(0);
+    }
+    let at = FRAME_SIZE * i;
+    f32_at(&frames[at..], 0, k)
+}
+
+// The hz of frame i, whatever its flag.
+pub fn frame_hz(frames: &[u8], i: usize) -> f32
+    ensures { λ r. ⌜ r ≡ f32At (now (frames .entry)) (10 * i + 2) ⌝ }
+{
+    field(frames, i, 2)
+}
+
+// The voiced_p of frame i, whatever its flag.
+pub fn frame_p(frames: &[u8], i: usize) -> f32
+    ensures { λ r. ⌜ r ≡ f32At (now (frames .entry)) (10 * i + 6) ⌝ }
+{
+    field(frames, i, 6)
 }
 
 // The tone of variant i of a query, one of its four places.

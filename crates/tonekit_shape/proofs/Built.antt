@@ -1,28 +1,45 @@
--- A shape is built from its measures. Assumes nothing.
-use Prim.Native.Nat.{ℕ, zero, suc, _≤_}
-use mathlib.Core.Path.{_≡_, refl, _∙_, ap}
-use mathlib.Core.List.{List, _∷_}
-use native.Mathlib.Nat.{le-of-suc-le-suc}
+-- A shape is built from its measures; its curve is drawn over any values (`drawn-over`). Assumes nothing.
+use Prim.Native.Nat.{ℕ, zero, suc, _+_, _-_, _≤_}
+use mathlib.Core.Path.{_≡_, refl, sym, _∙_, ap}
+use mathlib.Core.List.{List}
 use native.Mathlib.Omega.{arith}
-use lib.ListN.{length, take, replicate, length-replicate}
+use lib.ListN.{length, take, replicate, set, length-replicate}
+use lib.Seq.{length-take-le}
 use lib.Ieee.{Float, binary32, mul, div}
 use Rattle.tonekit_float.specs.Narrow.{narrowed}
 use Rattle.tonekit_contour.specs.Turning.{turningPoint}
 use Rattle.tonekit_contour.specs.declared.Turning.{Turning}
-use Rattle.tonekit_fit.specs.Chao.{zero64}
+use Rattle.tonekit_core.specs.Loop.{turns, range}
+use Rattle.tonekit_query.specs.Frames.{frameAt}
+use Rattle.tonekit_fit.specs.Chao.{zero64, semitonesOf, widthOf}
 use Rattle.tonekit_fit.specs.Fit.{lineSlope, quadraticCoefficient}
 use Rattle.tonekit_shape.specs.declared.Extent.{Extent}
 use Rattle.tonekit_shape.specs.declared.ToneShape.{ToneShape}
-use Rattle.tonekit_shape.specs.Extract.{framesIn, drawn, smoothed, contourOf, weightsOf, ten32, whole32, meanOf, rangeOf, spanFrames, confidence, turnsOf, turningOf, shapeOf}
+use Rattle.tonekit_shape.proofs.Fill.{Listed, listed-none, listed-more, listed-all}
+use Rattle.tonekit_shape.specs.Extract.{framesIn, semitoneTurn, semitones, holesFilled, chaoCurve, listOf, drawn, smoothed, contourOf, weightsOf, ten32, whole32, meanOf, rangeOf, spanFrames, confidence, turnsOf, turningOf, shapeOf}
 
--- the front of zeros
-pub zeros : (n m : ℕ) → n ≤ m → take n (replicate m zero64) ≡ replicate n zero64
-zeros zero m h = refl
-zeros (suc n) zero h = absurd (omega arith)
-zeros (suc n) (suc m) h = ap (λ (t : List Float). zero64 ∷ t) (zeros n m (le-of-suc-le-suc h))
+-- the part's semitones, one after the other
+module _ (frames : List ℕ) (first : ℕ) where
+  abbrev semitone : ℕ → Float
+  semitone j = semitonesOf (frameAt frames (first + j))
 
-pub built : (frames : List ℕ) (e : Extent) (start end : ℕ) (floor ceil : Float) {z chao contour weights : List Float} {mean s slope q curvature range voiced span conf turning : Float} {turn : Turning} {turns : ℕ}
-    → z ≡ replicate (framesIn e) zero64
+  listed-turns : (l out : List Float) (k i : ℕ) → i + k ≡ length l → Listed semitone l i out → turns (semitoneTurn frames first) k i out ≡ listOf semitone (length l)
+  unfolding turns
+  listed-turns l out zero i e h = listed-all semitone l out i (length l) (omega arith) (omega arith) h
+  listed-turns l out (suc k) i e h = listed-turns l (set out i (semitone i)) k (i + 1) (omega arith) (listed-more semitone l out i (semitone i) (omega arith) h refl)
+
+  semitones-are : (l : List Float) → semitones frames first l ≡ listOf semitone (length l)
+  unfolding semitones range
+  semitones-are l = listed-turns l l (length l - 0) 0 (omega arith) (listed-none semitone l)
+
+  -- so what stood there is not read
+  drawn-over : (floor ceil : Float) (l m : List Float) → length l ≡ length m → drawn frames first floor ceil l ≡ drawn frames first floor ceil m
+  unfolding drawn
+  drawn-over floor ceil l m e =
+      ap (λ (t : List Float). chaoCurve floor (widthOf floor ceil) (holesFilled frames first t)) (semitones-are l ∙ ap (listOf semitone) e ∙ sym (semitones-are m))
+
+pub built : (frames : List ℕ) (e : Extent) (start end : ℕ) (floor ceil : Float) (z : List Float) {chao contour weights : List Float} {mean s slope q curvature range voiced span conf turning : Float} {turn : Turning} {turns : ℕ}
+    → length z ≡ framesIn e
     → chao ≡ drawn frames (e .first) floor ceil z
     → contour ≡ contourOf chao
     → weights ≡ weightsOf frames (e .first) (framesIn e)
@@ -55,8 +72,10 @@ pub built : (frames : List ℕ) (e : Extent) (start end : ℕ) (floor ceil : Flo
     })
     (shapeOf frames e start end floor ceil)
 unfolding shapeOf
-built frames e start end floor ceil z-is chao-is contour-is weights-is mean-is s-is slope-is q-is curvature-is turn-is turns-is turning-is range-is span-is voiced-is conf-is =
-    rw (slope-is, s-is, curvature-is, q-is, turns-is, turning-is, turn-is, mean-is, range-is, contour-is, weights-is, conf-is, voiced-is, span-is, chao-is, z-is)
+built frames e start end floor ceil z z-long chao-is contour-is weights-is mean-is s-is slope-is q-is curvature-is turn-is turns-is turning-is range-is span-is voiced-is conf-is =
+    let over = drawn-over frames (e .first) floor ceil z (replicate (framesIn e) zero64) (z-long ∙ sym (length-replicate (framesIn e) zero64)) in
+    rw (slope-is, s-is, curvature-is, q-is, turns-is, turning-is, turn-is, mean-is, range-is, contour-is, weights-is, conf-is, voiced-is, span-is, chao-is, over)
 
-pub zeros-length : (n m : ℕ) → n ≤ m → length (take n (replicate m zero64)) ≡ n
-zeros-length n m h = ap length (zeros n m h) ∙ length-replicate n zero64
+-- the front of the place for it
+pub front-length : (n m : ℕ) (x : Float) → n ≤ m → length (take n (replicate m x)) ≡ n
+front-length n m x h = length-take-le n (replicate m x) (omega (arith, length-replicate m x))

@@ -3,4 +3,4 @@ mod Smooth
 mod Found
 mod Built
 mod Parts
-mod Outcomes
+pub mod Outcomes

@@ -1,11 +1,10 @@
 // `extract` of the Rust, from the part of a query that holds its frames; and the shape record.
 ghost use mathlib.Core.Path.{_≡_};
 ghost use Prim.Native.Nat.{_+_, _≤_, _<_};
-ghost use lib.ListN.{length, replicate};
+ghost use lib.ListN.{length};
 ghost use Rattle.tonekit_contour.specs.Turning.{turningPoint};
-ghost use Rattle.tonekit_fit.specs.Chao.{zero64};
 ghost use Rattle.tonekit_core.specs.Calls.{answerIn, bufferAfter};
-ghost use Rattle.tonekit_shape.specs.Record.{shaped, shapeOutcome};
+ghost use Rattle.tonekit_shape.specs.Record.{united, shaped, shapeOutcome};
 ghost use Rattle.tonekit_shape.specs.Extract.{extentTurn, stopOf, extentOf, contourOf, weightsOf, meanOf, rangeOf, confidenceAdded, confidence, turnsOf, turningOf, spanFrames, framesIn, drawn, smoothed, shapeOf, Extended, Voiced3};
 
 mod curve;
@@ -13,12 +12,23 @@ mod record;
 
 use tonekit_contour::Turning;
 use tonekit_core::Answer;
+use tonekit_core::MeasureIssue;
 use tonekit_core::Refusal;
-use tonekit_query::Frame;
 use tonekit_query::Query;
 use tonekit_query::QueryRead;
 
 const FRAME_MS: f32 = 10.0;
+
+// A call's issues, with TooShort where the voiced part has fewer than 8 frames.
+pub fn united(issues: u16, n: usize) -> u16
+    ensures { λ r. ⌜ r ≡ united issues n ⌝ }
+{
+    if n < 8 {
+        tonekit_core::with_issue(issues, MeasureIssue::TooShort)
+    } else {
+        issues
+    }
+}
 
 // Which frames of a span are voiced: how many, the first and the last.
 pub struct Extent {
@@ -143,9 +153,10 @@ fn range_of(contour: &[f32; 10]) -> f32
 fn confidence_added(frames: &[u8], i: usize, sum: f32) -> f32
     ensures { λ r. ⌜ r ≡ confidenceAdded (now (frames .entry)) i sum ⌝ }
 {
-    match tonekit_query::read_frame(frames, i) {
-        Frame::Voiced(_, p) => sum + p,
-        Frame::Unvoiced => sum,
+    if tonekit_fit::voiced(frames, i) {
+        sum + tonekit_query::frame_p(frames, i)
+    } else {
+        sum
     }
 }
 
@@ -192,7 +203,7 @@ fn span_frames(start: u32, end: u32) -> f32
     tonekit_float::f32_of(end - start)
 }
 
-// The part's curve in Chao values, drawn where zeros stand.
+// The part's curve in Chao values, drawn over what stands there.
 fn draw(chao: &mut [f64], frames: &[u8], first: usize, floor: f32, ceil: f32)
     requires { ⌜ (first ≤ 1024) × (length (now chao) ≤ 1024) ⌝ }
     ensures { λ _. ⌜ now (chao .exit) ≡ drawn (now (frames .entry)) first floor ceil (now (chao .entry)) ⌝ }
@@ -221,7 +232,7 @@ fn measured(
     floor: f32,
     ceil: f32,
 ) -> ToneShape
-    requires { ⌜ Voiced3 e × (length (now chao) ≡ framesIn e) × (now chao ≡ replicate (framesIn e) zero64) ⌝ }
+    requires { ⌜ Voiced3 e × (length (now chao) ≡ framesIn e) ⌝ }
     ensures { λ r. ⌜ r ≡ shapeOf (now (frames .entry)) e start end floor ceil ⌝ }
 {
     let first = e.first;
@@ -253,13 +264,14 @@ fn measured(
 }
 
 // The shape of the syllable in a span whose voiced frames are e, in the register from floor to
-// ceil. There are at least 3 voiced frames, which the caller has counted.
+// ceil. There are at least 3 voiced frames, which the caller has counted. Each value of the curve is
+// written before it is read.
 pub fn shape_of(frames: &[u8], e: Extent, start: u32, end: u32, floor: f32, ceil: f32) -> ToneShape
     requires { ⌜ Voiced3 e ⌝ }
     ensures { λ r. ⌜ r ≡ shapeOf (now (frames .entry)) e start end floor ceil ⌝ }
 {
     let n = e.last - e.first + 1;
-    let mut curve = [0.0f64; 1024];
+    let mut curve = [1.0f64; 1024];
     measured(&mut curve[..n], frames, e, start, end, floor, ceil)
 }
 

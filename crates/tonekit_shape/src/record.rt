@@ -4,24 +4,13 @@ ghost use Prim.Native.Nat.{_≤_};
 ghost use lib.ListN.{length};
 ghost use lib.Seq.{sets};
 ghost use Rattle.tonekit_core.specs.Calls.{answerIn, bufferAfter, written};
-ghost use Rattle.tonekit_shape.specs.Record.{united, spanBytes, fitBytes, measureBytes, shapeBytes};
+ghost use Rattle.tonekit_shape.specs.Record.{spanBytes, fitBytes, measureBytes, shapeBytes};
 use crate::ToneShape;
+use crate::united;
 use tonekit_core::Answer;
-use tonekit_core::MeasureIssue;
 use tonekit_core::Refusal;
 
 const SIZE: usize = 124;
-
-// The issues, with TooShort where the voiced part has fewer than 8 frames.
-fn united(issues: u16, n: usize) -> u16
-    ensures { λ r. ⌜ r ≡ united issues n ⌝ }
-{
-    if n < 8 {
-        tonekit_core::with_issue(issues, MeasureIssue::TooShort)
-    } else {
-        issues
-    }
-}
 
 // The kind and the span.
 fn put_span(out: &mut [u8], start: u32, end: u32)

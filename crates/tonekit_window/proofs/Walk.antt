@@ -2,12 +2,12 @@
 use Prim.Native.Nat.{ℕ, zero, suc, _+_, _-_, _^_, _≤_, _<_, zero-le}
 use mathlib.Core.Path.{_≡_, refl, sym, _∙_, ap, subst}
 use mathlib.Core.Logic.{_⊎_, inl, inr}
-use mathlib.Core.Bool.{true, false, true≢false}
+use mathlib.Core.Bool.{Bool, true, false, true≢false, cond}
 use mathlib.Core.List.{List}
 use native.Mathlib.Nat.{add-zero}
 use native.Mathlib.Omega.{arith}
 use lib.Dec.{T, lit≤}
-use lib.Ieee.{Float, binary64, add, le, ofInt, ofBits}
+use lib.Ieee.{Float, binary64, add, le, lt, isNan, ofInt, ofBits}
 use lib.Ieee.Scale.{finite}
 use Rattle.tonekit_core.specs.Loop.{while, while-again, while-ended, while-out}
 use Rattle.tonekit_float.specs.Pick.{lesser}
@@ -15,13 +15,14 @@ use Rattle.tonekit_float.specs.Whole.{wholePart}
 use Rattle.tonekit_float.proofs.Order.{le-trans-float, le-refl-finite, le→not-lt}
 use Rattle.tonekit_float.proofs.Bounds.{in-finite}
 use Rattle.tonekit_float.proofs.Exact.{whole-worth, whole-le, whole-add}
-use Rattle.tonekit_float.proofs.Whole.{part-le, part-whole}
+use Rattle.tonekit_float.proofs.Whole.{part-le}
+use Rattle.tonekit_float.proofs.Nans.{finite-number}
 use Rattle.tonekit_float.proofs.Picked.{lesser-finite, le-lesser}
 use Rattle.tonekit_core.proofs.LoopLaws.{while-ends}
 use Rattle.tonekit_contour.specs.Position.{whole64}
 use Rattle.tonekit_fit.specs.Chao.{one64}
 use Rattle.tonekit_window.specs.declared.Sweep.{Sweep}
-use Rattle.tonekit_window.specs.Window.{spanAt, stepOf, unswept, startOf, turnLimit, walkOf, Swept, Frame, NextFrame}
+use Rattle.tonekit_window.specs.Window.{spanAt, curveAt, movedTo, stepOf, unswept, startOf, turnLimit, walkOf, Swept, Frame}
 use Rattle.tonekit_window.proofs.Within.{low-in, high-in, frame}
 
 -- one more than a whole number
@@ -29,10 +30,30 @@ pub next-whole : (x : Float) (n : ℕ) → n ≤ 2 ^ 52 → x ≡ whole64 n → 
 unfolding ofInt ofBits
 next-whole x n h e = ap (λ (z : Float). add binary64 z one64) e ∙ whole-add binary64 n 1 (omega arith) (lit≤ tt)
 
+-- of a time in the frames
+pub part-small : (a : Float) → Frame a → wholePart a ≤ 1023
+unfolding ofInt
+part-small a A = part-le a 1023 (lit≤ tt) (in-finite tt A) (A .low) (A .high)
+
+-- a step by its two ways: to b, or to the next whole frame
+shorter : (x b : Float) (n : Bool) → lt b x ≡ true → cond n b (cond (lt b x) b x) ≡ b
+shorter x b true h = refl
+shorter x b false h = rw h
+
+pub step-short : (l : List Float) (b : Float) (s : Sweep) (v : Float) → lt b (s .next) ≡ true → v ≡ curveAt l b → movedTo s b v ≡ stepOf l b s
+unfolding stepOf lesser
+step-short l b s v h e = rw (e, shorter (s .next) b (isNan (s .next)) h)
+
+pub step-whole : (l : List Float) (b : Float) (s : Sweep) (v : Float) (n : ℕ) → s .next ≡ whole64 n → n ≤ 4000 → lt b (s .next) ≡ false → v ≡ curveAt l (s .next)
+    → movedTo s (s .next) v ≡ stepOf l b s
+unfolding stepOf lesser
+step-whole l b s v n w k h e =
+    let number : isNan (s .next) ≡ false = ap isNan w ∙ finite-number (whole64 n) (whole-worth binary64 n (omega arith) .real) in
+    rw (e, number, h)
+
 -- the code's loop: the rest of the walk gives what the whole gives, and `next` is a whole number that grows
-pub record Going (l : List Float) (a b : Float) (s : Sweep) : Type 0 where
+pub record Going (l : List Float) (a b : Float) (at : ℕ) (s : Sweep) : Type 0 where
   pub left : ℕ
-  pub at : ℕ
   pub rest : while (unswept b) (stepOf l b) left s ≡ walkOf l a b
   pub next-is : s .next ≡ whole64 at
   pub room : at + left ≤ 3000
@@ -71,10 +92,6 @@ module _ (l : List Float) (a b : Float) (A : Frame a) (B : Frame b) where
   one-less zero s (inr h) t = last-turn s h
   one-less (suc k) s (inr h) t = inr (onward k s h)
 
-  part-small : wholePart a ≤ 1023
-  unfolding ofInt
-  part-small = part-le a 1023 (lit≤ tt) (in-finite tt A) (A .low) (A .high)
-
   high : T (le b (whole64 1023))
   unfolding ofInt
   high = B .high
@@ -82,54 +99,40 @@ module _ (l : List Float) (a b : Float) (A : Frame a) (B : Frame b) where
   pub ends : unswept b (walkOf l a b) ≡ false
   ends =
       let n = wholePart a in
-      let r = part-small in
+      let r = part-small a A in
       while-ends (unswept b) (stepOf l b) Left (λ s e. e) one-less turnLimit (startOf l a)
       (inr (n + 1, next-whole (whole64 n) n (omega arith) refl, omega arith, le-trans-float b (whole64 1023) (whole64 (n + 1 + (turnLimit - 1))) high (whole-le binary64 1023 (n + 1 + (turnLimit - 1)) (omega arith))))
 
   -- ---- the code's loop
-  pub going-start : Going l a b (startOf l a)
+  pub going-start : Going l a b (wholePart a + 1) (startOf l a)
   going-start =
-      let r = part-small in
-      record { left = turnLimit; at = wholePart a + 1; rest = refl; next-is = next-whole (whole64 (wholePart a)) (wholePart a) (omega arith) refl; room = omega arith }
+      let r = part-small a A in
+      record { left = turnLimit; rest = refl; next-is = next-whole (whole64 (wholePart a)) (wholePart a) (omega arith) refl; room = omega arith }
 
-  turns-left : (s : Sweep) (g : Going l a b s) → unswept b s ≡ true → 0 < g .left
-  turns-left s g t = go (g .left) (g .rest)
+  turns-left : (at : ℕ) (s : Sweep) (g : Going l a b at s) → unswept b s ≡ true → 0 < g .left
+  turns-left at s g t = go (g .left) (g .rest)
     where
       go : (n : ℕ) → while (unswept b) (stepOf l b) n s ≡ walkOf l a b → 0 < n
       go zero r = absurd (true≢false (sym t ∙ ap (unswept b) (while-out (unswept b) (stepOf l b) {n = 0} r zero-le) ∙ ends))
       go (suc n) r = omega arith
 
-  stepped : (s t : Sweep) (g : Going l a b s) → t ≡ stepOf l b s → t .next ≡ whole64 (g .at + 1)
+  stepped : (at : ℕ) (s t : Sweep) (g : Going l a b at s) → t ≡ stepOf l b s → t .next ≡ whole64 (at + 1)
   unfolding stepOf
-  stepped s t g e = let r = g .room in ap (λ (z : Sweep). z .next) e ∙ next-whole (s .next) (g .at) (omega arith) (g .next-is)
+  stepped at s t g e = let r = g .room in ap (λ (z : Sweep). z .next) e ∙ next-whole (s .next) at (omega arith) (g .next-is)
 
-  pub going-again : (s t : Sweep) → Going l a b s → unswept b s ≡ true → t ≡ stepOf l b s → Going l a b t
-  going-again s t g u e =
-      let k = turns-left s g u in
+  pub going-again : (at : ℕ) (s t : Sweep) → Going l a b at s → unswept b s ≡ true → t ≡ stepOf l b s → Going l a b (at + 1) t
+  going-again at s t g u e =
+      let k = turns-left at s g u in
       let r = g .room in
       record {
         left = g .left - 1;
-        at = g .at + 1;
         rest = while-again (unswept b) (stepOf l b) (g .rest) k u (sym e);
-        next-is = stepped s t g e;
+        next-is = stepped at s t g e;
         room = omega arith;
       }
 
-  pub going-done : (s : Sweep) → Going l a b s → unswept b s ≡ false → Swept l a b s
-  going-done s g u = record { is = while-ended (unswept b) (stepOf l b) (g .left) (g .rest) u; ended = u }
-
-  pub going-less : (s t : Sweep) → Going l a b s → t ≡ stepOf l b s → 4000 - wholePart (t .next) < 4000 - wholePart (s .next)
-  going-less s t g e =
-      let r = g .room in
-      let x : wholePart (s .next) ≡ g .at = ap wholePart (g .next-is) ∙ part-whole (g .at) (omega arith) in
-      let y : wholePart (t .next) ≡ g .at + 1 = ap wholePart (stepped s t g e) ∙ part-whole (g .at + 1) (omega arith) in
-      omega arith
-
-  pub going-next : (s : Sweep) → Going l a b s → NextFrame (s .next)
-  unfolding ofInt
-  going-next s g =
-      let r = g .room in
-      subst NextFrame (sym (g .next-is)) (record { low = whole-le binary64 0 (g .at) zero-le; high = whole-le binary64 (g .at) 4096 (omega arith) })
+  pub going-done : (at : ℕ) (s : Sweep) → Going l a b at s → unswept b s ≡ false → Swept l a b s
+  going-done at s g u = record { is = while-ended (unswept b) (stepOf l b) (g .left) (g .rest) u; ended = u }
 
 -- over the window about a point of a contour
 pub walk-ends : (l : List Float) (n k : ℕ) → n ≤ 1024 → k ≤ 9 → unswept (spanAt n k .high) (walkOf l (spanAt n k .low) (spanAt n k .high)) ≡ false

@@ -16,7 +16,7 @@ use Rattle.tonekit_float.proofs.Exact.{whole-worth, whole-le, sub-nonneg, sub-n
 use Rattle.tonekit_float.proofs.Picked.{lesser-finite, lesser-le-left, lesser-le-right, le-lesser, greater-finite, le-greater-right}
 use Rattle.tonekit_contour.specs.Position.{whole64, position}
 use Rattle.tonekit_contour.proofs.Places.{position-in, position-fits}
-use Rattle.tonekit_window.specs.Window.{share, half, edge, halfWidth, reach, spanAt, Frame, NextFrame}
+use Rattle.tonekit_window.specs.Window.{share, half, edge, halfWidth, reach, spanAt, Frame}
 
 -- ---- the window
 -- 0.05 n
@@ -121,10 +121,3 @@ high-from x h = in-wider tt (in-add binary64 {c = edge} {d = edge} tt h (record 
 pub high-lt : (x : Float) → Frame x → T (lt (add binary64 x edge) (fin false 1 (pos 53)))
 unfolding lt
 high-lt x h = let y = high-from x h in le-lt (add binary64 x edge) (fin false 1 (pos 10)) (fin false 1 (pos 53)) (in-finite tt y) tt tt (y .high) tt
-
--- the next place of a sweep
-pub lesser-frame : (x b : Float) → NextFrame x → Frame b → Frame (lesser x b)
-lesser-frame x b X B =
-    let p = in-finite tt X in
-    let q = in-finite tt B in
-    record { low = le-lesser x b p q zeroF (X .low) (B .low); high = le-trans-float (lesser x b) b (fin false 1023 (pos 0)) (lesser-le-right x b p q) (B .high) }

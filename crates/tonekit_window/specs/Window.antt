@@ -38,12 +38,9 @@ reach n k = lesser (lesser (halfWidth n) (position k (n - 1))) (sub binary64 (wh
 abbrev pub spanAt : ℕ → ℕ → Span
 spanAt n k = record { low = sub binary64 (position k (n - 1)) (reach n k); high = add binary64 (position k (n - 1)) (reach n k) }
 
--- from frame 0 to frame 1,023, the last that a part can have; and where the next whole frame of a sweep lies
+-- from frame 0 to frame 1,023, the last that a part can have
 abbrev pub Frame : Float → Type 0
 Frame x = In (fin false 0 (pos 0)) (fin false 1023 (pos 0)) x
-
-abbrev pub NextFrame : Float → Type 0
-NextFrame x = In (fin false 0 (pos 0)) (fin false 1 (pos 12)) x
 
 -- the window about point k of ten in n frames: it lies within the frames
 pub record Spans (n k : ℕ) (r : Span) : Type 0 where
@@ -62,17 +59,18 @@ curveAt l t =
     let f = sub binary64 t (whole64 i) in
     add binary64 (mul binary64 (getD l i nan) (sub binary64 one64 f)) (mul binary64 (getD l (i + 1) nan) f)
 
--- one trapezoid
-unfoldable pub stepOf : List Float → Float → Sweep → Sweep
-stepOf l b s =
-    let t1 = lesser (s .next) b in
-    let v1 = curveAt l t1 in
+-- one trapezoid: to a time, and the curve there
+abbrev pub movedTo : Sweep → Float → Float → Sweep
+movedTo s t1 v1 =
     record {
       t0 = t1;
       v0 = v1;
       next = add binary64 (s .next) one64;
       area = add binary64 (s .area) (mul binary64 (mul binary64 half (add binary64 (s .v0) v1)) (sub binary64 t1 (s .t0)));
     }
+
+unfoldable pub stepOf : List Float → Float → Sweep → Sweep
+stepOf l b s = let t1 = lesser (s .next) b in movedTo s t1 (curveAt l t1)
 
 abbrev pub unswept : Float → Sweep → Bool
 unswept b s = lt (s .t0) b

@@ -4,7 +4,9 @@
 ghost use mathlib.Core.Path.{_≡_};
 ghost use Prim.Native.Nat.{_+_, _-_, _≤_, _<_};
 ghost use lib.ListN.{length};
-ghost use Rattle.tonekit_window.specs.Window.{halfWidth, reach, curveAt, stepOf, atMost, meanOver, contourAt, rounded, voicedIn, weightAt, Frame, NextFrame, Spans, Swept, Framed};
+ghost use Rattle.tonekit_float.specs.Whole.{wholePart};
+ghost use Rattle.tonekit_contour.specs.Position.{whole64};
+ghost use Rattle.tonekit_window.specs.Window.{halfWidth, reach, curveAt, movedTo, stepOf, atMost, meanOver, contourAt, rounded, voicedIn, weightAt, Frame, Spans, Swept, Framed};
 
 // WINDOW_FRACTION, MIN_HALF_WINDOW and EDGE_EPS of the Rust.
 const WINDOW_FRACTION: f64 = 0.05;
@@ -73,23 +75,28 @@ fn at_most(i: usize, top: usize) -> usize
     if i < top { i } else { top }
 }
 
-// The curve at time t, from a line between the two frames about it.
-fn curve_at(values: &[f64], t: f64) -> f64
-    requires { ⌜ (2 ≤ length (now values)) × Frame t ⌝ }
+// The curve at time t, whose whole part is w, from a line between the two frames about it.
+fn curve_from(values: &[f64], t: f64, w: usize) -> f64
+    requires { ⌜ (2 ≤ length (now values)) × (w ≡ wholePart t) ⌝ }
     ensures { λ r. ⌜ r ≡ curveAt (now (values .entry)) t ⌝ }
 {
-    let i = at_most(tonekit_float::floor_index(t), values.len() - 2);
+    let i = at_most(w, values.len() - 2);
     let f = t - tonekit_float::f64_of(i);
     values[i] * (1.0 - f) + values[i + 1] * f
 }
 
-// One trapezoid.
-fn step(values: &[f64], b: f64, s: Sweep) -> Sweep
-    requires { ⌜ (2 ≤ length (now values)) × Frame b × NextFrame (s .next) ⌝ }
-    ensures { λ r. ⌜ r ≡ stepOf (now (values .entry)) b s ⌝ }
+// The curve at time t.
+fn curve_at(values: &[f64], t: f64) -> f64
+    requires { ⌜ (2 ≤ length (now values)) × Frame t ⌝ }
+    ensures { λ r. ⌜ r ≡ curveAt (now (values .entry)) t ⌝ }
 {
-    let t1 = tonekit_float::min_f64(s.next, b);
-    let v1 = curve_at(values, t1);
+    curve_from(values, t, tonekit_float::floor_index(t))
+}
+
+// One trapezoid, to time t1 where the curve is at v1.
+fn moved(s: Sweep, t1: f64, v1: f64) -> Sweep
+    ensures { λ r. ⌜ r ≡ movedTo s t1 v1 ⌝ }
+{
     Sweep {
         t0: t1,
         v0: v1,
@@ -98,13 +105,28 @@ fn step(values: &[f64], b: f64, s: Sweep) -> Sweep
     }
 }
 
-// The trapezoids between a, every whole frame inside the window, and b.
+// The next trapezoid: to the next whole frame, which is `frame`, or to b where that comes first.
+fn step(values: &[f64], b: f64, s: Sweep, frame: usize) -> Sweep
+    requires { ⌜ (2 ≤ length (now values)) × Frame b × (s .next ≡ whole64 frame) × (frame ≤ 4000) ⌝ }
+    ensures { λ r. ⌜ r ≡ stepOf (now (values .entry)) b s ⌝ }
+{
+    let next = s.next;
+    if b < next {
+        return moved(s, b, curve_at(values, b));
+    }
+    moved(s, next, curve_from(values, next, frame))
+}
+
+// The trapezoids between a, every whole frame inside the window, and b; the next whole frame is
+// kept as an index too.
 fn swept(values: &[f64], a: f64, b: f64) -> Sweep
     requires { ⌜ (2 ≤ length (now values)) × Frame a × Frame b ⌝ }
     ensures { λ r. ⌜ Swept (now (values .entry)) a b r ⌝ }
 {
     let v0 = curve_at(values, a);
-    let next = tonekit_float::f64_of(tonekit_float::floor_index(a)) + 1.0;
+    let from = tonekit_float::floor_index(a);
+    let next = tonekit_float::f64_of(from) + 1.0;
+    let mut frame = from + 1;
     let mut s = Sweep {
         t0: a,
         v0,
@@ -112,7 +134,8 @@ fn swept(values: &[f64], a: f64, b: f64) -> Sweep
         area: 0.0,
     };
     while s.t0 < b {
-        s = step(values, b, s);
+        s = step(values, b, s, frame);
+        frame += 1;
     }
     s
 }

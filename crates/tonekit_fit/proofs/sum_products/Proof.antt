@@ -1,34 +1,38 @@
 -- `sum_products` meets its contract: what is left of the loop, from here, gives what the whole gives.
-use mathlib.Core.Path.{_≡_, refl, sym, _∙_, ap}
+use mathlib.Core.Path.{_≡_, sym}
 use Prim.Native.Nat.{_-_, _≤_}
 use mathlib.Core.Logic.{⊎-elim}
 use lib.ListN.{length}
 use Rattle.tonekit_core.specs.Loop.{range, again, ended}
-use Rattle.tonekit_fit.specs.Fit.{voicedTurn, voicedSum, product}
+use Rattle.tonekit_fit.specs.Fit.{voicedTurn, voicedSum, square, product}
 use borrow.Author.Needs.{needs}
 use Rattle.tonekit_fit.proofs.sum_products.Statement.{statement}
 use Rattle.tonekit_fit.proofs.sum_products.Tie as tie
 
 abbrev Inv-loop : tie.InvT-loop
-Inv-loop frames first chao mx my t₀ j₀ j-end t j =
-    (j-end ≡ length chao) × (j ≤ j-end) × (range (voicedTurn (record { frames = frames; first = first; chao = chao }) (product (record { frames = frames; first = first; chao = chao }) mx my)) j j-end t ≡ voicedSum (record { frames = frames; first = first; chao = chao }) (product (record { frames = frames; first = first; chao = chao }) mx my))
+Inv-loop frames first chao mx my x₀ y₀ j₀ j-end x y j =
+    (j-end ≡ length chao)
+    × (j ≤ j-end)
+    × (range (voicedTurn (record { frames = frames; first = first; chao = chao }) (square mx)) j j-end x ≡ voicedSum (record { frames = frames; first = first; chao = chao }) (square mx))
+    × (range (voicedTurn (record { frames = frames; first = first; chao = chao }) (product (record { frames = frames; first = first; chao = chao }) mx my)) j j-end y ≡ voicedSum (record { frames = frames; first = first; chao = chao }) (product (record { frames = frames; first = first; chao = chao }) mx my))
 
 abbrev μ-loop : tie.MeasureT-loop
-μ-loop frames first chao mx my t₀ j₀ j-end t j = j-end - j
+μ-loop frames first chao mx my x₀ y₀ j₀ j-end x y j = j-end - j
 
 loop-again : tie.Need-loop-again Inv-loop μ-loop
-loop-again c = (
-  search needs,
-  search needs,
-  again _ (c .before .before .before .loop .inv .2) (search needs)
-      (⊎-elim
-      (λ w. rw (← c .before .voiced .ensures, w .0 .taken, ← w .1 .ensures) (sym (w .3)))
-      (λ w. rw (← c .before .voiced .ensures, w .0 .left) (sym (w .1)))
-      (c .if1 .came)),
-)
+loop-again c =
+    let i = c .before .before .before .loop .inv in
+    let v = c .before .voiced .ensures in (
+      search needs,
+      search needs,
+      again _ (i .2) (search needs)
+          (⊎-elim (λ w. rw (← v, w .0 .taken, ← w .1 .ensures) (sym (w .3))) (λ w. rw (← v, w .0 .left) (sym (w .1))) (c .if1 .came)),
+      again _ (i .3) (search needs)
+          (⊎-elim (λ w. rw (← v, w .0 .taken, ← w .1 .ensures) (sym (w .4))) (λ w. rw (← v, w .0 .left) (sym (w .2))) (c .if1 .came)),
+    )
 
 returns : tie.Need-returns Inv-loop μ-loop
-returns c = ended _ (c .before .loop .inv .2) (search needs)
+returns c = let i = c .before .loop .inv in rw (ended _ (i .2) (search needs), ended _ (i .3) (search needs))
 
 pub sum-products-spec : {M : Type 1} → statement M
 sum-products-spec =

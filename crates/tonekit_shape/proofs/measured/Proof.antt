@@ -13,8 +13,8 @@ returns c =
     let d = k .before .before .before .before in
     let w = d .before .before in
     let s = w .before .before .before .before .before .before .before in
-    built _ (s .args .e) _ _ _ _
-    (s .pre .2)
+    built _ (s .args .e) _ _ _ _ (s .args .chao .now)
+    (s .pre .1)
     (d .draw .ensures)
     (k .contour-of .ensures)
     (w .weights-of .ensures)

@@ -1,18 +1,17 @@
 use mathlib.Core.Path.{sym}
 use borrow.Author.Needs.{needs}
 use Rattle.tonekit_shape.specs.Extract.{framesIn}
-use Rattle.tonekit_shape.proofs.Built.{zeros, zeros-length}
+use Rattle.tonekit_shape.proofs.Built.{front-length}
 use Rattle.tonekit_shape.proofs.shape_of.Statement.{statement}
 use Rattle.tonekit_shape.proofs.shape_of.Tie as tie
 
 slice-aggregate-measured : tie.Need-slice-aggregate-measured
-slice-aggregate-measured c = sym (zeros-length (framesIn (c .before .before .before .args .e)) 1024 (search needs))
+slice-aggregate-measured c = sym (front-length (framesIn (c .before .before .before .args .e)) 1024 _ (search needs))
 
 measured-requires : tie.Need-measured-requires
 measured-requires c κs =
     let d = c .before .before .before in
-    let n = framesIn (d .args .e) in
-    (d .pre, zeros-length n 1024 (search needs), zeros n 1024 (search needs))
+    (d .pre, front-length (framesIn (d .args .e)) 1024 _ (search needs))
 
 returns : tie.Need-returns
 returns c = c .before .measured .ensures

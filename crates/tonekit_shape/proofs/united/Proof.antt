@@ -1,8 +1,8 @@
 use borrow.Author.Needs.{needs}
 use borrow.Author.Tests.{lt-ltb, le-ltb}
 use Rattle.tonekit_shape.specs.Record.{united}
-use Rattle.tonekit_shape.proofs.record.united.Statement.{statement}
-use Rattle.tonekit_shape.proofs.record.united.Tie as tie
+use Rattle.tonekit_shape.proofs.united.Statement.{statement}
+use Rattle.tonekit_shape.proofs.united.Tie as tie
 
 returns : tie.Need-returns
 unfolding united
