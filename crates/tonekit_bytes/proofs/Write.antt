@@ -47,21 +47,21 @@ part-put bs l ys a h e =
     ∙ sym (sets-eq bs l a h)
 
 -- two runs of stores, one after the other, are one
-pub sets-append : (l : List ℕ) (i : ℕ) (a b : List ℕ) (n : ℕ) → n ≡ i + length a → sets (sets l i a) n b ≡ sets l i (a ++ b)
+pub sets-append : {A : Type 0} (l : List A) (i : ℕ) (a b : List A) (n : ℕ) → n ≡ i + length a → sets (sets l i a) n b ≡ sets l i (a ++ b)
 sets-append l i [] b n e = ap (λ (k : ℕ). sets l k b) (e ∙ add-zero i)
 sets-append l i (x ∷ a) b n e = sets-append (set l i x) (suc i) a b n (e ∙ add-suc i (length a) ∙ sym (suc-add i (length a)))
 
 -- one more part of a record, from where the last one ended
-pub more : (l a b : List ℕ) {o o′ : List ℕ} (i n : ℕ) → o ≡ sets l i a → n ≡ i + length a → o′ ≡ sets o n b → o′ ≡ sets l i (a ++ b)
-more l a b i n e k e′ = e′ ∙ ap (λ (x : List ℕ). sets x n b) e ∙ sets-append l i a b n k
+pub more : {A : Type 0} (l a b : List A) {o o′ : List A} (i n : ℕ) → o ≡ sets l i a → n ≡ i + length a → o′ ≡ sets o n b → o′ ≡ sets l i (a ++ b)
+more {A} l a b i n e k e′ = e′ ∙ ap (λ (x : List A). sets x n b) e ∙ sets-append l i a b n k
 
--- a turn of the loop that copies bytes
-pub bytes-step : (l out : List ℕ) (at i : ℕ) (bs : List ℕ) → i < length bs → out ≡ sets l at (take i bs)
-    → set out (at + i) (getD bs i 0) ≡ sets l at (take (i + 1) bs)
-bytes-step l out at i bs h e =
+-- a turn of the loop that copies a list
+pub copy-step : {A : Type 0} (l out : List A) (at i : ℕ) (bs : List A) (d : A) → i < length bs → out ≡ sets l at (take i bs)
+    → set out (at + i) (getD bs i d) ≡ sets l at (take (i + 1) bs)
+copy-step l out at i bs d h e =
     let k : length (take i bs) ≡ i = length-take-le i bs (omega arith) in
-    more l (take i bs) (getD bs i 0 ∷ []) at (at + i) e (omega arith) refl
-    ∙ ap (sets l at) (sym (ap (λ (m : ℕ). take m bs) (add-one i) ∙ take-suc bs i 0 h))
+    more l (take i bs) (getD bs i d ∷ []) at (at + i) e (omega arith) refl
+    ∙ ap (sets l at) (sym (ap (λ (m : ℕ). take m bs) (add-one i) ∙ take-suc bs i d h))
 
 f32s-append : (xs ys : List Float) → f32sBytes (xs ++ ys) ≡ f32sBytes xs ++ f32sBytes ys
 unfolding f32sBytes

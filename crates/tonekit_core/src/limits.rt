@@ -14,3 +14,8 @@ pub const KNOTS: u8 = 10;
 pub const VARIANTS: u8 = 4;
 
 pub const FRAMES: u16 = 1024;
+
+// Of a sheet.
+pub const LISTS: usize = 128;
+
+pub const COMPONENTS: usize = 192;

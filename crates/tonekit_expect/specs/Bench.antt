@@ -15,16 +15,16 @@ use Rattle.tonekit_contour.specs.Position.{position}
 use Rattle.tonekit_expect.specs.Knots.{segment, fraction, onLine, pointAt, firstPoints, expanded}
 use Rattle.tonekit_expect.specs.Lookup.{indexOf, meets, matches, specificity, betterOf, bestRule, climbTurn, findRule, lookUp}
 
-two : Float
+abbrev pub two : Float
 two = ofBits binary32 0x4000_0000
 
 -- "Knots [2] and [2, 2]: all 2."
-one-knot : expanded (two ∷ []) ≡ replicate 10 two
-unfolding two firstPoints pointAt onLine fraction segment position add sub mul div ofInt ofBits wholePart narrowed
+pub one-knot : expanded (two ∷ []) ≡ replicate 10 two
+unfolding firstPoints pointAt onLine fraction segment position add sub mul div ofInt ofBits wholePart narrowed
 one-knot = refl
 
-two-knots : expanded (two ∷ two ∷ []) ≡ replicate 10 two
-unfolding two firstPoints pointAt onLine fraction segment position add sub mul div ofInt ofBits wholePart narrowed
+pub two-knots : expanded (two ∷ two ∷ []) ≡ replicate 10 two
+unfolding firstPoints pointAt onLine fraction segment position add sub mul div ofInt ofBits wholePart narrowed
 two-knots = refl
 
 -- ---- a pack: tone 1 with a citation, tone 2 for contexts only. Accent 5 has a rule for tone 1 at the end of a phrase, and one for tone 2

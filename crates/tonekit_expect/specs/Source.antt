@@ -1,7 +1,9 @@
 -- What a station holds, whichever bytes it was read from: settings, tones in order, accents with tolerances, and what each lookup gives. Floats by their bits.
 use Prim.Native.Nat.{ℕ, zero, suc, _+_}
+use mathlib.Core.Bool.{Bool, false, cond, _||_}
 use mathlib.Core.List.{List, [], _∷_, _++_, map}
 use mathlib.Core.Option.{Option, none, some}
+use lib.Dec.{eqb}
 use lib.Ieee.{binary32, toBits}
 use Rattle.tonekit_bytes.specs.Fields.{byteAt, u32At}
 use Rattle.tonekit_pack.specs.Pack.{Pst, numberAt}
@@ -48,6 +50,16 @@ pub record Source : Type 0 where
   pub tones : List Tone
   pub accents : List Accent
   pub look : Context → Option (List Carried)
+
+-- the accent of this number, where one is held
+unfoldable pub accentIn : List Accent → ℕ → Option Accent
+accentIn [] n = none
+accentIn (a ∷ more) n = cond (eqb (a .number) n) (some a) (accentIn more n)
+
+-- whether a tone of this number is held
+unfoldable pub toneIn : List Tone → ℕ → Bool
+toneIn [] n = false
+toneIn (t ∷ ts) n = eqb (t .number) n || toneIn ts n
 
 unfoldable pub carried : Component → Carried
 carried c = record { owner = c .owner; form = c .form; label = c .label; part = c .part; weight = toBits binary32 (c .weight); points = map (toBits binary32) (c .points) }

@@ -3,8 +3,8 @@ ghost use mathlib.Core.Path.{_≡_};
 ghost use Rattle.tonekit_pack.specs.Pack.{readPack, loadPack, checkPack};
 ghost use Rattle.tonekit_pack.specs.Held.{answered, Roomy};
 
-mod ranges;
-mod read;
+pub mod ranges;
+pub mod read;
 
 use tonekit_core::Checked;
 use tonekit_core::Refusal;

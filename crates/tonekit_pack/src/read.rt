@@ -78,7 +78,7 @@ fn zero_or_held(s: &[u8], at: [u16; 8], n: usize, x: u8) -> bool
 }
 
 // One test after another: the first that fails decides.
-fn in_turn(crowded: bool, fine: bool, new: bool, held: bool) -> Verdict
+pub fn in_turn(crowded: bool, fine: bool, new: bool, held: bool) -> Verdict
     ensures { λ r. ⌜ r ≡ inTurn crowded fine new held ⌝ }
 {
     if crowded {
@@ -97,7 +97,7 @@ fn in_turn(crowded: bool, fine: bool, new: bool, held: bool) -> Verdict
 }
 
 // What is said of a record of each kind that is due and whole. Every test is made, since only the last record read can fail one.
-fn settings_verdict(s: &[u8], o: usize) -> Verdict
+pub fn settings_verdict(s: &[u8], o: usize) -> Verdict
     ensures { λ r. ⌜ r ≡ settingsVerdict (now (s .entry)) o ⌝ }
 {
     let fine = above_zero(f32_at(s, o, 1)) & a_share(f32_at(s, o, 5));

@@ -3,7 +3,7 @@ use mathlib.Core.Path.{_≡_, refl, ap, _∙_}
 use borrow.Author.Needs.{needs}
 use lib.ListN.{length, take, length-set}
 use lib.Seq.{sets, take-all}
-use Rattle.tonekit_bytes.proofs.Write.{bytes-step}
+use Rattle.tonekit_bytes.proofs.Write.{copy-step}
 use Rattle.tonekit_bytes.proofs.put_bytes.Statement.{statement}
 use Rattle.tonekit_bytes.proofs.put_bytes.Tie as tie
 
@@ -22,7 +22,7 @@ loop-again c =
     let a = l .before .args in (
       search needs,
       simp length-set (search needs),
-      bytes-step (a .out .now) (l .loop .out) (a .at) (l .loop .i) (a .src .now) (search needs) (l .loop .inv .2),
+      copy-step (a .out .now) (l .loop .out) (a .at) (l .loop .i) (a .src .now) 0 (search needs) (l .loop .inv .2),
     )
 
 returns : tie.Need-returns Inv-loop μ-loop

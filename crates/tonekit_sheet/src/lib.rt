@@ -1,0 +1,19 @@
+// The sheet: document 01's definitions of its bytes and of its reader (specs), and what reader and
+// writer share.
+ghost use mathlib.Core.Path.{_≡_};
+ghost use Rattle.tonekit_sheet.specs.Reader.{sizeOf};
+
+// The bytes of a record of kind k, its kind among them.
+pub fn size_of(k: u8) -> usize
+    ensures { λ r. ⌜ r ≡ sizeOf k ⌝ }
+{
+    match k {
+        17 => 9,
+        18 => 15,
+        19 => 18,
+        20 => 6,
+        21 => 7,
+        22 => 45,
+        _ => 1,
+    }
+}

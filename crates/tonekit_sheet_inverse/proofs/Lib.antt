@@ -1,0 +1,15 @@
+pub mod Written
+pub mod Spans
+pub mod Tests
+pub mod Records
+pub mod Turns
+pub mod Kept
+pub mod Loads
+pub mod Order
+pub mod Ascending
+pub mod Rows
+pub mod Look
+pub mod Pieces
+pub mod FirstUse
+pub mod Inverse
+pub mod Once

@@ -1,0 +1,29 @@
+-- Fields read back as they were written: laws of tonekit_bytes' definitions alone. Assumes nothing.
+use Prim.Native.Nat.{ℕ, _+_, _*_, _/_, _%_, _<_}
+use mathlib.Core.Path.{_≡_, sym, ap, _∙_}
+use mathlib.Core.List.{List, _++_}
+use native.Mathlib.Nat.{div-div-eq-div-mul, div-add-mod, mod-eq-of-lt}
+use native.Mathlib.Omega.{arith}
+use Rattle.tonekit_bytes.specs.Fields.{u16At, u32At, le16, le32}
+
+pub le16-back : (v : ℕ) → v < 65536 → u16At (le16 v) 0 ≡ v
+le16-back v h = omega arith
+
+digits : (v p q r a b c d : ℕ) → 256 * p + a ≡ v → 256 * q + b ≡ p → 256 * r + c ≡ q → d ≡ r → a + 256 * b + 65536 * (c + 256 * d) ≡ v
+digits v p q r a b c d e f g h = omega arith
+
+pub le32-back : (v : ℕ) → v < 4294967296 → u32At (le32 v) 0 ≡ v
+le32-back v h =
+    let top : v / 16777216 < 256 = omega arith in
+    digits v (v / 256) (v / 65536) (v / 16777216) (v % 256) (v / 256 % 256) (v / 65536 % 256) (v / 16777216 % 256)
+    (div-add-mod v 256)
+    (ap (λ (q : ℕ). 256 * q + v / 256 % 256) (sym (div-div-eq-div-mul v 256 256)) ∙ div-add-mod (v / 256) 256)
+    (ap (λ (q : ℕ). 256 * q + v / 65536 % 256) (sym (div-div-eq-div-mul v 65536 256)) ∙ div-add-mod (v / 65536) 256)
+    (mod-eq-of-lt top)
+
+-- with anything behind them
+pub le16-front : (v : ℕ) (t : List ℕ) → v < 65536 → u16At (le16 v ++ t) 0 ≡ v
+le16-front v t h = le16-back v h
+
+pub le32-front : (v : ℕ) (t : List ℕ) → v < 4294967296 → u32At (le32 v ++ t) 0 ≡ v
+le32-front v t h = le32-back v h

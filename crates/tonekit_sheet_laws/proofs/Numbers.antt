@@ -1,0 +1,212 @@
+-- What is equal in every bit, what is seen and where, and what one more lookup adds to the lists. Assumes nothing.
+use Prim.Native.Nat.{ℕ, zero, suc, _+_, _≤_, _<_}
+use mathlib.Core.Path.{_≡_, refl, sym, ap, ap₂, _∙_}
+use mathlib.Core.Logic.{_↔_}
+use mathlib.Core.Bool.{true, false}
+use mathlib.Core.List.{List, [], _∷_, _++_, append-assoc, append-nil}
+use mathlib.Core.Option.{Option, none, some}
+use native.Mathlib.Omega.{arith}
+use lib.Dec.{eqb, ltb}
+use lib.ListN.{length, getD, length-append, List·getD-append}
+use lib.Seq.{getD-append-seam}
+use borrow.Author.Tests.{eq-eqb, eqb-true, ltb-true, ltb-false, lt-ltb, le-ltb}
+use Rattle.tonekit_pack.proofs.Split.{split, absurd-bool, both}
+use Rattle.tonekit_expect.specs.Source.{Carried}
+use Rattle.tonekit_sheet.specs.Number.{sameNumbers, sameCarried, same, seenIn, placeIn, noted, numberIn}
+use Rattle.tonekit_sheet.specs.Reader.{most}
+
+-- ---- equal in every bit
+numbers-is : (xs ys : List ℕ) → sameNumbers xs ys ≡ true → xs ≡ ys
+unfolding sameNumbers
+numbers-is [] [] h = refl
+numbers-is [] (y ∷ ys) h = absurd-bool h
+numbers-is (x ∷ xs) [] h = absurd-bool h
+numbers-is (x ∷ xs) (y ∷ ys) h =
+    let b = both (eqb x y) (sameNumbers xs ys) h in
+    ap₂ (λ (a : ℕ) (r : List ℕ). a ∷ r) (eqb-true x y (b .0)) (numbers-is xs ys (b .1))
+
+numbers-refl : (xs : List ℕ) → sameNumbers xs xs ≡ true
+unfolding sameNumbers
+numbers-refl [] = refl
+numbers-refl (x ∷ xs) = rw (eq-eqb x x refl) (numbers-refl xs)
+
+pub carried-is : (a b : Carried) → sameCarried a b ≡ true → a ≡ b
+unfolding sameCarried
+carried-is a b h =
+    let o = both (eqb (a .owner) (b .owner)) _ h in
+    let f = both (eqb (a .form) (b .form)) _ (o .1) in
+    let l = both (eqb (a .label) (b .label)) _ (f .1) in
+    let p = both (eqb (a .part) (b .part)) _ (l .1) in
+    let w = both (eqb (a .weight) (b .weight)) (sameNumbers (a .points) (b .points)) (p .1) in
+    λ i. record {
+      owner = eqb-true (a .owner) (b .owner) (o .0) i;
+      form = eqb-true (a .form) (b .form) (f .0) i;
+      label = eqb-true (a .label) (b .label) (l .0) i;
+      part = eqb-true (a .part) (b .part) (p .0) i;
+      weight = eqb-true (a .weight) (b .weight) (w .0) i;
+      points = numbers-is (a .points) (b .points) (w .1) i;
+    }
+
+pub carried-refl : (a : Carried) → sameCarried a a ≡ true
+unfolding sameCarried
+carried-refl a =
+    rw (eq-eqb (a .owner) (a .owner) refl, eq-eqb (a .form) (a .form) refl, eq-eqb (a .label) (a .label) refl, eq-eqb (a .part) (a .part) refl, eq-eqb (a .weight) (a .weight) refl)
+    (numbers-refl (a .points))
+
+pub same-is : (a b : List Carried) → same a b ≡ true → a ≡ b
+unfolding same
+same-is [] [] h = refl
+same-is [] (y ∷ ys) h = absurd-bool h
+same-is (x ∷ xs) [] h = absurd-bool h
+same-is (x ∷ xs) (y ∷ ys) h =
+    let b = both (sameCarried x y) (same xs ys) h in
+    ap₂ (λ (a : Carried) (r : List Carried). a ∷ r) (carried-is x y (b .0)) (same-is xs ys (b .1))
+
+pub same-refl : (a : List Carried) → same a a ≡ true
+unfolding same
+same-refl [] = refl
+same-refl (x ∷ xs) = rw (carried-refl x) (same-refl xs)
+
+pub carried-exactly : (a b : Carried) → (sameCarried a b ≡ true) ↔ (a ≡ b)
+carried-exactly a b = (carried-is a b, λ e. rw e (carried-refl b))
+
+pub same-exactly : (a b : List Carried) → (same a b ≡ true) ↔ (a ≡ b)
+same-exactly a b = (same-is a b, λ e. rw e (same-refl b))
+
+-- ---- seen, and where
+pub seen-here : (l : List (List Carried)) (i : ℕ) → i < length l → seenIn (getD l i []) l ≡ true
+unfolding seenIn
+seen-here [] i h = absurd (omega arith)
+seen-here (x ∷ l) zero h = rw (same-refl x)
+seen-here (x ∷ l) (suc i) h = split (same (getD l i []) x) (λ e. rw e) (λ e. rw e (seen-here l i (omega arith)))
+
+pub not-seen : (v : List Carried) (l : List (List Carried)) → seenIn v l ≡ false → (i : ℕ) → i < length l → getD l i [] ≡ v → ⊥
+not-seen v l h i b e = absurd-bool (sym h ∙ (rw e at (seen-here l i b)))
+
+module _ (v : List Carried) where
+  pub place-below : (l : List (List Carried)) → seenIn v l ≡ true → placeIn v l < length l
+  unfolding seenIn placeIn
+  place-below [] h = absurd-bool h
+  place-below (x ∷ l) h = split (same v x) (λ e. rw e (omega arith)) (λ e. rw e (omega (arith, place-below l (rw e at h))))
+
+  pub place-get : (l : List (List Carried)) → seenIn v l ≡ true → getD l (placeIn v l) [] ≡ v
+  unfolding seenIn placeIn
+  place-get [] h = absurd-bool h
+  place-get (x ∷ l) h = split (same v x) (λ e. rw e (sym (same-is v x e))) (λ e. rw e (place-get l (rw e at h)))
+
+  pub seen-more : (l m : List (List Carried)) → seenIn v l ≡ true → seenIn v (l ++ m) ≡ true
+  unfolding seenIn
+  seen-more [] m h = absurd-bool h
+  seen-more (x ∷ l) m h = split (same v x) (λ e. rw e) (λ e. rw e (seen-more l m (rw e at h)))
+
+  pub place-more : (l m : List (List Carried)) → seenIn v l ≡ true → placeIn v (l ++ m) ≡ placeIn v l
+  unfolding seenIn placeIn
+  place-more [] m h = absurd-bool h
+  place-more (x ∷ l) m h = split (same v x) (λ e. rw e) (λ e. rw e (ap suc (place-more l m (rw e at h))))
+
+  pub seen-next : (l m : List (List Carried)) → seenIn v (l ++ (v ∷ m)) ≡ true
+  unfolding seenIn
+  seen-next [] m = rw (same-refl v)
+  seen-next (x ∷ l) m = split (same v x) (λ e. rw e) (λ e. rw e (seen-next l m))
+
+  pub place-next : (l m : List (List Carried)) → seenIn v l ≡ false → placeIn v (l ++ (v ∷ m)) ≡ length l
+  unfolding seenIn placeIn
+  place-next [] m h = rw (same-refl v)
+  place-next (x ∷ l) m h = split (same v x) (λ e. absurd-bool (sym (rw e at h))) (λ e. rw e (ap suc (place-next l m (rw e at h))))
+
+-- ---- lists that grow at their end
+pub record Grows (l m : List (List Carried)) : Type 0 where
+  pub more : List (List Carried)
+  pub is : m ≡ l ++ more
+
+pub grows-refl : (l : List (List Carried)) → Grows l l
+grows-refl l = record { more = []; is = sym (append-nil l) }
+
+pub grows-trans : (l m n : List (List Carried)) → Grows l m → Grows m n → Grows l n
+grows-trans l m n g h = record { more = g .more ++ h .more; is = h .is ∙ ap (λ (x : List (List Carried)). x ++ h .more) (g .is) ∙ append-assoc l (g .more) (h .more) }
+
+pub grows-seen : (v : List Carried) (l m : List (List Carried)) → Grows l m → seenIn v l ≡ true → seenIn v m ≡ true
+grows-seen v l m g h = rw (g .is) (seen-more v l (g .more) h)
+
+pub grows-place : (v : List Carried) (l m : List (List Carried)) → Grows l m → seenIn v l ≡ true → placeIn v m ≡ placeIn v l
+grows-place v l m g h = rw (g .is) (place-more v l (g .more) h)
+
+-- ---- one more lookup
+snoc-length : (l : List (List Carried)) (v : List Carried) → length (l ++ (v ∷ [])) ≡ suc (length l)
+snoc-length l v = omega (arith, length-append l (v ∷ []))
+
+pub noted-grows : (l : List (List Carried)) (o : Option (List Carried)) → Grows l (noted l o)
+unfolding noted
+noted-grows l none = grows-refl l
+noted-grows l (some v) = split (seenIn v l) (λ e. rw e (grows-refl l)) (λ e. rw e (record { more = v ∷ []; is = refl }))
+
+-- nothing noted is lost
+pub noted-seen : (l : List (List Carried)) (v : List Carried) → seenIn v (noted l (some v)) ≡ true
+unfolding noted
+noted-seen l v = split (seenIn v l) (λ e. rw e e) (λ e. rw e (seen-next v l []))
+
+-- a number given once stays
+pub noted-number : (l m : List (List Carried)) (o : Option (List Carried)) → Grows (noted l o) m → numberIn m o ≡ numberIn (noted l o) o
+unfolding numberIn
+noted-number l m none g = refl
+noted-number l m (some v) g = ap suc (grows-place v (noted l (some v)) m g (noted-seen l v))
+
+-- it is at most 1 more than the count of the lists so far, and the greater of the two is the count behind it
+pub noted-least : (l : List (List Carried)) (o : Option (List Carried)) → numberIn (noted l o) o ≤ length l + 1
+unfolding numberIn noted
+noted-least l none = omega arith
+noted-least l (some v) =
+    split (seenIn v l)
+    (λ e. rw e (omega (arith, place-below v l e)))
+    (λ e. rw e (omega (arith, place-next v l [] e)))
+
+pub noted-most : (l : List (List Carried)) (o : Option (List Carried)) → most (length l) (numberIn (noted l o) o) ≡ length (noted l o)
+unfolding numberIn noted
+noted-most l none = rw (le-ltb (length l) 0 (omega arith))
+noted-most l (some v) =
+    split (seenIn v l)
+    (λ e. rw (e, le-ltb (length l) (suc (placeIn v l)) (omega (arith, place-below v l e))))
+    (λ e. rw (e, place-next v l [] e, lt-ltb (length l) (suc (length l)) (omega arith)) (sym (snoc-length l v)))
+
+-- no list stands twice
+abbrev pub Once : List (List Carried) → Type 0
+Once l = (i j : ℕ) → i < length l → j < length l → getD l i [] ≡ getD l j [] → i ≡ j
+
+once-snoc : (l : List (List Carried)) (v : List Carried) → seenIn v l ≡ false → Once l → Once (l ++ (v ∷ []))
+once-snoc l v f h i j a b e =
+    split (ltb i (length l))
+    (λ p. let i' : i < length l = ltb-true i (length l) p in
+    let x : getD (l ++ (v ∷ [])) i [] ≡ getD l i [] = List·getD-append l (v ∷ []) [] i i' in
+    split (ltb j (length l))
+    (λ q. let j' : j < length l = ltb-true j (length l) q in
+    h i j i' j' (sym x ∙ e ∙ List·getD-append l (v ∷ []) [] j j'))
+    (λ q. let k : j ≡ length l = omega (arith, ltb-false j (length l) q, snoc-length l v) in
+    absurd (not-seen v l f i i' (sym x ∙ e ∙ rw k (getD-append-seam l v [] [])))))
+    (λ p. let m : i ≡ length l = omega (arith, ltb-false i (length l) p, snoc-length l v) in
+    let x : getD (l ++ (v ∷ [])) i [] ≡ v = rw m (getD-append-seam l v [] []) in
+    split (ltb j (length l))
+    (λ q. let j' : j < length l = ltb-true j (length l) q in
+    absurd (not-seen v l f j j' (sym (List·getD-append l (v ∷ []) [] j j') ∙ sym e ∙ x)))
+    (λ q. omega (arith, ltb-false j (length l) q, snoc-length l v)))
+
+pub noted-once : (l : List (List Carried)) (o : Option (List Carried)) → Once l → Once (noted l o)
+unfolding noted
+noted-once l none h = h
+noted-once l (some v) h = split (seenIn v l) (λ e. rw e h) (λ e. rw e (once-snoc l v e h))
+
+-- what is noted is the lookup's
+pub noted-from : (l : List (List Carried)) (o : Option (List Carried)) (i : ℕ) → i < length (noted l o) → length l ≤ i → o ≡ some (getD (noted l o) i [])
+unfolding noted
+noted-from l none i h b = absurd (omega arith)
+noted-from l (some v) i h b =
+    split (seenIn v l)
+    (λ e. absurd (omega (arith, rw e at h)))
+    (λ e. let g : i < length (l ++ (v ∷ [])) = rw e at h in
+    let k : i ≡ length l = omega (arith, snoc-length l v) in
+    rw (e, k) (ap some (sym (getD-append-seam l v [] []))))
+
+-- where no list stands twice, a list's place is where it stands
+pub place-once : (l : List (List Carried)) → Once l → (i : ℕ) → i < length l → placeIn (getD l i []) l ≡ i
+place-once l h i b =
+    let s = seen-here l i b in
+    h (placeIn (getD l i []) l) i (place-below (getD l i []) l s) b (place-get (getD l i []) l s)

@@ -1,0 +1,11 @@
+pub mod Tests
+pub mod Stepped
+pub mod Places
+pub mod Rows
+pub mod SameLoops
+pub mod Lists
+pub mod Records
+pub mod Reading
+pub mod AtEnd
+pub mod Turns
+pub mod Single

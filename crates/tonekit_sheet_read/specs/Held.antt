@@ -1,0 +1,56 @@
+-- What the reader's struct and answer stand for.
+use Prim.Native.Nat.{ℕ, zero, suc, _+_, _*_, _≤_, _<_}
+use mathlib.Core.Path.{_≡_}
+use mathlib.Core.List.{List, [], _∷_, _++_}
+use lib.ListN.{length}
+use Rattle.tonekit_pack.specs.Held.{inOrder}
+use Rattle.tonekit_sheet_read.specs.declared.Sheet.{Sheet}
+use Rattle.tonekit_sheet_read.specs.declared.SheetRead.{SheetRead}
+use Rattle.tonekit_sheet_read.specs.declared.SheetRead.the-variants.{Good, Refused}
+use Rattle.tonekit_sheet_read.specs.declared.Loaded.{Loaded}
+use Rattle.tonekit_sheet.specs.Reader.{Sst, Out, loaded, refused}
+
+-- n offsets from o on, each step behind the one before
+unfoldable pub stepped : ℕ → ℕ → ℕ → List ℕ
+stepped o step zero = []
+stepped o step (suc n) = stepped o step n ++ ((o + step * n) ∷ [])
+
+-- tones and accents stand one behind the other, after the settings
+abbrev pub shown : Sheet → Sst
+shown p = record {
+  last = p .last;
+  tones = stepped 9 15 (p .tones);
+  accents = stepped (9 + 15 * p .tones) 18 (p .accents);
+  rows = p .rows;
+  lists = inOrder (p .listat) (p .lists);
+  due = p .due;
+  total = p .total;
+}
+
+abbrev pub outcome : SheetRead → Sst → Out
+outcome (Good e) st = loaded st e
+outcome (Refused r place) st = refused r place
+
+abbrev pub answeredAt : SheetRead → Sheet → Out
+answeredAt r p = outcome r (shown p)
+
+abbrev pub answered : Loaded → Out
+answered l = answeredAt (l .read) (l .sheet)
+
+-- the counts keep document 01's limits, and the array has the length of its own
+pub record Roomy (p : Sheet) : Type 0 where
+  pub few-tones : p .tones ≤ 8
+  pub few-accents : p .accents ≤ 8
+  pub few-rows : p .rows ≤ 576
+  pub few-lists : p .lists ≤ 128
+  pub few-due : p .due ≤ 4
+  pub few-in-all : p .total ≤ 192
+  pub list-slots : length (p .listat) ≡ 128
+
+-- the record of kind k at o, a list of so many components, may follow what was read: it stands where it is shown to, and there is room for it
+pub record Follows (k o count : ℕ) (p : Sheet) : Type 0 where
+  pub tone : k ≡ 18 → (o ≡ 9 + 15 * p .tones) × (p .tones < 8) × (p .accents ≡ 0)
+  pub accent : k ≡ 19 → (o ≡ 9 + 15 * p .tones + 18 * p .accents) × (p .accents < 8)
+  pub row : k ≡ 20 → p .rows < 576
+  pub list : k ≡ 21 → (o < 65536) × (p .lists < 128) × (count ≤ 4)
+  pub component : k ≡ 22 → (1 ≤ p .due) × (p .total < 192)

@@ -1,0 +1,186 @@
+// What is judged at a sheet's end: list references (7), then the order (8).
+ghost use mathlib.Core.Path.{_≡_};
+ghost use Prim.Native.Nat.{_+_, _*_, _<_, _≤_};
+ghost use lib.ListN.{length, getD};
+ghost use Rattle.tonekit_pack.specs.Pack.{numberAt, zeroOrHeld};
+ghost use Rattle.tonekit_pack.specs.Held.{inOrder};
+ghost use Rattle.tonekit_sheet.specs.Reader.{rowsDue, rowAt, looseRow, accentDown, prevDue, rowDue, most, rowNames, rowWrong, named, listSize, sameLists, repeated, listWrong};
+ghost use Rattle.tonekit_sheet_read.specs.Held.{shown, Roomy};
+use crate::Sheet;
+use tonekit_bytes::byte_at;
+use tonekit_expect::Found;
+
+// The offset of row r, of at most 576.
+pub fn row_at(st: Sheet, r: usize) -> usize
+    requires { ⌜ Roomy st × (r ≤ 576) ⌝ }
+    ensures { λ o. ⌜ (o ≡ rowAt (shown st) r) × (o ≤ 4000) ⌝ }
+{
+    9 + 15 * st.tones + 18 * st.accents + 6 * r
+}
+
+// 0, or the number of one of the first n lists at these offsets.
+fn list_there(s: &[u8], at: [u16; 128], n: usize, x: u8) -> bool
+    requires { ⌜ n ≤ 128 ⌝ }
+    ensures { λ r. ⌜ r ≡ zeroOrHeld (now (s .entry)) (inOrder at n) x ⌝ }
+{
+    if x == 0 {
+        return true;
+    }
+    for i in 0..n {
+        if byte_at(s, at[i] as usize, 1) == x {
+            return true;
+        }
+    }
+    false
+}
+
+// The first row that names a list that is not there.
+pub fn loose_row(s: &[u8], st: Sheet) -> Found
+    requires { ⌜ Roomy st ⌝ }
+    ensures { λ r. ⌜ r ≡ looseRow (now (s .entry)) (shown st) ⌝ }
+{
+    let at = st.listat;
+    for r in 0..st.rows {
+        let o = row_at(st, r);
+        let not_final = list_there(s, at, st.lists, byte_at(s, o, 4));
+        let last = list_there(s, at, st.lists, byte_at(s, o, 5));
+        if !(not_final & last) {
+            return Found::At(o);
+        }
+    }
+    Found::Nothing
+}
+
+// The first accent whose number is not above that of the one before it.
+pub fn accent_down(s: &[u8], st: Sheet) -> Found
+    requires { ⌜ Roomy st ⌝ }
+    ensures { λ r. ⌜ r ≡ accentDown (now (s .entry)) (shown st) ⌝ }
+{
+    let mut before = 0;
+    for i in 0..st.accents {
+        let o = 9 + 15 * st.tones + 18 * i;
+        let n = byte_at(s, o, 1);
+        if !(before < n) {
+            return Found::At(o);
+        }
+        before = n;
+    }
+    Found::Nothing
+}
+
+// The number before a row's tone that is due at a place of prev: none, then the tones.
+fn prev_due(s: &[u8], st: Sheet, p: usize) -> u8
+    requires { ⌜ Roomy st × (p ≤ st .tones) ⌝ }
+    ensures { λ r. ⌜ r ≡ prevDue (now (s .entry)) (shown st) p ⌝ }
+{
+    if p == 0 {
+        return 0;
+    }
+    byte_at(s, 9 + 15 * (p - 1), 1)
+}
+
+// Whether row r is the one due at its place.
+fn row_due(s: &[u8], st: Sheet, r: usize) -> bool
+    requires { ⌜ Roomy st × (r < rowsDue (shown st)) ⌝ }
+    ensures { λ b. ⌜ b ≡ rowDue (now (s .entry)) (shown st) r ⌝ }
+{
+    let o = row_at(st, r);
+    let each = st.tones + 1;
+    let a = r / (st.tones * each);
+    let t = r / each % st.tones;
+    let p = r % each;
+    let accent = byte_at(s, o, 1) == byte_at(s, 9 + 15 * st.tones + 18 * a, 1);
+    let tone = byte_at(s, o, 2) == byte_at(s, 9 + 15 * t, 1);
+    accent & (tone & (byte_at(s, o, 3) == prev_due(s, st, p)))
+}
+
+// The greater of two list numbers.
+fn most(m: u8, n: u8) -> u8
+    ensures { λ r. ⌜ r ≡ most m n ⌝ }
+{
+    if m < n { n } else { m }
+}
+
+// Whether row r names no list above 1 more than the greatest before it.
+fn row_names(s: &[u8], st: Sheet, r: usize, m: u8) -> bool
+    requires { ⌜ Roomy st × (r ≤ 576) ⌝ }
+    ensures { λ b. ⌜ b ≡ rowNames (now (s .entry)) (shown st) r m ⌝ }
+{
+    let o = row_at(st, r);
+    let n = byte_at(s, o, 4);
+    let last = byte_at(s, o, 5);
+    (n as usize <= m as usize + 1) & (last as usize <= most(m, n) as usize + 1)
+}
+
+// The first row that is not the one due, or names a list out of order. All rows are there.
+pub fn row_wrong(s: &[u8], st: Sheet) -> Found
+    requires { ⌜ Roomy st × (st .rows ≤ rowsDue (shown st)) ⌝ }
+    ensures { λ r. ⌜ r ≡ rowWrong (now (s .entry)) (shown st) ⌝ }
+{
+    let mut m = 0;
+    for r in 0..st.rows {
+        let o = row_at(st, r);
+        if !(row_due(s, st, r) & row_names(s, st, r, m)) {
+            return Found::At(o);
+        }
+        m = most(most(m, byte_at(s, o, 4)), byte_at(s, o, 5));
+    }
+    Found::Nothing
+}
+
+// Whether a row names list n.
+fn named(s: &[u8], st: Sheet, n: usize) -> bool
+    requires { ⌜ Roomy st ⌝ }
+    ensures { λ b. ⌜ b ≡ named (now (s .entry)) (shown st) n ⌝ }
+{
+    let mut used = false;
+    for r in 0..st.rows {
+        let o = row_at(st, r);
+        let first = byte_at(s, o, 4) as usize == n;
+        let last = byte_at(s, o, 5) as usize == n;
+        used = used | (first | last);
+    }
+    used
+}
+
+// Whether the lists at two offsets are equal but for their numbers.
+fn same_lists(s: &[u8], a: usize, b: usize) -> bool
+    ensures { λ r. ⌜ r ≡ sameLists (now (s .entry)) a b ⌝ }
+{
+    let mut ok = true;
+    let size = 7 + 45 * (byte_at(s, a, 6) as usize);
+    for k in 2..size {
+        ok = ok & (byte_at(s, a, k) == byte_at(s, b, k));
+    }
+    ok
+}
+
+// Whether one of the first n lists is equal to the one at o.
+fn repeated(s: &[u8], at: [u16; 128], n: usize, o: usize) -> bool
+    requires { ⌜ n ≤ 128 ⌝ }
+    ensures { λ r. ⌜ r ≡ repeated (now (s .entry)) at n o ⌝ }
+{
+    let mut hit = false;
+    for i in 0..n {
+        hit = hit | same_lists(s, o, at[i] as usize);
+    }
+    hit
+}
+
+// The first list that has not its place as its number, is named by no row, or is equal to an
+// earlier one.
+pub fn list_wrong(s: &[u8], st: Sheet) -> Found
+    requires { ⌜ Roomy st ⌝ }
+    ensures { λ r. ⌜ r ≡ listWrong (now (s .entry)) (shown st) ⌝ }
+{
+    let at = st.listat;
+    for i in 0..st.lists {
+        let o = at[i] as usize;
+        let numbered = byte_at(s, o, 1) as usize == i + 1;
+        let fine = numbered & (named(s, st, i + 1) & !repeated(s, at, i, o));
+        if !fine {
+            return Found::At(o);
+        }
+    }
+    Found::Nothing
+}

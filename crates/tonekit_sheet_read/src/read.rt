@@ -1,0 +1,265 @@
+// What is said of one record of a sheet, and what is kept of it.
+ghost use mathlib.Core.Path.{_≡_};
+ghost use Prim.Native.Nat.{_+_, _*_, _<_, _≤_};
+ghost use lib.ListN.{length};
+ghost use Rattle.tonekit_pack.specs.Pack.{holds, zeroOrHeld};
+ghost use Rattle.tonekit_pack.specs.Held.{inOrder};
+ghost use Rattle.tonekit_sheet.specs.Reader.{rowsDue, complete, dueNext, sizeOf, toneVerdict, accentVerdict, rowVerdict, listVerdict, pointFine, pointsFine, lastList, componentVerdict, bodyVerdict, recordVerdict, added, start};
+ghost use Rattle.tonekit_sheet_read.specs.Held.{stepped, shown, Roomy, Follows};
+use crate::Sheet;
+use tonekit_bytes::byte_at;
+use tonekit_bytes::f32_at;
+use tonekit_bytes::u16_at;
+use tonekit_bytes::u32_at;
+use tonekit_core::Refusal;
+use tonekit_core::Verdict;
+use tonekit_core::limits;
+use tonekit_pack::ranges::a_share;
+use tonekit_pack::ranges::region_fine;
+use tonekit_pack::ranges::tolerances_fine;
+use tonekit_pack::ranges::weight_fine;
+use tonekit_pack::read::in_turn;
+use tonekit_pack::read::settings_verdict;
+use tonekit_sheet::size_of;
+
+// The rows that are due: one for each accent, tone, and tone or none before it.
+pub fn rows_due(st: Sheet) -> usize
+    requires { ⌜ Roomy st ⌝ }
+    ensures { λ r. ⌜ (r ≡ rowsDue (shown st)) × (r ≤ 576) ⌝ }
+{
+    st.accents * (st.tones * (st.tones + 1))
+}
+
+// Whether all rows are there, and all components of the last list.
+fn complete(st: Sheet) -> bool
+    requires { ⌜ Roomy st ⌝ }
+    ensures { λ r. ⌜ r ≡ complete (shown st) ⌝ }
+{
+    if st.last == 20 {
+        return st.rows == rows_due(st);
+    }
+    (st.last == 22) & (st.due == 0)
+}
+
+// Whether a record of kind k may stand here.
+fn due_next(st: Sheet, k: u8) -> bool
+    requires { ⌜ Roomy st ⌝ }
+    ensures { λ r. ⌜ r ≡ dueNext (shown st) k ⌝ }
+{
+    let last = st.last;
+    match k {
+        17 => last == 0,
+        18 => (last == 17) | (last == 18),
+        19 => (last == 18) | (last == 19),
+        20 => ((last == 19) | (last == 20)) & (st.rows < rows_due(st)),
+        21 => complete(st),
+        22 => 0 < st.due,
+        23 => complete(st),
+        _ => false,
+    }
+}
+
+// Whether one of n records, from an offset on and each so many bytes behind the one before, has x
+// as its number.
+pub fn holds_from(s: &[u8], o: usize, step: usize, n: usize, x: u8) -> bool
+    requires { ⌜ (o ≤ 65536) × (step ≤ 18) × (n ≤ 8) ⌝ }
+    ensures { λ r. ⌜ r ≡ holds (now (s .entry)) (stepped o step n) x ⌝ }
+{
+    for i in 0..n {
+        if byte_at(s, o + step * i, 1) == x {
+            return true;
+        }
+    }
+    false
+}
+
+// Whether a tone has x as its number; and an accent.
+fn tone_held(s: &[u8], st: Sheet, x: u8) -> bool
+    requires { ⌜ Roomy st ⌝ }
+    ensures { λ r. ⌜ r ≡ holds (now (s .entry)) (shown st .tones) x ⌝ }
+{
+    holds_from(s, 9, 15, st.tones, x)
+}
+
+fn accent_held(s: &[u8], st: Sheet, x: u8) -> bool
+    requires { ⌜ Roomy st ⌝ }
+    ensures { λ r. ⌜ r ≡ holds (now (s .entry)) (shown st .accents) x ⌝ }
+{
+    holds_from(s, 9 + 15 * st.tones, 18, st.accents, x)
+}
+
+// What is said of a record of each kind that is due and whole.
+fn tone_verdict(s: &[u8], o: usize, st: Sheet) -> Verdict
+    requires { ⌜ Roomy st × (o + 15 ≤ length (now s)) ⌝ }
+    ensures { λ r. ⌜ r ≡ toneVerdict (now (s .entry)) o (shown st) ⌝ }
+{
+    let number = byte_at(s, o, 1);
+    let share = a_share(f32_at(s, o, 2));
+    let region = region_fine(s, o + 6);
+    let fine = (number != 0) & (share & region);
+    let new = !tone_held(s, st, number);
+    in_turn(limits::TONES <= st.tones, fine, new, true)
+}
+
+fn accent_verdict(s: &[u8], o: usize, st: Sheet) -> Verdict
+    requires { ⌜ Roomy st × (o + 18 ≤ length (now s)) ⌝ }
+    ensures { λ r. ⌜ r ≡ accentVerdict (now (s .entry)) o (shown st) ⌝ }
+{
+    let number = byte_at(s, o, 1);
+    let fine = (number != 0) & tolerances_fine(s, o + 2);
+    let new = !accent_held(s, st, number);
+    in_turn(limits::ACCENTS <= st.accents, fine, new, true)
+}
+
+fn row_verdict(s: &[u8], o: usize, st: Sheet) -> Verdict
+    requires { ⌜ Roomy st ⌝ }
+    ensures { λ r. ⌜ r ≡ rowVerdict (now (s .entry)) o (shown st) ⌝ }
+{
+    let accent = byte_at(s, o, 1);
+    let tone = byte_at(s, o, 2);
+    let prev = byte_at(s, o, 3);
+    let fine = (accent != 0) & (tone != 0);
+    let before = (prev == 0) | tone_held(s, st, prev);
+    let held = accent_held(s, st, accent) & (tone_held(s, st, tone) & before);
+    in_turn(false, fine, true, held)
+}
+
+fn list_verdict(s: &[u8], o: usize, st: Sheet) -> Verdict
+    requires { ⌜ Roomy st ⌝ }
+    ensures { λ r. ⌜ r ≡ listVerdict (now (s .entry)) o (shown st) ⌝ }
+{
+    let owner = byte_at(s, o, 2);
+    let form = byte_at(s, o, 3);
+    let label = u16_at(s, o, 4);
+    let count = byte_at(s, o, 6);
+    let crowded = (limits::LISTS <= st.lists) | ((4 < count) | ((1 < count) & (form != 3)));
+    let counted = (count != 0) & ((form != 1) | (label == 0));
+    let formed = ((1 <= form) & (form <= 3)) & counted;
+    let fine = (byte_at(s, o, 1) != 0) & ((owner != 0) & formed);
+    in_turn(crowded, fine, true, accent_held(s, st, owner))
+}
+
+// Of size at most 128.
+pub fn point_fine(x: f32) -> bool
+    ensures { λ r. ⌜ r ≡ pointFine x ⌝ }
+{
+    (-128.0 <= x) & (x <= 128.0)
+}
+
+// Ten points from an offset on.
+fn points_fine(s: &[u8], o: usize) -> bool
+    ensures { λ r. ⌜ r ≡ pointsFine (now (s .entry)) o ⌝ }
+{
+    let mut ok = true;
+    for k in 0..10 {
+        ok = ok & point_fine(f32_at(s, o, 4 * k));
+    }
+    ok
+}
+
+// The offset of the last list, 0 where there is none.
+fn last_list(st: Sheet) -> usize
+    requires { ⌜ Roomy st ⌝ }
+    ensures { λ r. ⌜ r ≡ lastList (shown st) ⌝ }
+{
+    let at = st.listat;
+    let n = st.lists;
+    if n == 0 {
+        return 0;
+    }
+    at[n - 1] as usize
+}
+
+fn component_verdict(s: &[u8], o: usize, st: Sheet) -> Verdict
+    requires { ⌜ Roomy st × (o + 45 ≤ length (now s)) ⌝ }
+    ensures { λ r. ⌜ r ≡ componentVerdict (now (s .entry)) o (shown st) ⌝ }
+{
+    let weight = u32_at(s, o, 1);
+    let mixture = byte_at(s, last_list(st), 3) == 3;
+    let curve = points_fine(s, o + 5);
+    let fine = weight_fine(weight) & ((mixture | (weight == 0x3f80_0000)) & curve);
+    in_turn(limits::COMPONENTS <= st.total, fine, true, true)
+}
+
+fn body_verdict(k: u8, s: &[u8], o: usize, st: Sheet) -> Verdict
+    requires { ⌜ Roomy st × (o + sizeOf k ≤ length (now s)) ⌝ }
+    ensures { λ r. ⌜ r ≡ bodyVerdict k (now (s .entry)) o (shown st) ⌝ }
+{
+    match k {
+        17 => settings_verdict(s, o),
+        18 => tone_verdict(s, o, st),
+        19 => accent_verdict(s, o, st),
+        20 => row_verdict(s, o, st),
+        21 => list_verdict(s, o, st),
+        22 => component_verdict(s, o, st),
+        _ => Verdict::Fine,
+    }
+}
+
+// What is said of the record at o, after what st has.
+pub fn record_verdict(s: &[u8], o: usize, st: Sheet) -> Verdict
+    requires { ⌜ Roomy st ⌝ }
+    ensures { λ r. ⌜ r ≡ recordVerdict (now (s .entry)) o (shown st) ⌝ }
+{
+    if s.len() <= o {
+        return Verdict::Refused(Refusal::CutShort);
+    }
+    let k = s[o];
+    if !due_next(st, k) {
+        return Verdict::Refused(Refusal::Misplaced);
+    }
+    if s.len() - o < size_of(k) {
+        return Verdict::Refused(Refusal::CutShort);
+    }
+    body_verdict(k, s, o, st)
+}
+
+// Before the first record.
+pub fn nothing() -> Sheet
+    ensures { λ r. ⌜ (shown r ≡ start .st) × Roomy r ⌝ }
+{
+    Sheet {
+        last: 0,
+        tones: 0,
+        accents: 0,
+        rows: 0,
+        lists: 0,
+        due: 0,
+        total: 0,
+        listat: [0; 128],
+    }
+}
+
+// What is kept once the record of kind k at o, a list of so many components, is fine.
+pub fn add(k: u8, o: usize, count: u8, st: Sheet) -> Sheet
+    requires { ⌜ Roomy st × Follows k o count st ⌝ }
+    ensures { λ r. ⌜ (shown r ≡ added k o count (shown st)) × Roomy r ⌝ }
+{
+    let mut next = st;
+    next.last = k;
+    if k == 18 {
+        next.tones = st.tones + 1;
+        return next;
+    }
+    if k == 19 {
+        next.accents = st.accents + 1;
+        return next;
+    }
+    if k == 20 {
+        next.rows = st.rows + 1;
+        return next;
+    }
+    if k == 21 {
+        let n = st.lists;
+        next.listat[n] = o as u16;
+        next.lists = n + 1;
+        next.due = count as usize;
+        return next;
+    }
+    if k == 22 {
+        next.due = st.due - 1;
+        next.total = st.total + 1;
+        return next;
+    }
+    next
+}
