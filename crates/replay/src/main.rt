@@ -1,5 +1,5 @@
 // Replays recorded calls: for each file of samples, how many were run and how many answers differ
-// from the recorded ones in number, place, length or bytes.
+// from the recorded ones in number, place, length or bytes. Calls that the port does not have wait.
 ghost use Prim.Native.Nat.{_<_};
 use tonekit_bytes::byte_at;
 use tonekit_bytes::u32_at;
@@ -50,13 +50,58 @@ fn shaped_so(query: &[u8], number: u8, place: u32, bytes: &[u8]) -> bool {
     }
 }
 
+// Whether the judgement of a query against a pack is as recorded.
+fn judged_so(pack: &[u8], query: &[u8], number: u8, place: u32, bytes: &[u8]) -> bool {
+    let mut out = [0u8; 64];
+    match tonekit_station::judge(pack, query, &mut out) {
+        Answer::Written(n) => (number == 0) & (n == place as usize) & check::same(&out, bytes),
+        Answer::Refused(r, at) => (tonekit_core::refusal_number(r) == number)
+            & (at == place as usize),
+    }
+}
+
+// Whether a call is one that the port has.
+fn asked(call: u8) -> bool {
+    match call {
+        1 | 2 | 4 | 6 => true,
+        _ => false,
+    }
+}
+
 // Whether a call answers as recorded: the recorded number, place or length, and bytes.
-fn agrees(call: u8, first: &[u8], number: u8, place: u32, bytes: &[u8]) -> bool {
+fn agrees(call: u8, first: &[u8], second: &[u8], number: u8, place: u32, bytes: &[u8]) -> bool {
     match call {
         1 => checked_so(tonekit_pack::check_pack(first), number, place),
         2 => checked_so(tonekit_query::check_query(first), number, place),
         4 => shaped_so(first, number, place, bytes),
+        6 => judged_so(first, second, number, place, bytes),
         _ => false,
+    }
+}
+
+// The count with one call more, where the port has it.
+fn counted(
+    c: Count,
+    call: u8,
+    first: &[u8],
+    second: &[u8],
+    number: u8,
+    place: u32,
+    bytes: &[u8],
+) -> Count {
+    if !asked(call) {
+        return c;
+    }
+    let run = std::num::wrapping_add_u64(c.run, 1);
+    if agrees(call, first, second, number, place, bytes) {
+        return Count {
+            run,
+            differ: c.differ,
+        };
+    }
+    Count {
+        run,
+        differ: std::num::wrapping_add_u64(c.differ, 1),
     }
 }
 
@@ -67,7 +112,7 @@ fn answer_length(number: u8, place: u32) -> usize
     if number == 0 { place as usize } else { 0 }
 }
 
-// Replays the samples that a file holds.
+// Replays the samples that a file holds, those of calls that the port has.
 fn replay(s: &[u8]) -> Count {
     let mut c = Count { run: 0, differ: 0 };
     let mut rest = s;
@@ -83,21 +128,17 @@ fn replay(s: &[u8]) -> Count {
         let place = u32_at(rest, at, 1);
         let length = answer_length(number, place);
         let bytes = part(rest, at + 5, length);
-        c = Count {
-            run: std::num::wrapping_add_u64(c.run, 1),
-            differ: if agrees(
-                byte_at(rest, 0, 0),
-                part(rest, 5, first),
-                number,
-                place,
-                bytes,
-            ) {
-                c.differ
-            } else {
-                std::num::wrapping_add_u64(c.differ, 1)
-            },
-        };
-        rest = part(rest, at + 5 + length, s.len());
+        c = counted(
+            c,
+            byte_at(rest, 0, 0),
+            part(rest, 5, first),
+            part(rest, 9 + first, second),
+            number,
+            place,
+            bytes,
+        );
+        let next = part(rest, at + 5 + length, s.len());
+        rest = next;
         turns -= 1;
     }
     c
@@ -123,4 +164,5 @@ fn report(name: &[u8]) {
 fn main() {
     report(b"checks.bin");
     report(b"shapes.bin");
+    report(b"judgements.bin");
 }

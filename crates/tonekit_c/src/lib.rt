@@ -11,6 +11,7 @@ ghost use Rattle.tonekit_log.specs.Exp.{expOf};
 ghost use Rattle.tonekit_pack.specs.Pack.{checkPack};
 ghost use Rattle.tonekit_query.specs.Query.{checkQuery};
 ghost use Rattle.tonekit_shape.specs.Record.{shapeOutcome};
+ghost use Rattle.tonekit_station.specs.Judgement.{judgeOutcome};
 ghost use Rattle.tonekit_c.specs.Export.{checkedNumber, checkedPlace, answerNumber, answerPlace};
 use tonekit_core::Answer;
 use tonekit_core::Checked;
@@ -69,6 +70,14 @@ pub extern "C" fn tonekit_write_shape(query: &[u8], out: &mut [u8], place: &mut 
     ensures { λ r. ⌜ (r ≡ answerNumber (answerIn (length (now (out .entry))) (shapeOutcome (now (query .entry))))) × (now (place .exit) ≡ answerPlace (answerIn (length (now (out .entry))) (shapeOutcome (now (query .entry))))) × (now (out .exit) ≡ bufferAfter (now (out .entry)) (shapeOutcome (now (query .entry)))) ⌝ }
 {
     hand_answer(tonekit_shape::write_shape(query, out), place)
+}
+
+// Judges a query against a pack: 0 and the record of 64 bytes, or the refusal's number and nothing.
+#[no_mangle]
+pub extern "C" fn tonekit_judge(pack: &[u8], query: &[u8], out: &mut [u8], place: &mut u64) -> u32
+    ensures { λ r. ⌜ (r ≡ answerNumber (answerIn (length (now (out .entry))) (judgeOutcome (now (pack .entry)) (now (query .entry))))) × (now (place .exit) ≡ answerPlace (answerIn (length (now (out .entry))) (judgeOutcome (now (pack .entry)) (now (query .entry))))) × (now (out .exit) ≡ bufferAfter (now (out .entry)) (judgeOutcome (now (pack .entry)) (now (query .entry)))) ⌝ }
+{
+    hand_answer(tonekit_station::judge(pack, query, out), place)
 }
 
 // The bits of the f32 nearest to an f64.

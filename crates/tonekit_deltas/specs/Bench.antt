@@ -11,10 +11,10 @@ use Rattle.tonekit_shape.specs.declared.ToneShape.{ToneShape}
 use Rattle.tonekit_deltas.specs.Deltas.{noDelta, noDeltas, kept, offer, offerEnd, endDeltas, deltasOf}
 use Rattle.tonekit_deltas.specs.declared.Deltas.{Deltas}
 
-abbrev half : Float
+abbrev pub half : Float
 half = ofBits binary32 0x3f00_0000
 
-abbrev more : Float
+abbrev pub more : Float
 more = ofBits binary32 0x3f40_0000
 
 abbrev one : Float
@@ -23,7 +23,7 @@ one = ofBits binary32 0x3f80_0000
 abbrev three : Float
 three = ofBits binary32 0x4040_0000
 
-abbrev zero : Float
+abbrev pub zero : Float
 zero = ofBits binary32 0
 
 -- a shape level at 3 but for its ends, which lie so much higher
@@ -44,7 +44,7 @@ raised onset offset = record {
 }
 
 -- its advice against a component level at 3, with tolerance 0.5, unwidened
-abbrev advice : Float → Float → Deltas
+abbrev pub advice : Float → Float → Deltas
 advice onset offset =
     deltasOf (raised onset offset) (replicate 10 three) (record { contour = half; onset = half; offset = half; turning = half }) one true
 

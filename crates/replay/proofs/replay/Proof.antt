@@ -1,5 +1,4 @@
 -- `replay` is safe and ends: the turns that are left fall.
-use mathlib.Core.Path.{_≡_, refl, sym, _∙_, ap}
 use borrow.Author.Needs.{needs}
 use Rattle.replay.proofs.replay.Statement.{statement}
 use Rattle.replay.proofs.replay.Tie as tie
@@ -39,7 +38,7 @@ replay-spec =
     (λ c κs. search needs)
     (λ c κs. search needs)
     (λ c κs. search needs)
-    (λ c κs. search needs)
+    (λ c. search needs)
     (λ c κs. search needs)
     (λ c κs. search needs)
     (λ c. search needs)

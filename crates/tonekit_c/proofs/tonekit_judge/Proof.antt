@@ -1,0 +1,18 @@
+-- `tonekit_judge` meets its contract, call by call.
+use borrow.Author.Needs.{needs}
+use Rattle.tonekit_c.proofs.tonekit_judge.Statement.{statement}
+use Rattle.tonekit_c.proofs.tonekit_judge.Tie as tie
+
+returns : tie.Need-returns
+returns c =
+    let w = c .before .before .before .before .judge .ensures in
+    rw (← w .0) (c .hand-answer .ensures .0, c .hand-answer .ensures .1, w .1)
+
+pub tonekit-judge-spec : {M : Type 1} → statement M
+tonekit-judge-spec =
+    tie.close
+    (tie.spec
+    (λ c κs. search needs)
+    (λ c κs. search needs)
+    (λ c. search needs)
+    returns)

@@ -1,0 +1,4 @@
+pub mod Floats
+pub mod Slots
+pub mod Few
+pub mod Tones

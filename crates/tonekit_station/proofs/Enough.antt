@@ -1,0 +1,38 @@
+-- 10,287 bytes of a query are enough to judge it: a query that loads has at most 10,286. Assumes nothing.
+use Prim.Native.Nat.{ℕ, _≤_}
+use mathlib.Core.Path.{_≡_, refl, _∙_, ap}
+use mathlib.Core.List.{List}
+use native.Mathlib.Omega.{arith}
+use lib.ListN.{length, take}
+use lib.Seq.{take-all}
+use Rattle.tonekit_query.specs.Query.{loadQuery, endOf}
+use Rattle.tonekit_query.specs.declared.QueryRead.{QueryRead}
+use Rattle.tonekit_query.specs.declared.QueryRead.the-variants as query
+use Rattle.tonekit_query.proofs.Laws.{load-reads, load-length, read-holds}
+use Rattle.tonekit_query.proofs.Enough.{load-enough}
+use Rattle.tonekit_pack.specs.Pack.{Out, loadPack}
+use Rattle.tonekit_pack.specs.Pack as pack
+use Rattle.tonekit_expect.specs.Source.{Source, sourceOfPack}
+use Rattle.tonekit_station.specs.Judgement.{onQuery, judgement, onPack, judgeOutcome}
+
+module _ (src : Source) (s : List ℕ) (n : ℕ) (h : 10287 ≤ n) where
+  either-way : (r : QueryRead) → loadQuery s ≡ r → onQuery src (take n s) r ≡ onQuery src s r
+  either-way (query.Refused r place) e = refl
+  either-way (query.Good q) e =
+      let l : length s ≡ endOf (q .count) = load-length s q e in
+      let c : q .count ≤ 1024 = read-holds s q (load-reads s q e) .count in
+      ap (λ (t : List ℕ). onQuery src t (query.Good q)) (take-all n s (omega arith))
+
+  pub judgement-enough : judgement src (take n s) ≡ judgement src s
+  unfolding judgement
+  judgement-enough = ap (onQuery src (take n s)) (load-enough s n h) ∙ either-way (loadQuery s) refl
+
+-- whatever the pack
+module _ (p s : List ℕ) (n : ℕ) (h : 10287 ≤ n) where
+  each-way : (o : Out) → onPack p (take n s) o ≡ onPack p s o
+  each-way (pack.refused r place) = refl
+  each-way (pack.loaded st e) = judgement-enough (sourceOfPack p st) s n h
+
+  pub judge-enough : judgeOutcome p (take n s) ≡ judgeOutcome p s
+  unfolding judgeOutcome
+  judge-enough = each-way (loadPack p)

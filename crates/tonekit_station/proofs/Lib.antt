@@ -1,0 +1,5 @@
+pub mod Search
+pub mod Ways
+pub mod Enough
+pub mod Depends
+pub mod Together
