@@ -1,5 +1,5 @@
-// The program `check`. check pack | check query: whether the bytes on standard input are one. Nothing is written for
-// input that loads, and 52, number, u32 place for input that does not.
+// The program `check`. check pack | check query | check sheet: whether the bytes on standard input are one. Nothing is
+// written for input that loads, and 52, number, u32 place for input that does not.
 use libc::STDERR_FILENO;
 use libc::STDIN_FILENO;
 use libc::STDOUT_FILENO;
@@ -25,6 +25,12 @@ fn check_query() {
     report(tonekit_query::check_query(&space[..n]));
 }
 
+fn check_sheet() {
+    let mut space = io::large_buffer();
+    let n = io::read_full(STDIN_FILENO, &mut space);
+    report(tonekit_sheet_read::check_sheet(&space[..n]));
+}
+
 fn main() {
     let mut word = [0u8; 8];
     let n = os::arg(1, &mut word);
@@ -37,9 +43,13 @@ fn main() {
             check_query();
             return;
         }
+        if check::same(&word[..n], b"sheet") {
+            check_sheet();
+            return;
+        }
     }
     io::write_all(
         STDERR_FILENO,
-        b"usage: check pack | check query, with the bytes on standard input\n",
+        b"usage: check pack | check query | check sheet, with the bytes on standard input\n",
     );
 }

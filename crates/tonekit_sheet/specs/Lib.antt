@@ -5,3 +5,5 @@ pub mod Reader
 pub mod FromSheet
 pub mod Agree
 pub mod Fit
+pub mod Bench
+pub mod Written

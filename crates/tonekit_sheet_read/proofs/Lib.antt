@@ -1,4 +1,3 @@
-pub mod Tests
 pub mod Stepped
 pub mod Places
 pub mod Rows
@@ -9,3 +8,11 @@ pub mod Reading
 pub mod AtEnd
 pub mod Turns
 pub mod Single
+pub mod Fine
+pub mod Kept
+pub mod Nothing
+pub mod Loads
+pub mod Looks
+pub mod Components
+pub mod FoundLists
+pub mod Front

@@ -14,7 +14,7 @@ use Rattle.tonekit_bytes.specs.Fields.{byteAt}
 use Rattle.tonekit_pack.specs.Pack.{numberAt, holds}
 use Rattle.tonekit_pack.proofs.Split.{split, either, neither, both}
 use Rattle.tonekit_pack.proofs.Records.{not-fine, Passed, passed}
-use Rattle.tonekit_sheet_read.proofs.Tests.{not-false}
+use borrow.Author.Tests.{not-false}
 use Rattle.tonekit_sheet.specs.Reader.{Sst, rowsDue, complete, dueNext, sizeOf, toneFine, toneVerdict, accentFine, accentVerdict, rowFine, rowHeld, rowVerdict, listCrowded, listFine, listVerdict, componentFine, componentVerdict, bodyVerdict, recordVerdict}
 
 -- a list or the end is due: after the last row, or after the last component of a list

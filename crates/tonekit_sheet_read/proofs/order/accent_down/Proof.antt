@@ -10,7 +10,7 @@ use Rattle.tonekit_sheet.specs.Reader.{accentTurn, accentDown}
 use Rattle.tonekit_sheet_read.specs.Held.{shown}
 use Rattle.tonekit_sheet_read.proofs.Stepped.{stepped-length, stepped-get}
 use lib.Dec.{ltb}
-use Rattle.tonekit_sheet_read.proofs.Tests.{not-true, not-false}
+use borrow.Author.Tests.{not-true, not-false}
 use Rattle.tonekit_sheet_read.proofs.order.accent_down.Statement.{statement}
 use Rattle.tonekit_sheet_read.proofs.order.accent_down.Tie as tie
 

@@ -10,7 +10,7 @@ use Rattle.tonekit_pack.proofs.InOrder.{order-length}
 use Rattle.tonekit_expect.specs.declared.Found.the-variants as found
 use Rattle.tonekit_sheet.specs.Reader.{listTurn, listWrong}
 use Rattle.tonekit_sheet_read.specs.Held.{shown}
-use Rattle.tonekit_sheet_read.proofs.Tests.{not-true, not-false}
+use borrow.Author.Tests.{not-true, not-false}
 use Rattle.tonekit_sheet_read.proofs.Lists.{list-turn-at}
 use Rattle.tonekit_sheet_read.proofs.order.list_wrong.Statement.{statement}
 use Rattle.tonekit_sheet_read.proofs.order.list_wrong.Tie as tie

@@ -8,7 +8,7 @@ use Rattle.tonekit_core.specs.Loop.{rangeTo, to-again, to-stop, to-ended}
 use Rattle.tonekit_expect.specs.declared.Found.the-variants as found
 use Rattle.tonekit_sheet.specs.Reader.{looseTurn, looseRow}
 use Rattle.tonekit_sheet_read.specs.Held.{shown}
-use Rattle.tonekit_sheet_read.proofs.Tests.{not-true, not-false}
+use borrow.Author.Tests.{not-true, not-false}
 use Rattle.tonekit_sheet_read.proofs.order.loose_row.Statement.{statement}
 use Rattle.tonekit_sheet_read.proofs.order.loose_row.Tie as tie
 

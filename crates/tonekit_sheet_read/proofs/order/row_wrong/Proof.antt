@@ -8,7 +8,7 @@ use mathlib.Core.Bool.{_&&_}
 use Rattle.tonekit_expect.specs.declared.Found.the-variants as found
 use Rattle.tonekit_sheet.specs.Reader.{rowTurn, rowWrong}
 use Rattle.tonekit_sheet_read.specs.Held.{shown}
-use Rattle.tonekit_sheet_read.proofs.Tests.{not-true, not-false}
+use borrow.Author.Tests.{not-true, not-false}
 use Rattle.tonekit_sheet_read.proofs.order.row_wrong.Statement.{statement}
 use Rattle.tonekit_sheet_read.proofs.order.row_wrong.Tie as tie
 

@@ -1,0 +1,170 @@
+-- Worked examples, computed: sheets that load, and refusals with their places, among them those that wait for the sheet's end.
+use Prim.Native.Nat.{ℕ}
+use mathlib.Core.Path.{_≡_, refl}
+use mathlib.Core.List.{List, [], _∷_, _++_}
+use lib.ListN.{replicate}
+use lib.Ieee.{lt, le, ofBits}
+use Rattle.tonekit_core.specs.Loop.{range, turns, rangeTo, turnsTo, loopTo, loopOn}
+use Rattle.tonekit_core.specs.declared.Refusal.the-variants.{Misplaced, Overrun, Crowded, OffScale, Loose, Unordered}
+use Rattle.tonekit_pack.specs.Ranges.{aboveZero, aShare, weightFine, regionFine, tolerancesFine}
+use Rattle.tonekit_pack.specs.Pack.{holds, zeroOrHeld, settingsVerdict}
+use Rattle.tonekit_sheet.specs.Reader.{Out, loaded, refused, complete, dueNext, sizeOf, toneVerdict, accentVerdict, rowVerdict, listVerdict, pointFine, pointsFine, componentVerdict, bodyVerdict, recordVerdict, added, looseRow, accentDown, rowDue, rowNames, rowWrong, named, sameLists, repeated, listWrong, finished, readSheet, loadSheet}
+
+-- what an input is, as a single sheet; opened, it computes
+unfoldable read : List ℕ → Out
+unfolding loadSheet readSheet finished looseRow accentDown rowDue rowNames rowWrong named sameLists repeated listWrong recordVerdict complete dueNext sizeOf bodyVerdict settingsVerdict toneVerdict accentVerdict rowVerdict listVerdict componentVerdict pointFine pointsFine holds zeroOrHeld added aboveZero aShare weightFine regionFine tolerancesFine range turns rangeTo turnsTo loopTo loopOn lt le ofBits
+read s = loadSheet s
+
+abbrev one : List ℕ
+one = 0 ∷ 0 ∷ 128 ∷ 63 ∷ []
+
+abbrev settings : List ℕ
+settings = 17 ∷ (one ++ one)
+
+-- a tone of prior 1 without a region, and an accent of tolerances 1
+abbrev tone : ℕ → List ℕ
+tone number = 18 ∷ number ∷ (one ++ replicate 9 0)
+
+abbrev accent : ℕ → List ℕ
+accent number = 19 ∷ number ∷ (one ++ (one ++ (one ++ one)))
+
+abbrev row : ℕ → ℕ → ℕ → ℕ → ℕ → List ℕ
+row a t p n m = 20 ∷ a ∷ t ∷ p ∷ n ∷ m ∷ []
+
+abbrev head : ℕ → ℕ → ℕ → ℕ → ℕ → List ℕ
+head number owner form label count = 21 ∷ number ∷ owner ∷ form ∷ label ∷ 0 ∷ count ∷ []
+
+-- a component of a weight, with all points 0
+abbrev component : List ℕ → List ℕ
+component weight = 22 ∷ (weight ++ replicate 40 0)
+
+-- a list with one component of weight 1: 52 bytes
+abbrev list : ℕ → ℕ → ℕ → ℕ → List ℕ
+list number owner form label = head number owner form label 1 ++ component one
+
+-- tone 1 and accent 1: the rows stand at 42 and 48, what follows at 54
+abbrev front : List ℕ
+front = settings ++ (tone 1 ++ accent 1)
+
+-- its two rows, which name these lists
+abbrev rows : ℕ → ℕ → ℕ → ℕ → List ℕ
+rows a b c d = front ++ (row 1 1 0 a b ++ row 1 1 1 c d)
+
+-- ---- sheets
+no-lists : read (rows 0 0 0 0 ++ (23 ∷ [])) ≡ loaded (record { last = 20; tones = 9 ∷ []; accents = 24 ∷ []; rows = 2; lists = []; due = 0; total = 0 }) 55
+unfolding read
+no-lists = refl
+
+one-list : read (rows 1 1 1 1 ++ (list 1 1 1 0 ++ (23 ∷ []))) ≡ loaded (record { last = 22; tones = 9 ∷ []; accents = 24 ∷ []; rows = 2; lists = 54 ∷ []; due = 0; total = 1 }) 107
+unfolding read
+one-list = refl
+
+-- not final first: 1, then 2; the two lists differ in label alone
+two-lists : read (rows 1 2 1 2 ++ (list 1 1 2 7 ++ (list 2 1 2 8 ++ (23 ∷ [])))) ≡ loaded (record { last = 22; tones = 9 ∷ []; accents = 24 ∷ []; rows = 2; lists = 54 ∷ 106 ∷ []; due = 0; total = 2 }) 159
+unfolding read
+two-lists = refl
+
+-- two accents, and a list of each, which differ in owner alone
+two-owners : read (settings ++ (tone 1 ++ (accent 1 ++ (accent 2 ++ (row 1 1 0 1 1 ++ (row 1 1 1 1 1 ++ (row 2 1 0 2 2 ++ (row 2 1 1 2 2 ++ (list 1 1 1 0 ++ (list 2 2 1 0 ++ (23 ∷ []))))))))))) ≡ loaded (record { last = 22; tones = 9 ∷ []; accents = 24 ∷ 42 ∷ []; rows = 4; lists = 84 ∷ 136 ∷ []; due = 0; total = 2 }) 189
+unfolding read
+two-owners = refl
+
+-- ---- what waits for the end
+-- a list number that no list record gives, although there are as many lists
+loose-number : read (rows 1 1 1 1 ++ (list 2 1 1 0 ++ (23 ∷ []))) ≡ refused Loose 42
+unfolding read
+loose-number = refl
+
+-- a loose number in the second row outranks the first row, which is not the one due
+loose-first : read (front ++ (row 1 1 1 1 1 ++ (row 1 1 0 1 2 ++ (list 1 1 1 0 ++ (23 ∷ []))))) ≡ refused Loose 48
+unfolding read
+loose-first = refl
+
+-- accent 2 before accent 1: 8 at the second, once the end is read
+abbrev turned : List ℕ
+turned = settings ++ (tone 1 ++ (accent 2 ++ (accent 1 ++ (row 2 1 0 1 1 ++ (row 2 1 1 1 1 ++ (row 1 1 0 1 1 ++ row 1 1 1 1 1))))))
+
+accents-turned : read (turned ++ (list 1 1 1 0 ++ (23 ∷ []))) ≡ refused Unordered 42
+unfolding read
+accents-turned = refl
+
+-- and a list of form 9 comes before it
+off-scale-first : read (turned ++ (list 1 1 9 0 ++ (23 ∷ []))) ≡ refused OffScale 84
+unfolding read
+off-scale-first = refl
+
+-- the rows in another order
+rows-turned : read (front ++ (row 1 1 1 0 0 ++ (row 1 1 0 0 0 ++ (23 ∷ [])))) ≡ refused Unordered 42
+unfolding read
+rows-turned = refl
+
+-- list 2 is named before list 1
+named-turned : read (rows 2 1 1 2 ++ (list 1 1 2 7 ++ (list 2 1 2 8 ++ (23 ∷ [])))) ≡ refused Unordered 42
+unfolding read
+named-turned = refl
+
+-- a list that no row names, and one that is equal to an earlier one
+unused : read (rows 0 0 0 0 ++ (list 1 1 1 0 ++ (23 ∷ []))) ≡ refused Unordered 54
+unfolding read
+unused = refl
+
+twins : read (rows 1 2 1 2 ++ (list 1 1 2 7 ++ (list 2 1 2 7 ++ (23 ∷ [])))) ≡ refused Unordered 106
+unfolding read
+twins = refl
+
+-- a byte behind the end; 8 comes before it
+behind : read (rows 0 0 0 0 ++ (23 ∷ 0 ∷ [])) ≡ refused Overrun 55
+unfolding read
+behind = refl
+
+unused-behind : read (rows 0 0 0 0 ++ (list 1 1 1 0 ++ (23 ∷ 0 ∷ []))) ≡ refused Unordered 54
+unfolding read
+unused-behind = refl
+
+-- ---- what is refused on sight
+-- a row too few, a row too many, a component too few, a component too many
+row-missing : read (front ++ (row 1 1 0 0 0 ++ (23 ∷ []))) ≡ refused Misplaced 48
+unfolding read
+row-missing = refl
+
+row-over : read (rows 0 0 0 0 ++ row 1 1 1 0 0) ≡ refused Misplaced 54
+unfolding read
+row-over = refl
+
+component-missing : read (rows 1 1 1 1 ++ (head 1 1 3 0 2 ++ (component one ++ (23 ∷ [])))) ≡ refused Misplaced 106
+unfolding read
+component-missing = refl
+
+component-over : read (rows 1 1 1 1 ++ (list 1 1 1 0 ++ component one)) ≡ refused Misplaced 106
+unfolding read
+component-over = refl
+
+-- "count before form": form 9 with 2 components, with 1; no component; a label in form 1; a weight of 0 in form 2
+form-crowded : read (rows 1 1 1 1 ++ head 1 1 9 0 2) ≡ refused Crowded 54
+unfolding read
+form-crowded = refl
+
+form-nine : read (rows 1 1 1 1 ++ head 1 1 9 0 1) ≡ refused OffScale 54
+unfolding read
+form-nine = refl
+
+count-zero : read (rows 1 1 1 1 ++ head 1 1 3 0 0) ≡ refused OffScale 54
+unfolding read
+count-zero = refl
+
+label-one : read (rows 1 1 1 1 ++ head 1 1 1 5 1) ≡ refused OffScale 54
+unfolding read
+label-one = refl
+
+light : read (rows 1 1 1 1 ++ (head 1 1 2 0 1 ++ component (replicate 4 0))) ≡ refused OffScale 61
+unfolding read
+light = refl
+
+-- an owner, and a row's accent, that is not held
+owner-loose : read (rows 1 1 1 1 ++ head 1 2 1 0 1) ≡ refused Loose 54
+unfolding read
+owner-loose = refl
+
+accent-loose : read (front ++ row 2 1 0 0 0) ≡ refused Loose 42
+unfolding read
+accent-loose = refl

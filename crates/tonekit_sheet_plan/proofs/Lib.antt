@@ -1,0 +1,6 @@
+pub mod Ascend
+pub mod Alike
+pub mod Recovered
+pub mod Placing
+pub mod Memo
+pub mod Views

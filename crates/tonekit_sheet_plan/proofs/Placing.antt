@@ -1,0 +1,95 @@
+-- The place of a list among lists, looked for from the front. Assumes nothing.
+use Prim.Native.Nat.{ℕ, zero, suc, _+_, _≤_, _<_}
+use mathlib.Core.Path.{_≡_, refl, sym, _∙_, ap}
+use mathlib.Core.Bool.{Bool, true, false, _&&_, _||_}
+use mathlib.Core.List.{List, [], _∷_, _++_}
+use native.Mathlib.Omega.{arith}
+use native.Mathlib.Nat.{add-zero, zero-add}
+use native.Mathlib.Numerals.{add-one}
+use lib.Dec.{eqb, ltb}
+use lib.ListN.{length, getD, drop, drop-of-length-le}
+use lib.Seq.{drop-cons}
+use borrow.Author.Tests.{eq-eqb, lt-ltb, le-ltb}
+use Rattle.tonekit_expect.specs.Source.{Carried}
+use Rattle.tonekit_pack.proofs.Split.{split, absurd-bool}
+use Rattle.tonekit_sheet.specs.Number.{sameNumbers, sameCarried, same, seenIn, placeIn}
+
+module _ (v : List Carried) (xs : List (List Carried)) where
+  -- what is left has the list where the whole has it
+  pub record Placing (i : ℕ) : Type 0 where
+    pub few : i ≤ length xs
+    pub place : placeIn v xs ≡ i + placeIn v (drop i xs)
+    pub seen : seenIn v xs ≡ seenIn v (drop i xs)
+
+  pub record Placed (r : ℕ) : Type 0 where
+    pub place : r ≡ placeIn v xs
+    pub seen : seenIn v xs ≡ ltb r (length xs)
+    pub few : r ≤ length xs
+
+  pub placing-begun : Placing 0
+  placing-begun = record { few = omega arith; place = sym (zero-add (placeIn v xs)); seen = refl }
+
+  pub placing-on : {i : ℕ} → Placing i → i < length xs → same v (getD xs i []) ≡ false → Placing (i + 1)
+  unfolding placeIn seenIn
+  placing-on {i} p h e = record {
+    few = omega arith;
+    place =
+        p .place
+        ∙ rw (drop-cons xs i [] h, e) (let q : i + suc (placeIn v (drop (suc i) xs)) ≡ i + 1 + placeIn v (drop (suc i) xs) = omega arith in q ∙ ap (λ (k : ℕ). i + 1 + placeIn v (drop k xs)) (sym (add-one i)));
+    seen = p .seen ∙ rw (drop-cons xs i [] h, e, add-one);
+  }
+
+  pub placing-hit : {i : ℕ} → Placing i → i < length xs → same v (getD xs i []) ≡ true → Placed i
+  unfolding placeIn seenIn
+  placing-hit {i} p h e = record {
+    place = sym (p .place ∙ rw (drop-cons xs i [] h, e) (add-zero i));
+    seen = p .seen ∙ rw (drop-cons xs i [] h, e) (sym (lt-ltb i (length xs) h));
+    few = p .few;
+  }
+
+  pub placing-out : {i : ℕ} → Placing i → length xs ≤ i → Placed (length xs)
+  unfolding placeIn seenIn
+  placing-out {i} p h = record {
+    place = sym (p .place ∙ rw (drop-of-length-le xs {i = i} h) (let q : i + zero ≡ length xs = omega (arith, p .few) in q));
+    seen = p .seen ∙ rw (drop-of-length-le xs {i = i} h) (sym (le-ltb (length xs) (length xs) (omega arith)));
+    few = omega arith;
+  }
+
+-- ---- a list is the same as itself
+numbers-self : (xs : List ℕ) → sameNumbers xs xs ≡ true
+unfolding sameNumbers
+numbers-self [] = refl
+numbers-self (x ∷ xs) = rw (eq-eqb x x refl, numbers-self xs)
+
+carried-self : (c : Carried) → sameCarried c c ≡ true
+unfolding sameCarried
+carried-self c =
+    rw (eq-eqb (c .owner) (c .owner) refl, eq-eqb (c .form) (c .form) refl, eq-eqb (c .label) (c .label) refl, eq-eqb (c .part) (c .part) refl, eq-eqb (c .weight) (c .weight) refl, numbers-self (c .points))
+
+same-self : (v : List Carried) → same v v ≡ true
+unfolding same
+same-self [] = refl
+same-self (c ∷ v) = rw (carried-self c, same-self v)
+
+-- ---- lists behind the others
+module _ (v : List Carried) where
+  pub place-more : (xs ys : List (List Carried)) → seenIn v xs ≡ true → placeIn v (xs ++ ys) ≡ placeIn v xs
+  unfolding placeIn seenIn
+  place-more [] ys h = absurd-bool h
+  place-more (x ∷ xs) ys h = split (same v x) (λ e. rw e) (λ e. rw e (ap suc (place-more xs ys (rw e at h))))
+
+  pub seen-more : (xs ys : List (List Carried)) → seenIn v xs ≡ true → seenIn v (xs ++ ys) ≡ true
+  unfolding seenIn
+  seen-more [] ys h = absurd-bool h
+  seen-more (x ∷ xs) ys h = split (same v x) (λ e. rw e) (λ e. rw e (seen-more xs ys (rw e at h)))
+
+  -- a new one stands at the end
+  pub seen-last : (xs : List (List Carried)) → seenIn v (xs ++ (v ∷ [])) ≡ true
+  unfolding seenIn
+  seen-last [] = rw (same-self v)
+  seen-last (x ∷ xs) = split (same v x) (λ e. rw e) (λ e. rw e (seen-last xs))
+
+  pub place-last : (xs : List (List Carried)) → seenIn v xs ≡ false → placeIn v (xs ++ (v ∷ [])) ≡ length xs
+  unfolding placeIn seenIn
+  place-last [] h = rw (same-self v)
+  place-last (x ∷ xs) h = split (same v x) (λ e. absurd-bool (sym (rw e at h))) (λ e. rw e (ap suc (place-last xs (rw e at h))))

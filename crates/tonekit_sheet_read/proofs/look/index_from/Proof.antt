@@ -1,0 +1,60 @@
+-- `index_from` meets its contract: from each record on, those left give what all give. Assumes nothing.
+use mathlib.Core.Path.{_≡_}
+use borrow.Author.Needs.{needs}
+use native.Mathlib.Omega.{arith}
+use borrow.Author.Tests.{eq-eqb, ne-eqb}
+use Prim.Native.Nat.{_-_, _≤_}
+use Rattle.tonekit_core.specs.Loop.{rangeTo, to-again, to-stop, to-ended}
+use Rattle.tonekit_expect.specs.declared.Found.the-variants as found
+use Rattle.tonekit_expect.specs.Lookup.{indexTurn, indexOf}
+use Rattle.tonekit_sheet_read.specs.Held.{stepped}
+use Rattle.tonekit_sheet_read.proofs.Stepped.{stepped-length, stepped-get, near}
+use Rattle.tonekit_sheet_read.proofs.look.index_from.Statement.{statement}
+use Rattle.tonekit_sheet_read.proofs.look.index_from.Tie as tie
+
+abbrev Inv-loop : tie.InvT-loop
+Inv-loop s o step n x i₀ i = (i ≤ n) × (rangeTo (indexTurn s (stepped o step n) x) (λ u. found.Nothing) i n 0 ≡ indexOf s (stepped o step n) x)
+
+abbrev μ-loop : tie.MeasureT-loop
+μ-loop s o step n x i₀ i = n - i
+
+returns : tie.Need-returns Inv-loop μ-loop
+returns c =
+    let l = c .before .before .before in
+    let a = l .before .before .args in
+    to-stop _ _ (l .loop .inv .1) (c .before .before .loop-test .taken) (simp (stepped-get (a .o) (a .step) (a .n) (l .loop .i) (c .before .before .loop-test .taken), ← (c .before .byte-at .ensures), eq-eqb _ _ (c .if1 .taken)))
+
+loop-again : tie.Need-loop-again Inv-loop μ-loop
+loop-again c =
+    let l = c .before .before .before in
+    let a = l .before .before .args in
+    (omega arith, to-again _ _ (l .loop .inv .1) (c .before .before .loop-test .taken) (simp (stepped-get (a .o) (a .step) (a .n) (l .loop .i) (c .before .before .loop-test .taken), ← (c .before .byte-at .ensures), ne-eqb _ _ (c .if1 .left))))
+
+returns-2 : tie.Need-returns-2 Inv-loop μ-loop
+returns-2 c = to-ended _ _ (c .before .loop .inv .1) (c .loop-test .left)
+
+loop-holds : tie.Need-loop-holds Inv-loop μ-loop
+unfolding indexOf
+loop-holds c = (omega arith, rw stepped-length)
+
+mul-byte-at : tie.Need-mul-byte-at Inv-loop μ-loop
+mul-byte-at c = omega (arith, near (c .before .before .before .args .step) (c .before .loop .i) (omega arith) (omega arith))
+
+add-byte-at : tie.Need-add-byte-at Inv-loop μ-loop
+add-byte-at c = omega (arith, near (c .before .before .before .args .step) (c .before .loop .i) (omega arith) (omega arith))
+
+pub index-from-spec : {M : Type 1} → statement M
+index-from-spec =
+    tie.close
+    (tie.spec
+    Inv-loop
+    μ-loop
+    loop-holds
+    mul-byte-at
+    add-byte-at
+    (λ c κs. search needs)
+    returns
+    (λ c. search needs)
+    (λ c. search needs)
+    loop-again
+    returns-2)

@@ -1,0 +1,53 @@
+-- The pieces of a pack's sheet, as they are written, and what the writer goes by.
+use Prim.Native.Nat.{ℕ}
+use mathlib.Core.Path.{_≡_}
+use mathlib.Core.List.{List, [], _∷_, _++_}
+use lib.ListN.{getD}
+use Rattle.tonekit_bytes.specs.Fields.{le16}
+use Rattle.tonekit_pack.specs.Held.{shown, Roomy}
+use Rattle.tonekit_pack.specs.declared.Pack.{Pack}
+use Rattle.tonekit_expect.specs.Lookup.{componentOf}
+use Rattle.tonekit_expect.specs.Source.{carried}
+use Rattle.tonekit_expect.specs.declared.Listing.{Listing}
+use Rattle.tonekit_sheet.specs.Sheet.{noAccent, accentBytes, componentBytes, tonePiece, rowPiece, listPiece, rowCount}
+use Rattle.tonekit_sheet.specs.Gather.{gather}
+use Rattle.tonekit_sheet_plan.specs.declared.Sorted.{Sorted}
+use Rattle.tonekit_sheet_plan.specs.declared.Plan.{Plan}
+use Rattle.tonekit_sheet_plan.specs.Rows.{packView, accentsOf, Ordered}
+use Rattle.tonekit_sheet_plan.specs.Listings.{Reads}
+use Rattle.tonekit_sheet_plan.specs.Plans.{planned, Sane}
+
+-- a pack that was read from these bytes, its accents sorted, and the lists of its sheet planned
+pub record Planned (s : List ℕ) (p : Pack) (a : Sorted) (q : Plan) : Type 0 where
+  pub roomy : Roomy p
+  pub reads : Reads s (shown p)
+  pub ordered : Ordered s (shown p) a
+  pub sane : Sane s q
+
+-- the head of a listing's list, under a number
+abbrev pub headOf : ℕ → Listing → List ℕ
+headOf n l = (21 ∷ n ∷ l .owner ∷ l .form ∷ []) ++ (le16 (l .label) ++ (l .count ∷ []))
+
+-- component j of a listing
+abbrev pub componentPiece : List ℕ → Listing → ℕ → List ℕ
+componentPiece s l j = componentBytes (carried (componentOf s l j))
+
+-- accent i of those that are sorted
+abbrev pub sortedPiece : List ℕ → Sorted → ℕ → List ℕ
+sortedPiece s a i = accentBytes (getD (accentsOf s a) i noAccent)
+
+-- the records of each kind, one behind the other
+abbrev pub tonesPart : List ℕ → Pack → List ℕ
+tonesPart s p = gather (tonePiece (packView s (shown p))) 0 (p .tones)
+
+abbrev pub accentsPart : List ℕ → Sorted → List ℕ
+accentsPart s a = gather (sortedPiece s a) 0 (a .count)
+
+abbrev pub rowsPart : List ℕ → Pack → Sorted → Plan → List ℕ
+rowsPart s p a q = gather (rowPiece (packView s (shown p)) (planned s q)) 0 (rowCount (a .count) (p .tones))
+
+abbrev pub listsPart : List ℕ → Plan → List ℕ
+listsPart s q = gather (listPiece (planned s q)) 0 (q .count)
+
+abbrev pub componentsPart : List ℕ → Listing → List ℕ
+componentsPart s l = gather (componentPiece s l) 0 (l .count)

@@ -1,0 +1,180 @@
+// The parts of a sheet, each written at a place of what is lent: where the next begins is answered.
+ghost use mathlib.Core.Path.{_≡_};
+ghost use mathlib.Core.List.{[], _∷_};
+ghost use Prim.Native.Nat.{_+_, _≤_, _<_};
+ghost use lib.ListN.{length};
+ghost use Rattle.tonekit_pack.specs.Held.{shown, Roomy};
+ghost use Rattle.tonekit_expect.specs.Source.{settingsAt, toneAt, accentAt};
+ghost use Rattle.tonekit_sheet.specs.Gather.{gather, Wrote};
+ghost use Rattle.tonekit_sheet.specs.Sheet.{settingsBytes, toneBytes, accentBytes, rowPiece, listPiece};
+ghost use Rattle.tonekit_sheet_plan.specs.Rows.{packView, Slots};
+ghost use Rattle.tonekit_sheet_plan.specs.Listings.{Kept};
+ghost use Rattle.tonekit_sheet_plan.specs.Plans.{planned, Sane};
+ghost use Rattle.tonekit_sheet_write.specs.Pieces.{Planned, headOf, componentPiece, tonesPart, accentsPart, rowsPart, listsPart, componentsPart};
+use crate::records::put_accent;
+use crate::records::put_component;
+use crate::records::put_head;
+use crate::records::put_row;
+use crate::records::put_settings;
+use crate::records::put_tone;
+use tonekit_bytes::byte_at;
+use tonekit_bytes::u32_at;
+use tonekit_expect::Listing;
+use tonekit_expect::component_at;
+use tonekit_pack::Pack;
+use tonekit_sheet_plan::Plan;
+use tonekit_sheet_plan::Sorted;
+use tonekit_sheet_plan::list_at;
+use tonekit_sheet_plan::look_row;
+use tonekit_sheet_plan::number_of;
+use tonekit_sheet_plan::rows::row_context;
+use tonekit_sheet_plan::rows::row_count;
+
+// The settings of a pack.
+pub fn write_settings(s: &[u8], out: &mut [u8], at: usize) -> usize
+    requires { ⌜ at + 9 ≤ length (now out) ⌝ }
+    ensures { λ r. ⌜ Wrote (settingsBytes (settingsAt (now (s .entry)) 0)) at (now (out .entry)) (now (out .exit)) r ⌝ }
+{
+    let temperature = u32_at(s, 0, 1);
+    let threshold = u32_at(s, 0, 5);
+    put_settings(&mut out[at..], temperature, threshold);
+    at + 9
+}
+
+// The tone whose record in the pack stands at o.
+fn write_tone(s: &[u8], o: usize, out: &mut [u8], at: usize) -> usize
+    requires { ⌜ at + 15 ≤ length (now out) ⌝ }
+    ensures { λ r. ⌜ Wrote (toneBytes (toneAt (now (s .entry)) o)) at (now (out .entry)) (now (out .exit)) r ⌝ }
+{
+    let number = byte_at(s, o, 1);
+    let prior = u32_at(s, o, 2);
+    let flag = byte_at(s, o, 47);
+    let from = u32_at(s, o, 48);
+    let to = u32_at(s, o, 52);
+    put_tone(&mut out[at..], number, prior, flag, from, to);
+    at + 15
+}
+
+// All tones, in pack order.
+pub fn write_tones(s: &[u8], p: Pack, out: &mut [u8], at: usize) -> usize
+    requires { ⌜ Roomy p × (at + length (tonesPart (now s) p) ≤ length (now out)) ⌝ }
+    ensures { λ r. ⌜ Wrote (tonesPart (now (s .entry)) p) at (now (out .entry)) (now (out .exit)) r ⌝ }
+{
+    let mut o = at;
+    for i in 0..p.tones {
+        o = write_tone(s, p.toneat[i] as usize, out, o);
+    }
+    o
+}
+
+// The accent whose record in the pack stands at o.
+fn write_accent(s: &[u8], o: usize, out: &mut [u8], at: usize) -> usize
+    requires { ⌜ at + 18 ≤ length (now out) ⌝ }
+    ensures { λ r. ⌜ Wrote (accentBytes (accentAt (now (s .entry)) o)) at (now (out .entry)) (now (out .exit)) r ⌝ }
+{
+    let number = byte_at(s, o, 1);
+    let contour = u32_at(s, o, 3);
+    let onset = u32_at(s, o, 7);
+    let offset = u32_at(s, o, 11);
+    let turning = u32_at(s, o, 15);
+    put_accent(&mut out[at..], number, contour, onset, offset, turning);
+    at + 18
+}
+
+// All accents, ascending.
+pub fn write_accents(s: &[u8], a: Sorted, out: &mut [u8], at: usize) -> usize
+    requires { ⌜ Slots a × (at + length (accentsPart (now s) a) ≤ length (now out)) ⌝ }
+    ensures { λ r. ⌜ Wrote (accentsPart (now (s .entry)) a) at (now (out .entry)) (now (out .exit)) r ⌝ }
+{
+    let mut o = at;
+    for i in 0..a.count {
+        o = write_accent(s, a.at[i] as usize, out, o);
+    }
+    o
+}
+
+// Row r: its context, and the numbers of what its two lookups give.
+fn write_row(s: &[u8], p: Pack, a: Sorted, q: Plan, r: usize, out: &mut [u8], at: usize) -> usize
+    requires { ⌜ Planned (now s) p a q × (at + 6 ≤ length (now out)) ⌝ }
+    ensures { λ e. ⌜ Wrote (rowPiece (packView (now (s .entry)) (shown p)) (planned (now (s .entry)) q) r) at (now (out .entry)) (now (out .exit)) e ⌝ }
+{
+    let c = row_context(s, p, a, r, 0);
+    let n = number_of(s, q, look_row(s, p, a, r, 0));
+    let m = number_of(s, q, look_row(s, p, a, r, 1));
+    put_row(&mut out[at..], c, n, m);
+    at + 6
+}
+
+// All rows.
+pub fn write_rows(s: &[u8], p: Pack, a: Sorted, q: Plan, out: &mut [u8], at: usize) -> usize
+    requires { ⌜ Planned (now s) p a q × (at + length (rowsPart (now s) p a q) ≤ length (now out)) ⌝ }
+    ensures { λ r. ⌜ Wrote (rowsPart (now (s .entry)) p a q) at (now (out .entry)) (now (out .exit)) r ⌝ }
+{
+    let mut o = at;
+    for i in 0..row_count(a.count, p.tones) {
+        o = write_row(s, p, a, q, i, out, o);
+    }
+    o
+}
+
+// Component j of a listing.
+fn write_component(s: &[u8], l: Listing, j: usize, out: &mut [u8], at: usize) -> usize
+    requires { ⌜ Kept (now s) l × (j < l .count) × (at + 45 ≤ length (now out)) ⌝ }
+    ensures { λ r. ⌜ Wrote (componentPiece (now (s .entry)) l j) at (now (out .entry)) (now (out .exit)) r ⌝ }
+{
+    let c = component_at(s, l, j);
+    put_component(&mut out[at..], c);
+    at + 45
+}
+
+// All components of a listing.
+fn write_components(s: &[u8], l: Listing, out: &mut [u8], at: usize) -> usize
+    requires { ⌜ Kept (now s) l × (at + length (componentsPart (now s) l) ≤ length (now out)) ⌝ }
+    ensures { λ r. ⌜ Wrote (componentsPart (now (s .entry)) l) at (now (out .entry)) (now (out .exit)) r ⌝ }
+{
+    let mut o = at;
+    for j in 0..l.count {
+        o = write_component(s, l, j, out, o);
+    }
+    o
+}
+
+// The head of list i.
+fn write_head(l: Listing, i: usize, out: &mut [u8], at: usize) -> usize
+    requires { ⌜ (l .count ≤ 4) × (i < 128) × (at + 7 ≤ length (now out)) ⌝ }
+    ensures { λ r. ⌜ Wrote (headOf (i + 1) l) at (now (out .entry)) (now (out .exit)) r ⌝ }
+{
+    put_head(&mut out[at..], (i + 1) as u8, l);
+    at + 7
+}
+
+// List i with its components.
+fn write_list(s: &[u8], q: Plan, i: usize, out: &mut [u8], at: usize) -> usize
+    requires { ⌜ Sane (now s) q × (i < q .count) × (at + length (listPiece (planned (now s) q) i) ≤ length (now out)) ⌝ }
+    ensures { λ r. ⌜ Wrote (listPiece (planned (now (s .entry)) q) i) at (now (out .entry)) (now (out .exit)) r ⌝ }
+{
+    let l = list_at(s, q, i);
+    let o = write_head(l, i, out, at);
+    write_components(s, l, out, o)
+}
+
+// All lists, by number.
+pub fn write_lists(s: &[u8], q: Plan, out: &mut [u8], at: usize) -> usize
+    requires { ⌜ Sane (now s) q × (at + length (listsPart (now s) q) ≤ length (now out)) ⌝ }
+    ensures { λ r. ⌜ Wrote (listsPart (now (s .entry)) q) at (now (out .entry)) (now (out .exit)) r ⌝ }
+{
+    let mut o = at;
+    for i in 0..q.count {
+        o = write_list(s, q, i, out, o);
+    }
+    o
+}
+
+// 23: the end.
+pub fn write_end(out: &mut [u8], at: usize) -> usize
+    requires { ⌜ at + 1 ≤ length (now out) ⌝ }
+    ensures { λ r. ⌜ Wrote (23 ∷ []) at (now (out .entry)) (now (out .exit)) r ⌝ }
+{
+    out[at] = 23;
+    at + 1
+}
