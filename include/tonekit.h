@@ -36,6 +36,7 @@ enum {
 
 /* The largest inputs that load, and the outputs, in bytes. */
 #define TONEKIT_PACK_MAX 6946
+#define TONEKIT_SHEET_MAX 13266
 #define TONEKIT_QUERY_MAX 10286
 #define TONEKIT_SHAPE_SIZE 124
 #define TONEKIT_JUDGEMENT_SIZE 64
@@ -76,16 +77,22 @@ enum {
     TONEKIT_ISSUES = 62            /* u16 */
 };
 
-/* Whether the bytes are a pack, or a query. */
+/* Whether the bytes are a pack, a sheet, or a query. */
 uint32_t tonekit_check_pack(const uint8_t *pack, uint64_t pack_length, uint64_t *place);
+uint32_t tonekit_check_sheet(const uint8_t *sheet, uint64_t sheet_length, uint64_t *place);
 uint32_t tonekit_check_query(const uint8_t *query, uint64_t query_length, uint64_t *place);
 
 /* Writes the shape record of a query. */
 uint32_t tonekit_write_shape(const uint8_t *query, uint64_t query_length, uint8_t *out, uint64_t out_length, uint64_t *written);
 
-/* Judges a query against a pack and writes the record. */
+/* Writes a pack's sheet: TONEKIT_SHEET_MAX bytes always suffice. */
+uint32_t tonekit_write_sheet(const uint8_t *pack, uint64_t pack_length, uint8_t *out, uint64_t out_length, uint64_t *written);
+
+/* Judges a query against a pack, or against a sheet, and writes the record: the same from a pack and from its sheet. */
 uint32_t tonekit_judge(const uint8_t *pack, uint64_t pack_length, const uint8_t *query, uint64_t query_length, uint8_t *out,
                        uint64_t out_length, uint64_t *written);
+uint32_t tonekit_judge_sheet(const uint8_t *sheet, uint64_t sheet_length, const uint8_t *query, uint64_t query_length,
+                             uint8_t *out, uint64_t out_length, uint64_t *written);
 
 #ifdef __cplusplus
 }

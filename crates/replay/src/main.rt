@@ -60,10 +60,32 @@ fn judged_so(pack: &[u8], query: &[u8], number: u8, place: u32, bytes: &[u8]) ->
     }
 }
 
+// Whether the judgement of a query against a sheet is as recorded.
+fn judged_on_sheet_so(sheet: &[u8], query: &[u8], number: u8, place: u32, bytes: &[u8]) -> bool {
+    let mut out = [0u8; 64];
+    match tonekit_station::judge_sheet(sheet, query, &mut out) {
+        Answer::Written(n) => (number == 0) & (n == place as usize) & check::same(&out, bytes),
+        Answer::Refused(r, at) => (tonekit_core::refusal_number(r) == number)
+            & (at == place as usize),
+    }
+}
+
+// Whether a pack's sheet is as recorded.
+fn written_so(pack: &[u8], number: u8, place: u32, bytes: &[u8]) -> bool {
+    let mut out = [0u8; 13266];
+    match tonekit_sheet_write::write_sheet(pack, &mut out) {
+        Answer::Written(n) => (number == 0)
+            & (n == place as usize)
+            & check::same(part(&out, 0, n), bytes),
+        Answer::Refused(r, at) => (tonekit_core::refusal_number(r) == number)
+            & (at == place as usize),
+    }
+}
+
 // Whether a call is one that the port has.
 fn asked(call: u8) -> bool {
     match call {
-        1 | 2 | 4 | 6 => true,
+        1 | 2 | 3 | 4 | 5 | 6 | 7 => true,
         _ => false,
     }
 }
@@ -73,8 +95,11 @@ fn agrees(call: u8, first: &[u8], second: &[u8], number: u8, place: u32, bytes: 
     match call {
         1 => checked_so(tonekit_pack::check_pack(first), number, place),
         2 => checked_so(tonekit_query::check_query(first), number, place),
+        3 => checked_so(tonekit_sheet_read::check_sheet(first), number, place),
         4 => shaped_so(first, number, place, bytes),
+        5 => written_so(first, number, place, bytes),
         6 => judged_so(first, second, number, place, bytes),
+        7 => judged_on_sheet_so(first, second, number, place, bytes),
         _ => false,
     }
 }
@@ -164,5 +189,6 @@ fn report(name: &[u8]) {
 fn main() {
     report(b"checks.bin");
     report(b"shapes.bin");
+    report(b"sheets.bin");
     report(b"judgements.bin");
 }

@@ -10,8 +10,10 @@ ghost use Rattle.tonekit_log.specs.Log.{lnOf, log2Of};
 ghost use Rattle.tonekit_log.specs.Exp.{expOf};
 ghost use Rattle.tonekit_pack.specs.Pack.{checkPack};
 ghost use Rattle.tonekit_query.specs.Query.{checkQuery};
+ghost use Rattle.tonekit_sheet.specs.Reader.{checkSheet};
+ghost use Rattle.tonekit_sheet_write.specs.Outcome.{sheetOutcome};
 ghost use Rattle.tonekit_shape.specs.Record.{shapeOutcome};
-ghost use Rattle.tonekit_station.specs.Judgement.{judgeOutcome};
+ghost use Rattle.tonekit_station.specs.Judgement.{judgeOutcome, judgeSheetOutcome};
 ghost use Rattle.tonekit_c.specs.Export.{checkedNumber, checkedPlace, answerNumber, answerPlace};
 use tonekit_core::Answer;
 use tonekit_core::Checked;
@@ -64,6 +66,22 @@ pub extern "C" fn tonekit_check_query(query: &[u8], place: &mut u64) -> u32
     hand_checked(tonekit_query::check_query(query), place)
 }
 
+// Whether the bytes are a sheet: 0, or the refusal's number.
+#[no_mangle]
+pub extern "C" fn tonekit_check_sheet(sheet: &[u8], place: &mut u64) -> u32
+    ensures { λ r. ⌜ (r ≡ checkedNumber (checkSheet (now (sheet .entry)))) × (now (place .exit) ≡ checkedPlace (checkSheet (now (sheet .entry)))) ⌝ }
+{
+    hand_checked(tonekit_sheet_read::check_sheet(sheet), place)
+}
+
+// Writes the sheet of a pack: 0 and its bytes, or the refusal's number and nothing.
+#[no_mangle]
+pub extern "C" fn tonekit_write_sheet(pack: &[u8], out: &mut [u8], place: &mut u64) -> u32
+    ensures { λ r. ⌜ (r ≡ answerNumber (answerIn (length (now (out .entry))) (sheetOutcome (now (pack .entry))))) × (now (place .exit) ≡ answerPlace (answerIn (length (now (out .entry))) (sheetOutcome (now (pack .entry))))) × (now (out .exit) ≡ bufferAfter (now (out .entry)) (sheetOutcome (now (pack .entry)))) ⌝ }
+{
+    hand_answer(tonekit_sheet_write::write_sheet(pack, out), place)
+}
+
 // Writes the shape record of a query: 0 and 124 bytes, or the refusal's number and nothing.
 #[no_mangle]
 pub extern "C" fn tonekit_write_shape(query: &[u8], out: &mut [u8], place: &mut u64) -> u32
@@ -78,6 +96,19 @@ pub extern "C" fn tonekit_judge(pack: &[u8], query: &[u8], out: &mut [u8], place
     ensures { λ r. ⌜ (r ≡ answerNumber (answerIn (length (now (out .entry))) (judgeOutcome (now (pack .entry)) (now (query .entry))))) × (now (place .exit) ≡ answerPlace (answerIn (length (now (out .entry))) (judgeOutcome (now (pack .entry)) (now (query .entry))))) × (now (out .exit) ≡ bufferAfter (now (out .entry)) (judgeOutcome (now (pack .entry)) (now (query .entry)))) ⌝ }
 {
     hand_answer(tonekit_station::judge(pack, query, out), place)
+}
+
+// Judges a query against a sheet, likewise.
+#[no_mangle]
+pub extern "C" fn tonekit_judge_sheet(
+    sheet: &[u8],
+    query: &[u8],
+    out: &mut [u8],
+    place: &mut u64,
+) -> u32
+    ensures { λ r. ⌜ (r ≡ answerNumber (answerIn (length (now (out .entry))) (judgeSheetOutcome (now (sheet .entry)) (now (query .entry))))) × (now (place .exit) ≡ answerPlace (answerIn (length (now (out .entry))) (judgeSheetOutcome (now (sheet .entry)) (now (query .entry))))) × (now (out .exit) ≡ bufferAfter (now (out .entry)) (judgeSheetOutcome (now (sheet .entry)) (now (query .entry)))) ⌝ }
+{
+    hand_answer(tonekit_station::judge_sheet(sheet, query, out), place)
 }
 
 // The bits of the f32 nearest to an f64.

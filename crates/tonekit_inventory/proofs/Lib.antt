@@ -1,4 +1,5 @@
 pub mod Floats
 pub mod Slots
 pub mod Few
+pub mod Going
 pub mod Tones

@@ -12,8 +12,11 @@ use Rattle.tonekit_query.proofs.Laws.{load-reads, load-length, read-holds}
 use Rattle.tonekit_query.proofs.Enough.{load-enough}
 use Rattle.tonekit_pack.specs.Pack.{Out, loadPack}
 use Rattle.tonekit_pack.specs.Pack as pack
+use Rattle.tonekit_sheet.specs.Reader.{loadSheet}
+use Rattle.tonekit_sheet.specs.Reader as sheet
+use Rattle.tonekit_sheet.specs.FromSheet.{sourceOfSheet}
 use Rattle.tonekit_expect.specs.Source.{Source, sourceOfPack}
-use Rattle.tonekit_station.specs.Judgement.{onQuery, judgement, onPack, judgeOutcome}
+use Rattle.tonekit_station.specs.Judgement.{onQuery, judgement, onPack, judgeOutcome, onSheet, judgeSheetOutcome}
 
 module _ (src : Source) (s : List ℕ) (n : ℕ) (h : 10287 ≤ n) where
   either-way : (r : QueryRead) → loadQuery s ≡ r → onQuery src (take n s) r ≡ onQuery src s r
@@ -36,3 +39,13 @@ module _ (p s : List ℕ) (n : ℕ) (h : 10287 ≤ n) where
   pub judge-enough : judgeOutcome p (take n s) ≡ judgeOutcome p s
   unfolding judgeOutcome
   judge-enough = each-way (loadPack p)
+
+-- whatever the sheet
+module _ (p s : List ℕ) (n : ℕ) (h : 10287 ≤ n) where
+  sheet-way : (o : sheet.Out) → onSheet p (take n s) o ≡ onSheet p s o
+  sheet-way (sheet.refused r place) = refl
+  sheet-way (sheet.loaded st e) = judgement-enough (sourceOfSheet p st) s n h
+
+  pub judge-sheet-enough : judgeSheetOutcome p (take n s) ≡ judgeSheetOutcome p s
+  unfolding judgeSheetOutcome
+  judge-sheet-enough = sheet-way (loadSheet p)

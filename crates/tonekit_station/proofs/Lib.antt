@@ -1,5 +1,6 @@
 pub mod Search
 pub mod Ways
 pub mod Enough
+pub mod Input
 pub mod Depends
 pub mod Together

@@ -1,4 +1,4 @@
--- A search by number among a pack's records finds what a station holds under that number. Assumes nothing.
+-- A search by number among a pack's or a sheet's records finds what a station holds under that number. Assumes nothing.
 use Prim.Native.Nat.{ℕ, zero, suc, _+_, _-_}
 use mathlib.Core.Path.{_≡_, refl, _∙_, ap}
 use mathlib.Core.Bool.{Bool, true, false, cond, _||_}
@@ -13,9 +13,10 @@ use Rattle.tonekit_core.specs.Loop.{Turn, next, stop, turnsTo, rangeTo}
 use Rattle.tonekit_pack.specs.Pack.{numberAt}
 use Rattle.tonekit_pack.proofs.Split.{split}
 use Rattle.tonekit_expect.specs.Lookup.{indexTurn, indexOf}
-use Rattle.tonekit_expect.specs.Source.{accentAt, toneAt, accentIn, toneIn}
+use Rattle.tonekit_expect.specs.Source.{Tone, Accent, accentAt, accentIn, toneIn}
 use Rattle.tonekit_expect.specs.declared.Found.{Found}
 use Rattle.tonekit_expect.specs.declared.Found.the-variants as found
+use Rattle.tonekit_sheet.specs.FromSheet as sheet
 use Rattle.tonekit_inventory.specs.Fields.{toleranceAt}
 use Rattle.tonekit_station.specs.Judgement.{toleranceOf}
 
@@ -52,25 +53,27 @@ or-cond : (b c : Bool) → (b || c) ≡ cond b true c
 or-cond true c = refl
 or-cond false c = refl
 
-module _ (s os : List ℕ) (n : ℕ) where
-  accents : accentIn (map (accentAt s) os) n ≡ pick (λ o. some (accentAt s o)) none os (indexOf s os n)
+-- accents and tones that are held by their records' offsets, under the numbers there
+module _ (s os : List ℕ) (n : ℕ) (accentOf : ℕ → Accent) (number : (o : ℕ) → accentOf o .number ≡ numberAt s o) where
+  accents : accentIn (map accentOf os) n ≡ pick (λ o. some (accentOf o)) none os (indexOf s os n)
   unfolding accentIn
-  accents = searched s n (λ o. some (accentAt s o)) none (λ l. accentIn (map (accentAt s) l) n) refl (λ o l. refl) os
+  accents = searched s n (λ o. some (accentOf o)) none (λ l. accentIn (map accentOf l) n) refl (λ o l. rw (number o)) os
 
-  pub accent-found : (i : ℕ) → indexOf s os n ≡ found.At i → accentIn (map (accentAt s) os) n ≡ some (accentAt s (getD os i 0))
+  pub accent-found : (i : ℕ) → indexOf s os n ≡ found.At i → accentIn (map accentOf os) n ≡ some (accentOf (getD os i 0))
   accent-found i e = accents ∙ rw e
 
-  pub accent-none : indexOf s os n ≡ found.Nothing → accentIn (map (accentAt s) os) n ≡ none
+  pub accent-none : indexOf s os n ≡ found.Nothing → accentIn (map accentOf os) n ≡ none
   accent-none e = accents ∙ rw e
 
-  tones : toneIn (map (toneAt s) os) n ≡ pick (λ o. true) false os (indexOf s os n)
+module _ (s os : List ℕ) (n : ℕ) (toneOf : ℕ → Tone) (number : (o : ℕ) → toneOf o .number ≡ numberAt s o) where
+  tones : toneIn (map toneOf os) n ≡ pick (λ o. true) false os (indexOf s os n)
   unfolding toneIn
-  tones = searched s n (λ o. true) false (λ l. toneIn (map (toneAt s) l) n) refl (λ o l. or-cond (eqb (numberAt s o) n) (toneIn (map (toneAt s) l) n)) os
+  tones = searched s n (λ o. true) false (λ l. toneIn (map toneOf l) n) refl (λ o l. rw (number o) (or-cond (eqb (numberAt s o) n) (toneIn (map toneOf l) n))) os
 
-  pub tone-found : (i : ℕ) → indexOf s os n ≡ found.At i → toneIn (map (toneAt s) os) n ≡ true
+  pub tone-found : (i : ℕ) → indexOf s os n ≡ found.At i → toneIn (map toneOf os) n ≡ true
   tone-found i e = tones ∙ rw e
 
-  pub tone-none : indexOf s os n ≡ found.Nothing → toneIn (map (toneAt s) os) n ≡ false
+  pub tone-none : indexOf s os n ≡ found.Nothing → toneIn (map toneOf os) n ≡ false
   tone-none e = tones ∙ rw e
 
 -- the tolerances stand behind an accent's kind, number and parent
@@ -80,4 +83,13 @@ tolerance s o =
     let onset : o + 3 + 4 ≡ o + 7 = omega arith in
     let offset : o + 3 + 8 ≡ o + 11 = omega arith in
     let turning : o + 3 + 12 ≡ o + 15 = omega arith in
+    rw (onset, offset, turning)
+
+-- and in a sheet behind its kind and number
+pub sheet-tolerance : (s : List ℕ) (o : ℕ) → toleranceAt s (o + 2) ≡ toleranceOf (sheet.accentAt s o)
+unfolding toleranceAt
+sheet-tolerance s o =
+    let onset : o + 2 + 4 ≡ o + 6 = omega arith in
+    let offset : o + 2 + 8 ≡ o + 10 = omega arith in
+    let turning : o + 2 + 12 ≡ o + 14 = omega arith in
     rw (onset, offset, turning)

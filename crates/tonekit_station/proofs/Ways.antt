@@ -1,4 +1,4 @@
--- What the call `judge` makes of a query, way by way. Assumes nothing.
+-- What the calls `judge` and `judge_sheet` make of a query, way by way. Assumes nothing.
 use Prim.Native.Nat.{ℕ, _≤_, _<_}
 use mathlib.Core.Path.{_≡_, sym, _∙_}
 use mathlib.Core.Bool.{true, false, _||_}
@@ -18,6 +18,12 @@ use Rattle.tonekit_pack.specs.Pack as pack
 use Rattle.tonekit_pack.specs.Held.{shown, answered}
 use Rattle.tonekit_pack.specs.declared.Loaded.{Loaded}
 use Rattle.tonekit_pack.specs.declared.PackRead.the-variants as read
+use Rattle.tonekit_sheet.specs.Reader.{loadSheet}
+use Rattle.tonekit_sheet.specs.Reader as sheet
+use Rattle.tonekit_sheet.specs.FromSheet.{sourceOfSheet}
+use Rattle.tonekit_sheet_read.specs.Held as sheet-held
+use Rattle.tonekit_sheet_read.specs.declared.Loaded as sheet-loaded
+use Rattle.tonekit_sheet_read.specs.declared.SheetRead.the-variants as sheet-read
 use Rattle.tonekit_expect.specs.Source.{Accent, Source, sourceOfPack, accentIn, toneIn}
 use Rattle.tonekit_shape.specs.Extract.{extentOf, shapeOf}
 use Rattle.tonekit_shape.specs.Record.{united}
@@ -30,7 +36,7 @@ use Rattle.tonekit_judge.specs.declared.Targets.{Targets}
 use Rattle.tonekit_judge.specs.declared.ToneJudgement.{ToneJudgement}
 use Rattle.tonekit_target.specs.Target.{Aim, held, loose, variantsFine, targetsOf}
 use Rattle.tonekit_inventory.specs.Gather.{Gathering, all, lacks, f32, gathered}
-use Rattle.tonekit_station.specs.Judgement.{toleranceOf, contextOf, scored, gradedBy, judgedBy, judgement, judgeOutcome}
+use Rattle.tonekit_station.specs.Judgement.{toleranceOf, contextOf, scored, gradedBy, judgedBy, judgement, judgeOutcome, judgeSheetOutcome}
 
 -- against gathered listings: 15, 13 for targets, or the record
 module _ (temperature threshold : Float) (t : Tolerance) (l : Listed) (s : List ℕ) (q : Query) (frames : List ℕ) (e : Extent) where
@@ -95,3 +101,16 @@ module _ (p : List ℕ) (l : Loaded) (is : answered l ≡ loadPack p) where
   pub pack-bad : (s : List ℕ) (r : Refusal) (place : ℕ) → l .read ≡ read.Refused r place → judgeOutcome p s ≡ refused r place
   unfolding judgeOutcome
   pack-bad s r place e = rw (← is, e)
+
+-- what the sheet's reader answered
+module _ (p : List ℕ) (l : sheet-loaded.Loaded) (is : sheet-held.answered l ≡ loadSheet p) where
+  pub sheet-loads : (end : ℕ) → l .read ≡ sheet-read.Good end → loadSheet p ≡ sheet.loaded (sheet-held.shown (l .sheet)) end
+  sheet-loads end e = sym is ∙ rw e
+
+  pub sheet-good : (s : List ℕ) (end : ℕ) → l .read ≡ sheet-read.Good end → judgement (sourceOfSheet p (sheet-held.shown (l .sheet))) s ≡ judgeSheetOutcome p s
+  unfolding judgeSheetOutcome
+  sheet-good s end e = rw (sheet-loads end e)
+
+  pub sheet-bad : (s : List ℕ) (r : Refusal) (place : ℕ) → l .read ≡ sheet-read.Refused r place → judgeSheetOutcome p s ≡ refused r place
+  unfolding judgeSheetOutcome
+  sheet-bad s r place e = rw (← is, e)

@@ -13,6 +13,9 @@ use Rattle.tonekit_query.specs.declared.QueryRead.{QueryRead}
 use Rattle.tonekit_query.specs.declared.QueryRead.the-variants as query
 use Rattle.tonekit_pack.specs.Pack.{Out, loadPack}
 use Rattle.tonekit_pack.specs.Pack as pack
+use Rattle.tonekit_sheet.specs.Reader.{loadSheet}
+use Rattle.tonekit_sheet.specs.Reader as sheet
+use Rattle.tonekit_sheet.specs.FromSheet.{sourceOfSheet}
 use Rattle.tonekit_expect.specs.Source.{Tone, Accent, Source, sourceOfPack, accentIn, toneIn}
 use Rattle.tonekit_expect.specs.declared.Context.{Context}
 use Rattle.tonekit_shape.specs.Extract.{extentOf, shapeOf}
@@ -83,3 +86,12 @@ onPack p s (pack.loaded st e) = judgement (sourceOfPack p st) s
 -- the call `judge`: what a pack's and a query's bytes are turned into
 unfoldable pub judgeOutcome : List ℕ → List ℕ → Outcome
 judgeOutcome p s = onPack p s (loadPack p)
+
+-- with a sheet in the pack's place
+abbrev pub onSheet : List ℕ → List ℕ → sheet.Out → Outcome
+onSheet p s (sheet.refused r place) = refused r place
+onSheet p s (sheet.loaded st e) = judgement (sourceOfSheet p st) s
+
+-- the call `judge_sheet`: what a sheet's and a query's bytes are turned into
+unfoldable pub judgeSheetOutcome : List ℕ → List ℕ → Outcome
+judgeSheetOutcome p s = onSheet p s (loadSheet p)

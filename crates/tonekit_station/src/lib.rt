@@ -12,7 +12,10 @@ ghost use Rattle.tonekit_pack.specs.Held.{shown, Roomy};
 ghost use Rattle.tonekit_expect.specs.Source.{accentAt, sourceOfPack, toneIn};
 ghost use Rattle.tonekit_shape.specs.Extract.{Voiced3};
 ghost use Rattle.tonekit_judge.specs.Judge.{Sound};
-ghost use Rattle.tonekit_station.specs.Judgement.{scored, gradedBy, judgedBy, judgement, judgeOutcome};
+ghost use Rattle.tonekit_station.specs.Judgement.{scored, gradedBy, judgedBy, judgement, judgeOutcome, judgeSheetOutcome};
+
+mod sheet;
+
 use tonekit_core::Answer;
 use tonekit_core::Refusal;
 use tonekit_expect::Context;
@@ -24,6 +27,7 @@ use tonekit_query::Query;
 use tonekit_query::QueryRead;
 use tonekit_score::Tolerance;
 use tonekit_shape::Extent;
+use tonekit_sheet_read::SheetRead;
 
 // The judgement of a query against gathered listings: refusals 15, 13 for targets and 9, or the
 // record. The listing and the voiced frames are as whoever gathered and counted them made them.
@@ -170,5 +174,18 @@ pub fn judge(pack: &[u8], query: &[u8], out: &mut [u8]) -> Answer
     match read {
         PackRead::Good(_) => judge_loaded(pack, held, query, out),
         PackRead::Refused(r, place) => Answer::Refused(r, place),
+    }
+}
+
+// Judges a query against a sheet, as `judge` does against a pack.
+pub fn judge_sheet(sheet: &[u8], query: &[u8], out: &mut [u8]) -> Answer
+    ensures { λ r. ⌜ (r ≡ answerIn (length (now (out .entry))) (judgeSheetOutcome (now (sheet .entry)) (now (query .entry)))) × (now (out .exit) ≡ bufferAfter (now (out .entry)) (judgeSheetOutcome (now (sheet .entry)) (now (query .entry)))) ⌝ }
+{
+    let l = tonekit_sheet_read::load_sheet(sheet);
+    let read = l.read;
+    let held = l.sheet;
+    match read {
+        SheetRead::Good(_) => sheet::judge_sheet_loaded(sheet, held, query, out),
+        SheetRead::Refused(r, place) => Answer::Refused(r, place),
     }
 }

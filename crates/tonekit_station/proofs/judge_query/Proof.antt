@@ -1,10 +1,10 @@
 -- `judge_query` meets its contract, by the ways through its code.
-use mathlib.Core.Path.{sym, _∙_}
+use mathlib.Core.Path.{refl, sym, _∙_}
 use borrow.Author.Needs.{needs}
 use native.Mathlib.Omega.{arith}
 use Rattle.tonekit_pack.specs.Held.{shown}
 use Rattle.tonekit_pack.proofs.InOrder.{order-length}
-use Rattle.tonekit_expect.specs.Source.{sourceOfPack}
+use Rattle.tonekit_expect.specs.Source.{accentAt, sourceOfPack}
 use Rattle.tonekit_expect.proofs.Walk.{index-found}
 use mathlib.Core.Option.{none}
 use Rattle.tonekit_shape.proofs.Outcomes.{tells-refused, tells-same}
@@ -25,7 +25,7 @@ returns-2 c =
     let v = i .before .before .before in
     let a = v .before .before .before .before .before .args in
     tells-same _ _ _ _ _
-    (enough-voiced _ _ _ (v .voiced-frames .result) (rw (← (v .before .frames .ensures)) (v .voiced-frames .ensures .is)) (i .before .if1 .left) _ (accent-found (a .pack .now) (shown (a .p) .accents) (a .q .accent) _ (sym (i .accent-index .ensures) ∙ c .before .before .before .before .before .a .given .1)))
+    (enough-voiced _ _ _ (v .voiced-frames .result) (rw (← (v .before .frames .ensures)) (v .voiced-frames .ensures .is)) (i .before .if1 .left) _ (accent-found (a .pack .now) (shown (a .p) .accents) (a .q .accent) (accentAt (a .pack .now)) (λ o. refl) _ (sym (i .accent-index .ensures) ∙ c .before .before .before .before .before .a .given .1)))
     (c .before .before .judge-graded .ensures)
 
 returns-3 : tie.Need-returns-3
@@ -35,7 +35,7 @@ returns-3 c =
     let v = i .before .before .before in
     let a = v .before .before .before .before .before .args in
     tells-refused _ _ _ _
-    (sym (enough-voiced _ _ _ (v .voiced-frames .result) (rw (← (v .before .frames .ensures)) (v .voiced-frames .ensures .is)) (i .before .if1 .left) none (accent-none (a .pack .now) (shown (a .p) .accents) (a .q .accent) (sym (i .accent-index .ensures) ∙ c .enum-told .given .1))))
+    (sym (enough-voiced _ _ _ (v .voiced-frames .result) (rw (← (v .before .frames .ensures)) (v .voiced-frames .ensures .is)) (i .before .if1 .left) none (accent-none (a .pack .now) (shown (a .p) .accents) (a .q .accent) (accentAt (a .pack .now)) (λ o. refl) (sym (i .accent-index .ensures) ∙ c .enum-told .given .1))))
 
 judge-graded-requires : tie.Need-judge-graded-requires
 judge-graded-requires c κs =

@@ -1,0 +1,5 @@
+pub mod Few
+pub mod Rows
+pub mod Lookup
+pub mod Slots
+pub mod Tones

@@ -1,0 +1,225 @@
+// What a shape is judged against, gathered from a sheet: the listings of all inventory tones in a
+// context, found by position.
+ghost use mathlib.Core.Path.{_≡_};
+ghost use mathlib.Core.List.{map};
+ghost use mathlib.Core.Bool.{true};
+ghost use Prim.Native.Nat.{ℕ, _+_, _*_, _≤_, _<_};
+ghost use lib.ListN.{length, replicate};
+ghost use lib.Seq.{sets};
+ghost use Rattle.tonekit_bytes.specs.Fields.{byteAt, f32At};
+ghost use Rattle.tonekit_expect.specs.Lookup.{indexOf};
+ghost use Rattle.tonekit_judge.specs.Judge.{Sound};
+ghost use Rattle.tonekit_inventory.specs.Fields.{regionAt};
+ghost use Rattle.tonekit_inventory.specs.Gather.{f32, withTone, weightsOf, pointsOf, gathered, listedOf, gatheringOf};
+ghost use Rattle.tonekit_sheet.specs.Reader.{loaded, rowAt, readSheet};
+ghost use Rattle.tonekit_sheet.specs.FromSheet.{bitsAt, rowPlace, finalPlace, prevFound, carriedFrom, sourceOfSheet};
+ghost use Rattle.tonekit_sheet_read.specs.Held.{stepped, shown, Roomy};
+ghost use Rattle.tonekit_sheet_inventory.specs.Look.{Placed, ShortList, Looks, nameAt};
+use tonekit_bytes::byte_at;
+use tonekit_bytes::f32_at;
+use tonekit_bytes::u16_at;
+use tonekit_expect::Context;
+use tonekit_expect::Found;
+use tonekit_inventory::Gathered;
+use tonekit_inventory::Named;
+use tonekit_judge::Inventory;
+use tonekit_sheet_read::Sheet;
+
+// The place of the record with number n among `count` from an offset on, each `step` bytes behind the
+// one before.
+fn index_from(s: &[u8], o: usize, step: usize, count: usize, n: u8) -> Found
+    requires { ⌜ (o ≤ 65536) × (step ≤ 18) × (count ≤ 8) ⌝ }
+    ensures { λ r. ⌜ r ≡ indexOf (now (s .entry)) (stepped o step count) n ⌝ }
+{
+    for i in 0..count {
+        if byte_at(s, o + step * i, 1) == n {
+            return Found::At(i);
+        }
+    }
+    Found::Nothing
+}
+
+// The place of the accent with number n among a sheet's, or none; and of the tone. The sheet is one
+// that the reader handed back for these bytes, here and below.
+pub fn accent_index(s: &[u8], st: Sheet, n: u8) -> Found
+    requires { ⌜ Roomy st ⌝ }
+    ensures { λ r. ⌜ r ≡ indexOf (now (s .entry)) (shown st .accents) n ⌝ }
+{
+    index_from(s, 9 + 15 * st.tones, 18, st.accents, n)
+}
+
+pub fn tone_index(s: &[u8], st: Sheet, n: u8) -> Found
+    requires { ⌜ Roomy st ⌝ }
+    ensures { λ r. ⌜ r ≡ indexOf (now (s .entry)) (shown st .tones) n ⌝ }
+{
+    index_from(s, 9, 15, st.tones, n)
+}
+
+// The place of what stood before among a row's: none first, then the tones.
+fn prev_index(s: &[u8], st: Sheet, n: u8) -> Found
+    requires { ⌜ Roomy st ⌝ }
+    ensures { λ r. ⌜ r ≡ prevFound (now (s .entry)) (shown st) n ⌝ }
+{
+    if n == 0 {
+        return Found::At(0);
+    }
+    match tone_index(s, st, n) {
+        Found::At(p) => Found::At(p + 1),
+        Found::Nothing => Found::Nothing,
+    }
+}
+
+// The place of the row of accent a, tone t and place p of what stood before.
+fn row_place(st: Sheet, a: usize, t: usize, p: usize) -> usize
+    requires { ⌜ Roomy st × (a < st .accents) × (t < st .tones) × (p ≤ st .tones) ⌝ }
+    ensures { λ r. ⌜ (r ≡ rowPlace (shown st) a t p) × (r < 576) ⌝ }
+{
+    (a * st.tones + t) * (st.tones + 1) + p
+}
+
+// The list number of that row, at a phrase's end or not.
+fn list_number(s: &[u8], st: Sheet, a: usize, t: usize, p: usize, c: Context) -> u8
+    requires { ⌜ Roomy st × (a < st .accents) × (t < st .tones) × (p ≤ st .tones) ⌝ }
+    ensures { λ r. ⌜ r ≡ byteAt (now (s .entry)) (rowAt (shown st) (rowPlace (shown st) a t p) + finalPlace c) ⌝ }
+{
+    let row = row_place(st, a, t, p);
+    let o = 9 + 15 * st.tones + 18 * st.accents + 6 * row;
+    if c.last == 0 {
+        return byte_at(s, o, 4);
+    }
+    byte_at(s, o, 5)
+}
+
+// The offset of the list with a number, of at most as many as there are.
+fn list_place(st: Sheet, number: u8) -> Found
+    requires { ⌜ Roomy st × (number ≤ st .lists) ⌝ }
+    ensures { λ r. ⌜ Placed (shown st) number r ⌝ }
+{
+    let at = st.listat;
+    if number == 0 {
+        return Found::Nothing;
+    }
+    let i = number as usize - 1;
+    Found::At(at[i] as usize)
+}
+
+// The offset of the list that a context takes in a sheet that loads, or none: the row by position, and
+// of its two lists the one for this place in the phrase.
+pub fn look_sheet(s: &[u8], st: Sheet, c: Context) -> Found
+    requires { ⌜ Roomy st × ((e : ℕ) × (readSheet (now s) ≡ loaded (shown st) e)) ⌝ }
+    ensures { λ r. ⌜ Looks (now (s .entry)) (shown st) c r ⌝ }
+{
+    let accent = accent_index(s, st, c.accent);
+    let tone = tone_index(s, st, c.tone);
+    let prev = prev_index(s, st, c.prev);
+    let Found::At(a) = accent else {
+        return Found::Nothing;
+    };
+    let Found::At(t) = tone else {
+        return Found::Nothing;
+    };
+    let Found::At(p) = prev else {
+        return Found::Nothing;
+    };
+    list_place(st, list_number(s, st, a, t, p, c))
+}
+
+// The ten points from an offset on.
+fn ten_at(s: &[u8], o: usize) -> [f32; 10]
+    ensures { λ r. ⌜ r ≡ map f32 (bitsAt (now (s .entry)) o 10) ⌝ }
+{
+    [
+        f32_at(s, o, 0),
+        f32_at(s, o, 4),
+        f32_at(s, o, 8),
+        f32_at(s, o, 12),
+        f32_at(s, o, 16),
+        f32_at(s, o, 20),
+        f32_at(s, o, 24),
+        f32_at(s, o, 28),
+        f32_at(s, o, 32),
+        f32_at(s, o, 36),
+    ]
+}
+
+// Puts the components of the list at o into tone t's slots.
+fn fill_sheet(s: &[u8], o: usize, t: usize, weights: &mut [f32], points: &mut [f32])
+    requires { ⌜ (t < 8) × ShortList (now s) o × (length (now weights) ≡ 32) × (length (now points) ≡ 320) ⌝ }
+    ensures { λ _. ⌜ (now (weights .exit) ≡ sets (now (weights .entry)) (4 * t) (weightsOf (carriedFrom (now (s .entry)) o (byteAt (now (s .entry)) (o + 6))))) × (now (points .exit) ≡ sets (now (points .entry)) (40 * t) (pointsOf (carriedFrom (now (s .entry)) o (byteAt (now (s .entry)) (o + 6))))) ⌝ }
+{
+    let count = byte_at(s, o, 6) as usize;
+    for j in 0..count {
+        let at = o + 7 + 45 * j;
+        let ten = ten_at(s, at + 5);
+        weights[4 * t + j] = f32_at(s, at, 1);
+        tonekit_inventory::put_points(points, 40 * t + 10 * j, ten);
+    }
+}
+
+// The name of the list at an offset, and how many components it has.
+fn name_at(s: &[u8], o: usize) -> Named
+    ensures { λ r. ⌜ r ≡ nameAt (now (s .entry)) o ⌝ }
+{
+    Named {
+        owner: byte_at(s, o, 2),
+        form: byte_at(s, o, 3),
+        label: u16_at(s, o, 4),
+        count: byte_at(s, o, 6),
+    }
+}
+
+// The inventory with tone t of a sheet, whose record stands at o, and the list that its lookup found.
+fn with_sheet_tone(i: Inventory, t: usize, s: &[u8], o: usize, list: usize) -> Inventory
+    requires { ⌜ (t < 8) × (o < 65536) ⌝ }
+    ensures { λ r. ⌜ r ≡ withTone t (byteAt (now (s .entry)) (o + 1)) (f32At (now (s .entry)) (o + 2)) (regionAt (now (s .entry)) (o + 6)) (nameAt (now (s .entry)) list) i ⌝ }
+{
+    tonekit_inventory::with_tone(
+        i,
+        t,
+        byte_at(s, o, 1),
+        f32_at(s, o, 2),
+        tonekit_inventory::region_at(s, o + 6),
+        name_at(s, list),
+    )
+}
+
+// The listings of all tones of a sheet that loads, in a context whose tone is not read; weights and
+// points hold zeros before, and the components in their slots after.
+pub fn gather_sheet(
+    s: &[u8],
+    st: Sheet,
+    c: Context,
+    weights: &mut [f32],
+    points: &mut [f32],
+) -> Gathered
+    requires { ⌜ Roomy st × ((e : ℕ) × (readSheet (now s) ≡ loaded (shown st) e)) × (now weights ≡ replicate 32 (f32 0)) × (now points ≡ replicate 320 (f32 0)) ⌝ }
+    ensures { λ r. ⌜ (gatheringOf r (now (weights .exit)) (now (points .exit)) ≡ gathered (sourceOfSheet (now (s .entry)) (shown st)) c) × (r .found ≡ true → Sound (listedOf r (now (weights .exit)) (now (points .exit)))) ⌝ }
+{
+    let mut i = tonekit_inventory::no_inventory(st.tones);
+    for t in 0..st.tones {
+        let o = 9 + 15 * t;
+        let here = Context {
+            accent: c.accent,
+            tone: byte_at(s, o, 1),
+            prev: c.prev,
+            last: c.last,
+        };
+        match look_sheet(s, st, here) {
+            Found::At(list) => {
+                fill_sheet(s, list, t, weights, points);
+                let next = with_sheet_tone(i, t, s, o, list);
+                i = next;
+            }
+            Found::Nothing => {
+                return Gathered {
+                    found: false,
+                    inventory: i,
+                };
+            }
+        }
+    }
+    Gathered {
+        found: true,
+        inventory: i,
+    }
+}
