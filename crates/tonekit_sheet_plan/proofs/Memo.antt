@@ -1,9 +1,9 @@
--- The planner's state: what one more list, or one more entry of the memo, keeps. Assumes nothing.
-use Prim.Native.Nat.{ℕ, zero, suc, _+_, _≤_, _<_}
-use mathlib.Core.Path.{_≡_, refl, sym, _∙_, ap, subst}
-use mathlib.Core.Bool.{Bool, true, false, cond}
+-- The planner's lists and memo: what one more of each keeps. Assumes nothing.
+use Prim.Native.Nat.{ℕ, zero, suc, _+_, _*_, _/_, _%_, _≤_, _<_}
+use mathlib.Core.Path.{_≡_, refl, sym, _∙_, ap, ap₂, subst}
+use mathlib.Core.Bool.{Bool, true, false}
 use mathlib.Core.List.{List, [], _∷_, _++_}
-use mathlib.Core.Option.{Option, none, some}
+use mathlib.Core.Option.{none, some}
 use native.Mathlib.Omega.{arith}
 use native.Mathlib.Numerals.{add-one}
 use lib.Dec.{eqb, ltb}
@@ -11,43 +11,61 @@ use lib.ListN.{length, getD, set, length-set, length-append, List·getD-append}
 use lib.Seq.{getD-set-other, getD-set-same, getD-at}
 use borrow.Author.Tests.{eqb-true, eqb-false, ltb-true, ltb-false, lt-ltb, le-ltb}
 use Rattle.tonekit_pack.proofs.Split.{split}
-use Rattle.tonekit_expect.specs.Source.{Carried, components}
+use Rattle.tonekit_expect.specs.Source.{Carried}
 use Rattle.tonekit_expect.specs.declared.Listing.{Listing}
 use Rattle.tonekit_sheet.specs.Number.{same, seenIn, placeIn, noted, numberIn}
-use Rattle.tonekit_sheet_plan.specs.declared.Plan.{Plan}
+use Rattle.tonekit_sheet_plan.specs.declared.Counts.{Counts}
 use Rattle.tonekit_sheet_plan.specs.Listings.{carriedBy, recordOf, listingFrom, Kept}
-use Rattle.tonekit_sheet_plan.specs.Plans.{carriedIn, planned, listAt, knownList, Sane, remembered, appended}
+use Rattle.tonekit_sheet_plan.specs.Plans.{keyOf, entryOf, keyListing, listAt, planned, ListsFine, MemoFine, Sane, knownAfter, memoAfter}
 use Rattle.tonekit_sheet_plan.proofs.Placing.{Placing, Placed, placing-out, place-more, seen-more, seen-last, place-last}
 
--- ---- the lists of the first n records
+-- ---- a listing and its number
+module _ (s : List ℕ) (l : Listing) (k : Kept s l) (byte : l .owner < 256) where
+  pub key-small : keyOf l < 16777216
+  key-small = omega (arith, k .near)
+
+  -- the number gives the listing again, whatever stands above its owner
+  pub again : (e : ℕ) → e % 16777216 ≡ keyOf l → keyListing s e ≡ l
+  again e q =
+      let o : e % 65536 ≡ recordOf l = low e (recordOf l) (l .owner) (k .near) byte q in
+      let w : e / 65536 % 256 ≡ l .owner = high e (recordOf l) (l .owner) (k .near) byte q in
+      ap₂ (listingFrom s) w o ∙ k .same
+    where
+      low : (e o w : ℕ) → o < 65536 → w < 256 → e % 16777216 ≡ o + 65536 * w → e % 65536 ≡ o
+      low e o w a b q = omega arith
+
+      high : (e o w : ℕ) → o < 65536 → w < 256 → e % 16777216 ≡ o + 65536 * w → e / 65536 % 256 ≡ w
+      high e o w a b q = omega arith
+
+entry-key : (key number : ℕ) → key < 16777216 → entryOf key number % 16777216 ≡ key
+entry-key key number h = omega arith
+
+entry-number : (key number : ℕ) → key < 16777216 → entryOf key number / 16777216 ≡ number
+entry-number key number h = omega arith
+
+-- ---- the lists of the first n numbers
 module _ (s : List ℕ) where
-  abbrev carriedAt : List ℕ → List ℕ → ℕ → List Carried
-  carriedAt at owner i = carriedBy s (listingFrom s (getD owner i 0) (getD at i 0))
+  pub planned-length : (lists : List ℕ) (n : ℕ) → length (planned s lists n) ≡ n
+  unfolding planned
+  planned-length lists zero = refl
+  planned-length lists (suc n) = simp (length-append, planned-length lists n, add-one)
 
-  pub carried-length : (at owner : List ℕ) (n : ℕ) → length (carriedIn s at owner n) ≡ n
-  unfolding carriedIn
-  carried-length at owner zero = refl
-  carried-length at owner (suc n) = simp (length-append, carried-length at owner n, add-one)
-
-  pub carried-get : (at owner : List ℕ) (n i : ℕ) → i < n → getD (carriedIn s at owner n) i [] ≡ carriedAt at owner i
-  unfolding carriedIn
-  carried-get at owner zero i h = absurd (omega arith)
-  carried-get at owner (suc n) i h =
+  pub planned-get : (lists : List ℕ) (n i : ℕ) → i < n → getD (planned s lists n) i [] ≡ carriedBy s (listAt s lists i)
+  unfolding planned
+  planned-get lists zero i h = absurd (omega arith)
+  planned-get lists (suc n) i h =
       split (ltb i n)
-      (λ l. List·getD-append (carriedIn s at owner n) (carriedAt at owner n ∷ []) [] i (rw (carried-length at owner n) (ltb-true i n l)) ∙ carried-get at owner n i (ltb-true i n l))
-      (λ l. let e : i ≡ n = omega (arith, ltb-false i n l) in rw e (getD-at (carriedIn s at owner n) (carriedAt at owner n) [] [] n (carried-length at owner n)))
+      (λ l. List·getD-append (planned s lists n) (carriedBy s (listAt s lists n) ∷ []) [] i (rw (planned-length lists n) (ltb-true i n l)) ∙ planned-get lists n i (ltb-true i n l))
+      (λ l. let e : i ≡ n = omega (arith, ltb-false i n l) in rw e (getD-at (planned s lists n) (carriedBy s (listAt s lists n)) [] [] n (planned-length lists n)))
 
-  carried-kept : (at owner : List ℕ) (n m o w : ℕ) → n ≤ m → carriedIn s (set at m o) (set owner m w) n ≡ carriedIn s at owner n
-  unfolding carriedIn
-  carried-kept at owner zero m o w h = refl
-  carried-kept at owner (suc n) m o w h =
-      rw (carried-kept at owner n m o w (omega arith), getD-set-other at m n o 0 (λ e. omega arith), getD-set-other owner m n w 0 (λ e. omega arith))
+  planned-kept : (lists : List ℕ) (n m e : ℕ) → n ≤ m → planned s (set lists m e) n ≡ planned s lists n
+  unfolding planned
+  planned-kept lists zero m e h = refl
+  planned-kept lists (suc n) m e h = rw (planned-kept lists n m e (omega arith), getD-set-other lists m n e 0 (λ q. omega arith))
 
-  carried-set : (at owner : List ℕ) (n o w : ℕ) → n < length at → n < length owner
-      → carriedIn s (set at n o) (set owner n w) (n + 1) ≡ carriedIn s at owner n ++ (carriedBy s (listingFrom s w o) ∷ [])
-  unfolding carriedIn
-  carried-set at owner n o w h g =
-      rw add-one (rw (carried-kept at owner n n o w (omega arith), getD-set-same at n o 0 h, getD-set-same owner n w 0 g))
+  planned-set : (lists : List ℕ) (n e : ℕ) → n < length lists → planned s (set lists n e) (n + 1) ≡ planned s lists n ++ (carriedBy s (keyListing s e) ∷ [])
+  unfolding planned
+  planned-set lists n e h = rw add-one (rw (planned-kept lists n n e (omega arith), getD-set-same lists n e 0 h))
 
 -- ---- what noting gives
 module _ (lists : List (List Carried)) (v : List Carried) where
@@ -67,158 +85,158 @@ pub number-none : (lists : List (List Carried)) → 0 ≡ numberIn lists none
 unfolding numberIn
 number-none lists = refl
 
-pub number-some : (lists : List (List Carried)) (v : List Carried) → suc (placeIn v lists) ≡ numberIn lists (some v)
+number-some : (lists : List (List Carried)) (v : List Carried) → suc (placeIn v lists) ≡ numberIn lists (some v)
 unfolding numberIn
 number-some lists v = refl
 
--- ---- one more entry of the memo
-module _ (s : List ℕ) (p : Plan) (w o x : ℕ) (g : Sane s p) where
-  abbrev this : List Carried
-  this = carriedBy s (listingFrom s w o)
+-- ---- one more entry of the memo: that of a listing whose list has this place
+module _ (s lists : List ℕ) (n : ℕ) (memo : List ℕ) (k : ℕ) (g : MemoFine s lists n memo k) (l : Listing) (key x : ℕ) (small : key < 16777216)
+    (is : (e : ℕ) → e % 16777216 ≡ key → keyListing s e ≡ l)
+    (seen : seenIn (carriedBy s l) (planned s lists n) ≡ true) (place : x ≡ suc (placeIn (carriedBy s l) (planned s lists n))) where
+  abbrev entry : ℕ
+  entry = entryOf key x
 
-  module _ (seen : seenIn this (planned s p) ≡ true) (e : x ≡ suc (placeIn this (planned s p))) where
-    memo-more : (i : ℕ) → i < p .known + 1 → p .known < 128
-        → let k = carriedBy s (listingFrom s (getD (set (p .knownowner) (p .known) w) i 0) (getD (set (p .knownat) (p .known) o) i 0)) in
-        (seenIn k (planned s p) ≡ true) × (getD (set (p .number) (p .known) x) i 0 ≡ suc (placeIn k (planned s p)))
-    memo-more i h r =
-        split (eqb i (p .known))
-        (λ q. let k : i ≡ p .known = eqb-true i (p .known) q in
-        rw (k, getD-set-same (p .knownowner) (p .known) w 0 (omega (arith, g .knownowner-slots)), getD-set-same (p .knownat) (p .known) o 0 (omega (arith, g .knownat-slots)), getD-set-same (p .number) (p .known) x 0 (omega (arith, g .number-slots)))
-        (seen, e))
-        (λ q. let k : i ≡ p .known → ⊥ = eqb-false i (p .known) q in
-        rw (getD-set-other (p .knownowner) (p .known) i w 0 k, getD-set-other (p .knownat) (p .known) i o 0 k, getD-set-other (p .number) (p .known) i x 0 k)
-        (g .memo i (omega (arith, k))))
+  here : keyListing s entry ≡ l
+  here = is entry (entry-key key x small)
 
-    sane-remembered : Sane s (remembered p w o x) × (planned s (remembered p w o x) ≡ planned s p)
-    sane-remembered =
-        split (ltb (p .known) 128)
-        (λ t. let r : p .known < 128 = ltb-true (p .known) 128 t in
-        rw t (
-          record {
-            few = g .few;
-            few-known = omega arith;
-            at-slots = g .at-slots;
-            owner-slots = g .owner-slots;
-            knownat-slots = length-set (p .knownat) (p .known) o ∙ g .knownat-slots;
-            knownowner-slots = length-set (p .knownowner) (p .known) w ∙ g .knownowner-slots;
-            number-slots = length-set (p .number) (p .known) x ∙ g .number-slots;
-            lists = g .lists;
-            memo = λ i h. memo-more i h r;
-          },
-          refl,
-        ))
-        (λ t. rw t (g, refl))
+  right-more : k < 128 → (i : ℕ) → i < k + 1
+      → (seenIn (carriedBy s (listAt s (set memo k entry) i)) (planned s lists n) ≡ true)
+      × (getD (set memo k entry) i 0 / 16777216 ≡ suc (placeIn (carriedBy s (listAt s (set memo k entry) i)) (planned s lists n)))
+  right-more r i h =
+      split (eqb i k)
+      (λ q. let e : i ≡ k = eqb-true i k q in
+      let a : getD (set memo k entry) i 0 ≡ entry = ap (λ (j : ℕ). getD (set memo k entry) j 0) e ∙ getD-set-same memo k entry 0 (omega (arith, g .slots)) in
+      let b : carriedBy s (listAt s (set memo k entry) i) ≡ carriedBy s l = ap (λ (m : ℕ). carriedBy s (keyListing s m)) a ∙ ap (carriedBy s) here in (
+        ap (λ (v : List Carried). seenIn v (planned s lists n)) b ∙ seen,
+        ap (λ (m : ℕ). m / 16777216) a ∙ entry-number key x small ∙ place ∙ ap (λ (v : List Carried). suc (placeIn v (planned s lists n))) (sym b),
+      ))
+      (λ q. let e : i ≡ k → ⊥ = eqb-false i k q in
+      rw (getD-set-other memo k i entry 0 e) (g .right i (omega (arith, e))))
+
+  memo-more : MemoFine s lists n (memoAfter memo k entry) (knownAfter k)
+  memo-more =
+      split (ltb k 128)
+      (λ t. let r : k < 128 = ltb-true k 128 t in
+      rw t (record { few = omega arith; slots = length-set memo k entry ∙ g .slots; right = right-more r }))
+      (λ t. rw t g)
 
 -- ---- one more list
-module _ (s : List ℕ) (p : Plan) (w o : ℕ) (g : Sane s p) (room : p .count < 128) where
-  planned-appended : planned s (appended p w o) ≡ planned s p ++ (carriedBy s (listingFrom s w o) ∷ [])
-  planned-appended = carried-set s (p .at) (p .owner) (p .count) o w (omega (arith, g .at-slots)) (omega (arith, g .owner-slots))
+module _ (s lists : List ℕ) (n : ℕ) (g : ListsFine s lists n) (e : ℕ) (room : n < 128) where
+  planned-more : planned s (set lists n e) (n + 1) ≡ planned s lists n ++ (carriedBy s (keyListing s e) ∷ [])
+  planned-more = planned-set s lists n e (omega (arith, g .slots))
 
-  lists-more : Kept s (listingFrom s w o) → (i : ℕ) → i < p .count + 1 → Kept s (listAt s (appended p w o) i)
-  lists-more k i h =
-      split (eqb i (p .count))
-      (λ q. let e : i ≡ p .count = eqb-true i (p .count) q in
-      rw (e, getD-set-same (p .at) (p .count) o 0 (omega (arith, g .at-slots)), getD-set-same (p .owner) (p .count) w 0 (omega (arith, g .owner-slots))) k)
-      (λ q. let e : i ≡ p .count → ⊥ = eqb-false i (p .count) q in
-      rw (getD-set-other (p .at) (p .count) i o 0 e, getD-set-other (p .owner) (p .count) i w 0 e) (g .lists i (omega (arith, e))))
-
-  sane-appended : Kept s (listingFrom s w o) → Sane s (appended p w o)
-  sane-appended k = record {
+  lists-more : Kept s (keyListing s e) → ListsFine s (set lists n e) (n + 1)
+  lists-more k = record {
     few = omega arith;
-    few-known = g .few-known;
-    at-slots = length-set (p .at) (p .count) o ∙ g .at-slots;
-    owner-slots = length-set (p .owner) (p .count) w ∙ g .owner-slots;
-    knownat-slots = g .knownat-slots;
-    knownowner-slots = g .knownowner-slots;
-    number-slots = g .number-slots;
-    lists = lists-more k;
-    memo = λ i h.
-        let m = g .memo i h in
-        let v = knownList s p i in
-        rw planned-appended
-        (seen-more v (planned s p) (carriedBy s (listingFrom s w o) ∷ []) (m .0), m .1 ∙ ap suc (sym (place-more v (planned s p) (carriedBy s (listingFrom s w o) ∷ []) (m .0))));
+    slots = length-set lists n e ∙ g .slots;
+    each = λ i h.
+        split (eqb i n)
+        (λ q. let z : i ≡ n = eqb-true i n q in rw (z, getD-set-same lists n e 0 (omega (arith, g .slots))) k)
+        (λ q. let z : i ≡ n → ⊥ = eqb-false i n q in rw (getD-set-other lists n i e 0 z) (g .each i (omega (arith, z))));
+  }
+
+  memo-kept : (memo : List ℕ) (k : ℕ) → MemoFine s lists n memo k → MemoFine s (set lists n e) (n + 1) memo k
+  memo-kept memo k m = record {
+    few = m .few;
+    slots = m .slots;
+    right = λ i h.
+        let r = m .right i h in
+        let v = carriedBy s (listAt s memo i) in
+        rw planned-more
+        (seen-more v (planned s lists n) (carriedBy s (keyListing s e) ∷ []) (r .0), r .1 ∙ ap suc (sym (place-more v (planned s lists n) (carriedBy s (keyListing s e) ∷ []) (r .0))));
   }
 
 -- ---- the ways through `note_listing`
-abbrev pub Noted : List ℕ → Plan → Listing → Plan → Type 0
-Noted s p l r = (planned s r ≡ noted (planned s p) (some (carriedBy s l))) × Sane s r
-
-module _ (s : List ℕ) (p : Plan) (l : Listing) (o : ℕ) (g : Sane s p) (k : Kept s l) (is : o ≡ recordOf l) where
+module _ (s lists memo : List ℕ) (n : Counts) (l : Listing) (g : Sane s lists memo n) (k : Kept s l) (byte : l .owner < 256) where
   abbrev its : List Carried
   its = carriedBy s l
 
-  again : listingFrom s (l .owner) o ≡ l
-  again = ap (listingFrom s (l .owner)) is ∙ k .same
+  abbrev before : List (List Carried)
+  before = planned s lists (n .lists)
 
-  same-list : carriedBy s (listingFrom s (l .owner) o) ≡ its
-  same-list = ap (carriedBy s) again
+  -- the memo has it
+  module _ (i : ℕ) (h : i < n .known) (e : getD memo i 0 % 16777216 ≡ keyOf l) where
+    known : (seenIn its before ≡ true) × (getD memo i 0 / 16777216 ≡ suc (placeIn its before))
+    known = rw (again s l k byte (getD memo i 0) e) at (g .memo-fine .right i h)
 
-  -- an entry of the memo for this record and owner
-  known : (n : ℕ) → n < p .known → getD (p .knownowner) n 0 ≡ l .owner → getD (p .knownat) n 0 ≡ o
-      → (seenIn its (planned s p) ≡ true) × (getD (p .number) n 0 ≡ suc (placeIn its (planned s p)))
-  known n h a b = rw (a, b, same-list) at (g .memo n h)
+    pub way-known : (before ≡ noted before (some its)) × Sane s lists memo n
+    way-known = (sym (noted-old before its (known .0)), g)
 
-  pub way-known : (n : ℕ) → n < p .known → getD (p .knownowner) n 0 ≡ l .owner → getD (p .knownat) n 0 ≡ o → Noted s p l p
-  way-known n h a b = (sym (noted-old (planned s p) its (known n h a b .0)), g)
+    pub number-known : getD memo i 0 / 16777216 ≡ numberIn before (some its)
+    number-known = known .1 ∙ number-some before its
 
-  pub number-known : (n : ℕ) → n < p .known → getD (p .knownowner) n 0 ≡ l .owner → getD (p .knownat) n 0 ≡ o → getD (p .number) n 0 ≡ numberIn (planned s p) (some its)
-  number-known n h a b = known n h a b .1 ∙ number-some (planned s p) its
+  module _ (j : ℕ) (place : j ≡ placeIn its before) (seen : seenIn its before ≡ ltb j (n .lists)) where
+    pub number-place : j + 1 ≡ numberIn before (some its)
+    number-place = add-one j ∙ ap suc place ∙ number-some before its
 
-  module _ (j : ℕ) (place : j ≡ placeIn its (planned s p)) (seen : seenIn its (planned s p) ≡ ltb j (p .count)) where
-    pub number-place : j + 1 ≡ numberIn (planned s p) (some its)
-    number-place = add-one j ∙ ap suc place ∙ number-some (planned s p) its
+    abbrev memo' : List ℕ
+    memo' = memoAfter memo (n .known) (entryOf (keyOf l) (j + 1))
 
-    pub way-found : (r : Plan) → j < p .count → r ≡ remembered p (l .owner) o (j + 1) → Noted s p l r
-    way-found r h e =
-        let t : seenIn its (planned s p) ≡ true = seen ∙ lt-ltb j (p .count) h in
-        let q = sane-remembered s p (l .owner) o (j + 1) g (rw same-list t) (rw same-list (add-one j ∙ ap suc place)) in
-        rw e (q .1 ∙ sym (noted-old (planned s p) its t), q .0)
+    -- it is one of the lists
+    pub way-found : j < n .lists → (before ≡ noted before (some its)) × Sane s lists memo' (record { lists = n .lists; known = knownAfter (n .known) })
+    way-found h =
+        let t : seenIn its before ≡ true = seen ∙ lt-ltb j (n .lists) h in (
+          sym (noted-old before its t),
+          record {
+            lists-fine = g .lists-fine;
+            memo-fine = memo-more s lists (n .lists) memo (n .known) (g .memo-fine) l (keyOf l) (j + 1) (key-small s l k byte) (again s l k byte) t (add-one j ∙ ap suc place);
+          },
+        )
 
-    module _ (h : p .count ≤ j) (room : length (noted (planned s p) (some its)) ≤ 128) where
-      fresh : seenIn its (planned s p) ≡ false
-      fresh = seen ∙ le-ltb j (p .count) h
+    -- it is new
+    module _ (h : n .lists ≤ j) (few : j ≤ n .lists) (room : length (noted before (some its)) ≤ 128) where
+      fresh : seenIn its before ≡ false
+      fresh = seen ∙ le-ltb j (n .lists) h
 
-      pub way-room : p .count < 128
+      at-end : j ≡ n .lists
+      at-end = omega arith
+
+      pub way-room : j < 128
       way-room =
-          let n : length (planned s p ++ (its ∷ [])) ≤ 128 = rw (noted-new (planned s p) its fresh) at room in
-          omega (arith, length-append (planned s p) (its ∷ []), carried-length s (p .at) (p .owner) (p .count))
+          let m : length (before ++ (its ∷ [])) ≤ 128 = rw (noted-new before its fresh) at room in
+          omega (arith, length-append before (its ∷ []), planned-length s lists (n .lists), at-end)
 
-      pub way-new : (r q : Plan) → j ≤ p .count → q ≡ appended p (l .owner) o → r ≡ remembered q (l .owner) o (j + 1) → Noted s p l r
-      way-new r q f e e' =
-          let a : planned s (appended p (l .owner) o) ≡ planned s p ++ (its ∷ []) = planned-appended s p (l .owner) o g way-room ∙ ap (λ (x : List Carried). planned s p ++ (x ∷ [])) same-list in
-          let j' : j ≡ length (planned s p) = omega (arith, h, f, carried-length s (p .at) (p .owner) (p .count)) in
-          let t = sane-remembered s (appended p (l .owner) o) (l .owner) o (j + 1) (sane-appended s p (l .owner) o g way-room (rw again k))
-          (rw (a, same-list) (seen-last its (planned s p))) (rw (a, same-list) (add-one j ∙ ap suc (j' ∙ sym (place-last its (planned s p) fresh)))) in
-          rw (e', e) (t .1 ∙ a ∙ sym (noted-new (planned s p) its fresh), t .0)
-
--- a search that ended gives what `place_of` promises
-pub placed : (s : List ℕ) (p : Plan) (v : List Carried) (r : ℕ) → Placed v (planned s p) r → (r ≡ placeIn v (planned s p)) × (seenIn v (planned s p) ≡ ltb r (p .count)) × (r ≤ p .count)
-placed s p v r t = let n = carried-length s (p .at) (p .owner) (p .count) in (t .place, t .seen ∙ ap (ltb r) n, omega (arith, t .few, n))
-
--- the empty plan
-pub sane-empty : (s a b c d e : List ℕ) → length a ≡ 128 → length b ≡ 128 → length c ≡ 128 → length d ≡ 128 → length e ≡ 128
-    → Sane s (record { count = 0; known = 0; at = a; owner = b; knownat = c; knownowner = d; number = e })
-sane-empty s a b c d e la lb lc ld le = record {
-  few = omega arith;
-  few-known = omega arith;
-  at-slots = la;
-  owner-slots = lb;
-  knownat-slots = lc;
-  knownowner-slots = ld;
-  number-slots = le;
-  lists = λ i h. absurd (omega arith);
-  memo = λ i h. absurd (omega arith);
-}
+      pub way-new : (planned s (set lists j (keyOf l)) (j + 1) ≡ noted before (some its)) × Sane s (set lists j (keyOf l)) memo' (record { lists = j + 1; known = knownAfter (n .known) })
+      way-new =
+          let key = keyOf l in
+          let small = key-small s l k byte in
+          let same : keyListing s key ≡ l = again s l k byte key (omega (arith, small)) in
+          let lf : ListsFine s lists j = subst (ListsFine s lists) (sym at-end) (g .lists-fine) in
+          let mf : MemoFine s lists j memo (n .known) = subst (λ (m : ℕ). MemoFine s lists m memo (n .known)) (sym at-end) (g .memo-fine) in
+          let p : planned s (set lists j key) (j + 1) ≡ before ++ (its ∷ []) =
+          planned-more s lists j lf key way-room ∙ ap₂ (λ (a : List (List Carried)) (v : Listing). a ++ (carriedBy s v ∷ [])) (ap (planned s lists) at-end) same in (
+            p ∙ sym (noted-new before its fresh),
+            record {
+              lists-fine = lists-more s lists j lf key way-room (rw same k);
+              memo-fine =
+                  memo-more s (set lists j key) (j + 1) memo (n .known) (memo-kept s lists j lf key way-room memo (n .known) mf) l key (j + 1) small (again s l k byte)
+                  (rw p (seen-last its before)) (rw p (add-one j ∙ ap suc (at-end ∙ sym (planned-length s lists (n .lists)) ∙ sym (place-last its before fresh))));
+            },
+          )
 
 -- ---- a turn of the search for a place
-module _ (s : List ℕ) (p : Plan) (v : List Carried) where
-  pub here : {i : ℕ} {x : Listing} {b : Bool} → i < p .count → x ≡ listAt s p i → b ≡ same v (carriedBy s x) → same v (getD (planned s p) i []) ≡ b
-  here {i} {x} {b} h e q = ap (same v) (carried-get s (p .at) (p .owner) (p .count) i h ∙ ap (carriedBy s) (sym e)) ∙ sym q
+module _ (s lists : List ℕ) (n : ℕ) (v : List Carried) where
+  pub compared : {i : ℕ} {x : Listing} {b : Bool} → i < n → x ≡ listAt s lists i → b ≡ same v (carriedBy s x) → same v (getD (planned s lists n) i []) ≡ b
+  compared {i} {x} {b} h e q = ap (same v) (planned-get s lists n i h ∙ ap (carriedBy s) (sym e)) ∙ sym q
 
-  pub below : {i : ℕ} → i < p .count → i < length (planned s p)
-  below h = omega (arith, h, carried-length s (p .at) (p .owner) (p .count))
+  pub below : {i : ℕ} → i < n → i < length (planned s lists n)
+  below h = omega (arith, h, planned-length s lists n)
 
-  pub passed : {i : ℕ} → Placing v (planned s p) i → p .count ≤ i → (p .count ≡ placeIn v (planned s p)) × (seenIn v (planned s p) ≡ ltb (p .count) (p .count)) × (p .count ≤ p .count)
+  pub placed : (r : ℕ) → Placed v (planned s lists n) r → (r ≡ placeIn v (planned s lists n)) × (seenIn v (planned s lists n) ≡ ltb r n) × (r ≤ n)
+  placed r t = let m = planned-length s lists n in (t .place, t .seen ∙ ap (ltb r) m, omega (arith, t .few, m))
+
+  pub passed : {i : ℕ} → Placing v (planned s lists n) i → n ≤ i → (n ≡ placeIn v (planned s lists n)) × (seenIn v (planned s lists n) ≡ ltb n n) × (n ≤ n)
   passed {i} g h =
-      let n = carried-length s (p .at) (p .owner) (p .count) in
-      placed s p v (p .count) (subst (Placed v (planned s p)) n (placing-out v (planned s p) g (omega (arith, h, n))))
+      let m = planned-length s lists n in
+      placed n (subst (Placed v (planned s lists n)) m (placing-out v (planned s lists n) g (omega (arith, h, m))))
+
+-- ---- no list yet
+pub none-planned : (s lists : List ℕ) → planned s lists 0 ≡ []
+unfolding planned
+none-planned s lists = refl
+
+pub sane-none : (s lists memo : List ℕ) → length lists ≡ 128 → length memo ≡ 128 → Sane s lists memo (record { lists = 0; known = 0 })
+sane-none s lists memo a b = record {
+  lists-fine = record { few = omega arith; slots = a; each = λ i h. absurd (omega arith) };
+  memo-fine = record { few = omega arith; slots = b; right = λ i h. absurd (omega arith) };
+}

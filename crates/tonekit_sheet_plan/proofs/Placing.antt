@@ -1,18 +1,19 @@
 -- The place of a list among lists, looked for from the front. Assumes nothing.
 use Prim.Native.Nat.{ℕ, zero, suc, _+_, _≤_, _<_}
 use mathlib.Core.Path.{_≡_, refl, sym, _∙_, ap}
-use mathlib.Core.Bool.{Bool, true, false, _&&_, _||_}
+use mathlib.Core.Bool.{true, false}
 use mathlib.Core.List.{List, [], _∷_, _++_}
 use native.Mathlib.Omega.{arith}
 use native.Mathlib.Nat.{add-zero, zero-add}
 use native.Mathlib.Numerals.{add-one}
-use lib.Dec.{eqb, ltb}
+use lib.Dec.{ltb}
 use lib.ListN.{length, getD, drop, drop-of-length-le}
 use lib.Seq.{drop-cons}
-use borrow.Author.Tests.{eq-eqb, lt-ltb, le-ltb}
+use borrow.Author.Tests.{lt-ltb, le-ltb}
 use Rattle.tonekit_expect.specs.Source.{Carried}
 use Rattle.tonekit_pack.proofs.Split.{split, absurd-bool}
-use Rattle.tonekit_sheet.specs.Number.{sameNumbers, sameCarried, same, seenIn, placeIn}
+use Rattle.tonekit_sheet.specs.Number.{same, seenIn, placeIn}
+use Rattle.tonekit_sheet_fit.proofs.Budget.{same-self}
 
 module _ (v : List Carried) (xs : List (List Carried)) where
   -- what is left has the list where the whole has it
@@ -54,22 +55,6 @@ module _ (v : List Carried) (xs : List (List Carried)) where
     seen = p .seen ∙ rw (drop-of-length-le xs {i = i} h) (sym (le-ltb (length xs) (length xs) (omega arith)));
     few = omega arith;
   }
-
--- ---- a list is the same as itself
-numbers-self : (xs : List ℕ) → sameNumbers xs xs ≡ true
-unfolding sameNumbers
-numbers-self [] = refl
-numbers-self (x ∷ xs) = rw (eq-eqb x x refl, numbers-self xs)
-
-carried-self : (c : Carried) → sameCarried c c ≡ true
-unfolding sameCarried
-carried-self c =
-    rw (eq-eqb (c .owner) (c .owner) refl, eq-eqb (c .form) (c .form) refl, eq-eqb (c .label) (c .label) refl, eq-eqb (c .part) (c .part) refl, eq-eqb (c .weight) (c .weight) refl, numbers-self (c .points))
-
-same-self : (v : List Carried) → same v v ≡ true
-unfolding same
-same-self [] = refl
-same-self (c ∷ v) = rw (carried-self c, same-self v)
 
 -- ---- lists behind the others
 module _ (v : List Carried) where

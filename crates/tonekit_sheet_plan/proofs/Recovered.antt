@@ -1,6 +1,6 @@
 -- Every listing that a lookup in a pack that loads gives is found again from its owner and its record, and can be read. Assumes nothing.
 use Prim.Native.Nat.{ℕ, _+_, _-_, _≤_, _<_}
-use mathlib.Core.Path.{_≡_, refl, sym, ap, _∙_, subst}
+use mathlib.Core.Path.{_≡_, refl, subst}
 use mathlib.Core.List.{List}
 use native.Mathlib.Omega.{arith}
 use lib.Dec.{eqb, ltb}
@@ -20,7 +20,7 @@ use Rattle.tonekit_expect.specs.declared.Look.the-variants as look
 use Rattle.tonekit_expect.specs.Lookup.{indexOf, toRule, findRule, ruleListing, citation, listed, lookAt, lookUp}
 use Rattle.tonekit_expect.proofs.Walk.{index-found, winner-is}
 use Rattle.tonekit_expect.proofs.Curves.{listed-fine}
-use Rattle.tonekit_sheet_plan.specs.Listings.{recordOf, listingFrom, Kept, LookKept}
+use Rattle.tonekit_sheet_plan.specs.Listings.{recordOf, listingFrom, LookKept}
 
 -- found again
 record Again (s : List ℕ) (l : Listing) : Type 0 where

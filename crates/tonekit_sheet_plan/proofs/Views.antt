@@ -1,8 +1,7 @@
 -- What a pack's sheet is made of, and the room that its lists need on the way. Assumes nothing.
-use Prim.Native.Nat.{ℕ, zero, suc, _+_, _-_, _*_, _≤_, _<_}
+use Prim.Native.Nat.{ℕ, zero, suc, _+_, _-_, _≤_, _<_}
 use mathlib.Core.Path.{_≡_, refl, sym, _∙_, ap}
-use mathlib.Core.Bool.{true, false, cond}
-use mathlib.Core.List.{List, [], _∷_, _++_, map}
+use mathlib.Core.List.{List, [], _∷_, map}
 use mathlib.Core.Option.{Option, none, some}
 use native.Mathlib.Omega.{arith}
 use lib.ListN.{length, length-append, length-map}
@@ -12,14 +11,13 @@ use Rattle.tonekit_pack.specs.Held.{inOrder, shown}
 use Rattle.tonekit_pack.specs.declared.Pack.{Pack}
 use Rattle.tonekit_pack.proofs.Split.{split}
 use Rattle.tonekit_pack.proofs.InOrder.{order-length}
+use Rattle.tonekit_pack.proofs.Loads.{loads, some-tones}
 use Rattle.tonekit_expect.specs.Lookup.{lookUp}
-use Rattle.tonekit_expect.specs.Source.{Carried, components, given, accentAt, toneAt, sourceOfPack}
-use Rattle.tonekit_expect.specs.declared.Context.{Context}
+use Rattle.tonekit_expect.specs.Source.{Carried, given, accentAt, toneAt, sourceOfPack}
 use Rattle.tonekit_sheet.specs.Number.{seenIn, noted}
 use Rattle.tonekit_sheet.specs.Sheet.{View, viewOf, ascending, rowContext, rowCount, rowsOf, noteTurn, listsOf}
 use Rattle.tonekit_sheet_plan.specs.declared.Sorted.{Sorted}
-use Rattle.tonekit_sheet_plan.specs.declared.Plan.{Plan}
-use Rattle.tonekit_sheet_plan.specs.Plans.{carriedIn, planned}
+use Rattle.tonekit_sheet_plan.specs.Listings.{Reads}
 use Rattle.tonekit_sheet_plan.specs.Rows.{packView, tonesOf, accentsOf, Ordered}
 
 -- ---- the parts of a pack's view
@@ -83,13 +81,13 @@ module _ (v : View) where
       omega (arith, l, range-grows (i + 1) hi (noteTurn v i lists), ap length e)
 
 -- ---- the loop over the rows begins with no list
-pub planned-none : (s : List ℕ) (q : Plan) → q .count ≡ 0 → planned s q ≡ []
-unfolding carriedIn
-planned-none s q e = rw e
-
 pub lists-begun : (s : List ℕ) (p : Pack) (a : Sorted) → Ordered s (shown p) a → (n : ℕ) (lists : List (List Carried)) → n ≡ rowCount (a .count) (p .tones) → lists ≡ []
     → range (noteTurn (packView s (shown p))) 0 n lists ≡ listsOf (packView s (shown p))
 unfolding listsOf
 lists-begun s p a o n lists e z =
     let h : rowsOf (packView s (shown p)) ≡ n = view-rows s (shown p) a o ∙ ap (rowCount (a .count)) (order-length (p .toneat) (p .tones)) ∙ sym e in
     rw (z, h)
+
+-- ---- a pack that was read has a tone
+pub some-tone : (s : List ℕ) (p : Pack) → Reads s (shown p) → 1 ≤ p .tones
+some-tone s p r = omega (arith, some-tones s (shown p) (r .end) (loads s (shown p) (r .end) (r .loads)), order-length (p .toneat) (p .tones))

@@ -1,5 +1,5 @@
--- What the planner's state stands for: the lists so far, and a memo that promises only that what it holds is right.
-use Prim.Native.Nat.{ℕ, zero, suc, _+_, _≤_, _<_}
+-- What the planner holds: the lists so far, and a memo of numbers that promises only that what it holds is right.
+use Prim.Native.Nat.{ℕ, zero, suc, _+_, _*_, _/_, _%_, _≤_, _<_}
 use mathlib.Core.Path.{_≡_}
 use mathlib.Core.Bool.{true, cond}
 use mathlib.Core.List.{List, [], _∷_, _++_}
@@ -8,60 +8,49 @@ use lib.ListN.{length, getD, set}
 use Rattle.tonekit_expect.specs.Source.{Carried}
 use Rattle.tonekit_expect.specs.declared.Listing.{Listing}
 use Rattle.tonekit_sheet.specs.Number.{seenIn, placeIn}
-use Rattle.tonekit_sheet_plan.specs.declared.Plan.{Plan}
-use Rattle.tonekit_sheet_plan.specs.Listings.{carriedBy, listingFrom, Kept}
+use Rattle.tonekit_sheet_plan.specs.declared.Counts.{Counts}
+use Rattle.tonekit_sheet_plan.specs.Listings.{carriedBy, recordOf, listingFrom, Kept}
 
--- what the first n records at these offsets carry, each under its owner
-unfoldable pub carriedIn : List ℕ → List ℕ → List ℕ → ℕ → List (List Carried)
-carriedIn s at owner zero = []
-carriedIn s at owner (suc n) = carriedIn s at owner n ++ (carriedBy s (listingFrom s (getD owner n 0) (getD at n 0)) ∷ [])
+-- a listing in one number: its record's offset, and its owner above that. An entry of the memo has the list's number above both
+abbrev pub keyOf : Listing → ℕ
+keyOf l = recordOf l + 65536 * l .owner
 
--- the lists of a plan, by number
-abbrev pub planned : List ℕ → Plan → List (List Carried)
-planned s p = carriedIn s (p .at) (p .owner) (p .count)
+abbrev pub entryOf : ℕ → ℕ → ℕ
+entryOf key number = key + 16777216 * number
 
--- the listing of list i, and of entry i of the memo
-abbrev pub listAt : List ℕ → Plan → ℕ → Listing
-listAt s p i = listingFrom s (getD (p .owner) i 0) (getD (p .at) i 0)
+-- the listing of a number, with or without a list's number
+abbrev pub keyListing : List ℕ → ℕ → Listing
+keyListing s e = listingFrom s (e / 65536 % 256) (e % 65536)
 
-abbrev pub knownList : List ℕ → Plan → ℕ → List Carried
-knownList s p i = carriedBy s (listingFrom s (getD (p .knownowner) i 0) (getD (p .knownat) i 0))
+abbrev pub listAt : List ℕ → List ℕ → ℕ → Listing
+listAt s es i = keyListing s (getD es i 0)
 
--- the counts keep their limits, the arrays their lengths, each list can be read, and the memo is right
-pub record Sane (s : List ℕ) (p : Plan) : Type 0 where
-  pub few : p .count ≤ 128
-  pub few-known : p .known ≤ 128
-  pub at-slots : length (p .at) ≡ 128
-  pub owner-slots : length (p .owner) ≡ 128
-  pub knownat-slots : length (p .knownat) ≡ 128
-  pub knownowner-slots : length (p .knownowner) ≡ 128
-  pub number-slots : length (p .number) ≡ 128
-  pub lists : (i : ℕ) → i < p .count → Kept s (listAt s p i)
-  pub memo : (i : ℕ) → i < p .known → (seenIn (knownList s p i) (planned s p) ≡ true) × (getD (p .number) i 0 ≡ suc (placeIn (knownList s p i) (planned s p)))
+-- the lists by number: what each of the first n carries
+unfoldable pub planned : List ℕ → List ℕ → ℕ → List (List Carried)
+planned s lists zero = []
+planned s lists (suc n) = planned s lists n ++ (carriedBy s (listAt s lists n) ∷ [])
 
--- one more entry of the memo, where there is room
-abbrev pub remembered : Plan → ℕ → ℕ → ℕ → Plan
-remembered p owner o n =
-    cond (ltb (p .known) 128)
-    (record {
-      count = p .count;
-      known = p .known + 1;
-      at = p .at;
-      owner = p .owner;
-      knownat = set (p .knownat) (p .known) o;
-      knownowner = set (p .knownowner) (p .known) owner;
-      number = set (p .number) (p .known) n;
-    })
-    p
+-- n lists are in their array, and can be read
+pub record ListsFine (s lists : List ℕ) (n : ℕ) : Type 0 where
+  pub few : n ≤ 128
+  pub slots : length lists ≡ 128
+  pub each : (i : ℕ) → i < n → Kept s (listAt s lists i)
 
--- one more list
-abbrev pub appended : Plan → ℕ → ℕ → Plan
-appended p owner o = record {
-  count = p .count + 1;
-  known = p .known;
-  at = set (p .at) (p .count) o;
-  owner = set (p .owner) (p .count) owner;
-  knownat = p .knownat;
-  knownowner = p .knownowner;
-  number = p .number;
-}
+-- what the memo's first k entries say of n lists is right
+pub record MemoFine (s lists : List ℕ) (n : ℕ) (memo : List ℕ) (k : ℕ) : Type 0 where
+  pub few : k ≤ 128
+  pub slots : length memo ≡ 128
+  pub right : (i : ℕ) → i < k
+      → (seenIn (carriedBy s (listAt s memo i)) (planned s lists n) ≡ true)
+      × (getD memo i 0 / 16777216 ≡ suc (placeIn (carriedBy s (listAt s memo i)) (planned s lists n)))
+
+pub record Sane (s lists memo : List ℕ) (n : Counts) : Type 0 where
+  pub lists-fine : ListsFine s lists (n .lists)
+  pub memo-fine : MemoFine s lists (n .lists) memo (n .known)
+
+-- the memo with one more entry, where there is room
+abbrev pub knownAfter : ℕ → ℕ
+knownAfter k = cond (ltb k 128) (k + 1) k
+
+abbrev pub memoAfter : List ℕ → ℕ → ℕ → List ℕ
+memoAfter memo k e = cond (ltb k 128) (set memo k e) memo

@@ -1,18 +1,18 @@
 // The planner of a pack's sheet: the accents in ascending order, the context of each row, and which
 // list each context takes, numbered by first use along the rows.
 ghost use mathlib.Core.Path.{_≡_};
-ghost use Prim.Native.Nat.{ℕ, _≤_, _<_};
-ghost use mathlib.Core.List.{List};
+ghost use Prim.Native.Nat.{_+_, _/_, _%_, _≤_, _<_};
 ghost use mathlib.Core.Option.{some};
 ghost use lib.Dec.{ltb};
 ghost use lib.ListN.{length, getD};
 ghost use Rattle.tonekit_pack.specs.Held.{shown, Roomy};
+ghost use Rattle.tonekit_expect.specs.Lookup.{lookUp};
 ghost use Rattle.tonekit_expect.specs.Source.{given};
 ghost use Rattle.tonekit_sheet.specs.Number.{seenIn, placeIn, noted, numberIn};
-ghost use Rattle.tonekit_sheet.specs.Sheet.{noteTurn, listsOf};
-ghost use Rattle.tonekit_sheet_plan.specs.Rows.{packView, Ordered};
+ghost use Rattle.tonekit_sheet.specs.Sheet.{rowContext, noteTurn, listsOf};
+ghost use Rattle.tonekit_sheet_plan.specs.Rows.{packView, tonesOf, accentsOf, Ordered};
 ghost use Rattle.tonekit_sheet_plan.specs.Listings.{carriedBy, recordOf, Kept, LookKept, Reads};
-ghost use Rattle.tonekit_sheet_plan.specs.Plans.{planned, listAt, Sane, remembered, appended};
+ghost use Rattle.tonekit_sheet_plan.specs.Plans.{keyOf, entryOf, keyListing, listAt, planned, ListsFine, Sane, knownAfter, memoAfter};
 
 mod listing;
 pub mod rows;
@@ -35,184 +35,188 @@ pub struct Sorted {
     pub at: [u16; 8],
 }
 
-// The lists by number, each as the record that it stands in and its owner, and a memo of the numbers
-// of such records.
-pub struct Plan {
-    pub count: usize,
+// How many lists a plan has, and how many entries its memo.
+pub struct Counts {
+    pub lists: usize,
     pub known: usize,
-    pub at: [u16; 128],
-    pub owner: [u8; 128],
-    pub knownat: [u16; 128],
-    pub knownowner: [u8; 128],
-    pub number: [u8; 128],
 }
 
-// An offset, as it is held, at the type of an index.
-fn wide(x: u16) -> usize
-    ensures { λ r. ⌜ (r ≡ x) × (r < 65536) ⌝ }
+// A listing in one number: its record's offset, and its owner above that.
+fn key_of(s: &[u8], l: Listing) -> u32
+    requires { ⌜ Kept (now s) l ⌝ }
+    ensures { λ r. ⌜ (r ≡ keyOf l) × (recordOf l < 65536) × (l .owner < 256) ⌝ }
 {
-    x as usize
+    let owner = l.owner as u32;
+    record_of(s, l) as u32 + 65536 * owner
+}
+
+// The listing of such a number, whatever stands above its owner.
+fn listing_of(s: &[u8], e: u32) -> Listing
+    ensures { λ l. ⌜ l ≡ keyListing (now (s .entry)) e ⌝ }
+{
+    listing_at(s, (e / 65536 % 256) as u8, (e % 65536) as usize)
+}
+
+// The list's number of an entry of the memo.
+fn number_in(e: u32) -> u8
+    ensures { λ r. ⌜ r ≡ e / 16777216 ⌝ }
+{
+    (e / 16777216) as u8
 }
 
 // List i of a plan.
-pub fn list_at(s: &[u8], p: Plan, i: usize) -> Listing
+pub fn list_at(s: &[u8], lists: &[u32; 128], i: usize) -> Listing
     requires { ⌜ i < 128 ⌝ }
-    ensures { λ l. ⌜ l ≡ listAt (now (s .entry)) p i ⌝ }
+    ensures { λ l. ⌜ l ≡ listAt (now (s .entry)) (now (lists .entry)) i ⌝ }
 {
-    listing_at(s, p.owner[i], wide(p.at[i]))
+    listing_of(s, lists[i])
 }
 
-// Where the memo has the record o of an owner, or its length.
-fn known_at(p: Plan, owner: u8, o: usize) -> usize
-    requires { ⌜ p .known ≤ 128 ⌝ }
-    ensures { λ r. ⌜ (r ≤ p .known) × (r < p .known → (getD (p .knownowner) r 0 ≡ owner) × (getD (p .knownat) r 0 ≡ o)) ⌝ }
+// Where the memo's first n entries have a listing, or n.
+fn known_at(memo: &[u32; 128], n: usize, key: u32) -> usize
+    requires { ⌜ n ≤ 128 ⌝ }
+    ensures { λ r. ⌜ (r ≤ n) × (r < n → getD (now (memo .entry)) r 0 % 16777216 ≡ key) ⌝ }
 {
-    for i in 0..p.known {
-        if p.knownowner[i] == owner {
-            if wide(p.knownat[i]) == o {
-                return i;
-            }
-        }
-    }
-    p.known
-}
-
-// The place of a listing's list among those of a plan, or how many there are.
-fn place_of(s: &[u8], p: Plan, l: Listing) -> usize
-    requires { ⌜ Sane (now s) p × Kept (now s) l ⌝ }
-    ensures { λ r. ⌜ (r ≡ placeIn (carriedBy (now (s .entry)) l) (planned (now (s .entry)) p)) × (seenIn (carriedBy (now (s .entry)) l) (planned (now (s .entry)) p) ≡ ltb r (p .count)) × (r ≤ p .count) ⌝ }
-{
-    for i in 0..p.count {
-        if same_listing(s, l, list_at(s, p, i)) {
+    for i in 0..n {
+        if memo[i] % 16777216 == key {
             return i;
         }
     }
-    p.count
+    n
 }
 
-// The memo with one more record, where there is room.
-fn remember(p: Plan, owner: u8, o: usize, number: u8) -> Plan
-    requires { ⌜ o < 65536 ⌝ }
-    ensures { λ r. ⌜ r ≡ remembered p owner o number ⌝ }
+// The place of a listing's list among n, or n.
+fn place_of(s: &[u8], lists: &[u32; 128], n: usize, l: Listing) -> usize
+    requires { ⌜ ListsFine (now s) (now lists) n × Kept (now s) l ⌝ }
+    ensures { λ r. ⌜ (r ≡ placeIn (carriedBy (now (s .entry)) l) (planned (now (s .entry)) (now (lists .entry)) n)) × (seenIn (carriedBy (now (s .entry)) l) (planned (now (s .entry)) (now (lists .entry)) n) ≡ ltb r n) × (r ≤ n) ⌝ }
 {
-    let k = p.known;
-    if k < limits::LISTS {
-        let mut next = p;
-        next.knownat[k] = o as u16;
-        next.knownowner[k] = owner;
-        next.number[k] = number;
-        next.known = k + 1;
-        return next;
+    for i in 0..n {
+        if same_listing(s, l, list_at(s, lists, i)) {
+            return i;
+        }
     }
-    p
+    n
 }
 
-// One more list.
-fn append(p: Plan, owner: u8, o: usize) -> Plan
-    requires { ⌜ (o < 65536) × (p .count < 128) ⌝ }
-    ensures { λ r. ⌜ r ≡ appended p owner o ⌝ }
+// One more entry of the memo, where there is room.
+fn remember(memo: &mut [u32; 128], k: usize, key: u32, number: usize) -> usize
+    requires { ⌜ (key < 16777216) × (number < 256) ⌝ }
+    ensures { λ r. ⌜ (r ≡ knownAfter k) × (now (memo .exit) ≡ memoAfter (now (memo .entry)) k (entryOf key number)) ⌝ }
 {
-    let mut next = p;
-    let n = p.count;
-    next.at[n] = o as u16;
-    next.owner[n] = owner;
-    next.count = n + 1;
-    next
+    if k < limits::LISTS {
+        memo[k] = key + 16777216 * (number as u32);
+        return k + 1;
+    }
+    k
 }
 
 // The lists with one more listing's, if it is new. One that the memo has is compared with none.
-fn note_listing(s: &[u8], p: Plan, l: Listing) -> Plan
-    requires { ⌜ Sane (now s) p × Kept (now s) l × (length (noted (planned (now s) p) (some (carriedBy (now s) l))) ≤ 128) ⌝ }
-    ensures { λ r. ⌜ (planned (now (s .entry)) r ≡ noted (planned (now (s .entry)) p) (some (carriedBy (now (s .entry)) l))) × Sane (now (s .entry)) r ⌝ }
+fn note_listing(
+    s: &[u8],
+    lists: &mut [u32; 128],
+    memo: &mut [u32; 128],
+    n: Counts,
+    l: Listing,
+) -> Counts
+    requires { ⌜ Sane (now s) (now lists) (now memo) n × Kept (now s) l × (length (noted (planned (now s) (now lists) (n .lists)) (some (carriedBy (now s) l))) ≤ 128) ⌝ }
+    ensures { λ r. ⌜ (planned (now (s .entry)) (now (lists .exit)) (r .lists) ≡ noted (planned (now (s .entry)) (now (lists .entry)) (n .lists)) (some (carriedBy (now (s .entry)) l))) × Sane (now (s .entry)) (now (lists .exit)) (now (memo .exit)) r ⌝ }
 {
-    let o = record_of(s, l);
-    if known_at(p, l.owner, o) < p.known {
-        return p;
+    let count = n.lists;
+    let key = key_of(s, l);
+    if known_at(memo, n.known, key) < n.known {
+        return n;
     }
-    let j = place_of(s, p, l);
-    if j < p.count {
-        return remember(p, l.owner, o, (j + 1) as u8);
+    let j = place_of(s, lists, count, l);
+    let known = remember(memo, n.known, key, j + 1);
+    if j < count {
+        return Counts {
+            lists: count,
+            known: known,
+        };
     }
-    let next = append(p, l.owner, o);
-    remember(next, l.owner, o, (j + 1) as u8)
+    lists[j] = key;
+    Counts {
+        lists: j + 1,
+        known: known,
+    }
 }
 
 // The lists with what one more lookup gives.
-fn note(s: &[u8], p: Plan, x: Look) -> Plan
-    requires { ⌜ Sane (now s) p × LookKept (now s) x × (length (noted (planned (now s) p) (given (now s) x)) ≤ 128) ⌝ }
-    ensures { λ r. ⌜ (planned (now (s .entry)) r ≡ noted (planned (now (s .entry)) p) (given (now (s .entry)) x)) × Sane (now (s .entry)) r ⌝ }
+fn note(s: &[u8], lists: &mut [u32; 128], memo: &mut [u32; 128], n: Counts, x: Look) -> Counts
+    requires { ⌜ Sane (now s) (now lists) (now memo) n × LookKept (now s) x × (length (noted (planned (now s) (now lists) (n .lists)) (given (now s) x)) ≤ 128) ⌝ }
+    ensures { λ r. ⌜ (planned (now (s .entry)) (now (lists .exit)) (r .lists) ≡ noted (planned (now (s .entry)) (now (lists .entry)) (n .lists)) (given (now (s .entry)) x)) × Sane (now (s .entry)) (now (lists .exit)) (now (memo .exit)) r ⌝ }
 {
     match x {
-        Look::Found(l) => note_listing(s, p, l),
-        Look::Nothing => p,
+        Look::Found(l) => note_listing(s, lists, memo, n, l),
+        Look::Nothing => n,
     }
 }
 
-// What a context of row i gives, at the end of a phrase (1) or not (0).
+// What the context of row i gives, at the end of a phrase (1) or not (0). The pack is the one that
+// the reader handed back for these bytes, and its accents are sorted.
 pub fn look_row(s: &[u8], p: Pack, a: Sorted, i: usize, last: u8) -> Look
     requires { ⌜ Roomy p × Reads (now s) (shown p) × Ordered (now s) (shown p) a ⌝ }
-    ensures { λ r. ⌜ (given (now (s .entry)) r ≡ packView (now (s .entry)) (shown p) .row i last) × LookKept (now (s .entry)) r ⌝ }
+    ensures { λ r. ⌜ (given (now (s .entry)) r ≡ packView (now (s .entry)) (shown p) .row i last) × LookKept (now (s .entry)) r × (r ≡ lookUp (now (s .entry)) (shown p) (rowContext (tonesOf (now (s .entry)) (shown p)) (accentsOf (now (s .entry)) a) i last)) ⌝ }
 {
     look_up(s, p, row_context(s, p, a, i, last))
 }
 
 // The lists with those of row i: not final before final.
-fn note_row(s: &[u8], p: Pack, a: Sorted, q: Plan, i: usize) -> Plan
-    requires { ⌜ Roomy p × Reads (now s) (shown p) × Ordered (now s) (shown p) a × Sane (now s) q × (length (noteTurn (packView (now s) (shown p)) i (planned (now s) q)) ≤ 128) ⌝ }
-    ensures { λ r. ⌜ (planned (now (s .entry)) r ≡ noteTurn (packView (now (s .entry)) (shown p)) i (planned (now (s .entry)) q)) × Sane (now (s .entry)) r ⌝ }
+fn note_row(
+    s: &[u8],
+    p: Pack,
+    a: Sorted,
+    lists: &mut [u32; 128],
+    memo: &mut [u32; 128],
+    n: Counts,
+    i: usize,
+) -> Counts
+    requires { ⌜ Roomy p × Reads (now s) (shown p) × Ordered (now s) (shown p) a × Sane (now s) (now lists) (now memo) n × (length (noteTurn (packView (now s) (shown p)) i (planned (now s) (now lists) (n .lists))) ≤ 128) ⌝ }
+    ensures { λ r. ⌜ (planned (now (s .entry)) (now (lists .exit)) (r .lists) ≡ noteTurn (packView (now (s .entry)) (shown p)) i (planned (now (s .entry)) (now (lists .entry)) (n .lists))) × Sane (now (s .entry)) (now (lists .exit)) (now (memo .exit)) r ⌝ }
 {
-    let before = note(s, q, look_row(s, p, a, i, 0));
-    note(s, before, look_row(s, p, a, i, 1))
+    let before = note(s, lists, memo, n, look_row(s, p, a, i, 0));
+    note(s, lists, memo, before, look_row(s, p, a, i, 1))
 }
 
-// The lists of a pack's sheet, by number. The pack is the one that the reader handed back for these
-// bytes, its accents are sorted, and there are at most 128 lists, as in every pack that loads.
-pub fn plan_lists(s: &[u8], p: Pack, a: Sorted) -> Plan
-    requires { ⌜ Roomy p × Reads (now s) (shown p) × Ordered (now s) (shown p) a × (length (listsOf (packView (now s) (shown p))) ≤ 128) ⌝ }
-    ensures { λ r. ⌜ (planned (now (s .entry)) r ≡ listsOf (packView (now (s .entry)) (shown p))) × Sane (now (s .entry)) r ⌝ }
+// The lists of a pack's sheet, by number, into `lists`, with a memo of their numbers: at most 128, as
+// the pack loads. The pack and its accents are as for `look_row`.
+pub fn plan_lists(
+    s: &[u8],
+    p: Pack,
+    a: Sorted,
+    lists: &mut [u32; 128],
+    memo: &mut [u32; 128],
+) -> Counts
+    requires { ⌜ Roomy p × Reads (now s) (shown p) × Ordered (now s) (shown p) a × (length (now lists) ≡ 128) × (length (now memo) ≡ 128) ⌝ }
+    ensures { λ r. ⌜ (planned (now (s .entry)) (now (lists .exit)) (r .lists) ≡ listsOf (packView (now (s .entry)) (shown p))) × Sane (now (s .entry)) (now (lists .exit)) (now (memo .exit)) r ⌝ }
 {
-    let mut q = nothing();
+    let mut n = Counts { lists: 0, known: 0 };
     for i in 0..row_count(a.count, p.tones) {
-        q = note_row(s, p, a, q, i);
+        n = note_row(s, p, a, lists, memo, n, i);
     }
-    q
-}
-
-// No list yet.
-fn nothing() -> Plan
-    ensures { λ r. ⌜ (r .count ≡ 0) × ((s : List ℕ) → Sane s r) ⌝ }
-{
-    Plan {
-        count: 0,
-        known: 0,
-        at: [0; 128],
-        owner: [0; 128],
-        knownat: [0; 128],
-        knownowner: [0; 128],
-        number: [0; 128],
-    }
+    n
 }
 
 // The number of a listing's list: the memo's, or its place from 1.
-fn number_listing(s: &[u8], p: Plan, l: Listing) -> u8
-    requires { ⌜ Sane (now s) p × Kept (now s) l ⌝ }
-    ensures { λ r. ⌜ r ≡ numberIn (planned (now (s .entry)) p) (some (carriedBy (now (s .entry)) l)) ⌝ }
+fn number_listing(s: &[u8], lists: &[u32; 128], memo: &[u32; 128], n: Counts, l: Listing) -> u8
+    requires { ⌜ Sane (now s) (now lists) (now memo) n × Kept (now s) l ⌝ }
+    ensures { λ r. ⌜ r ≡ numberIn (planned (now (s .entry)) (now (lists .entry)) (n .lists)) (some (carriedBy (now (s .entry)) l)) ⌝ }
 {
-    let o = record_of(s, l);
-    let k = known_at(p, l.owner, o);
-    if k < p.known {
-        return p.number[k];
+    let key = key_of(s, l);
+    let k = known_at(memo, n.known, key);
+    if k < n.known {
+        return number_in(memo[k]);
     }
-    (place_of(s, p, l) + 1) as u8
+    (place_of(s, lists, n.lists, l) + 1) as u8
 }
 
 // The number of what a lookup gives, 0 for nothing.
-pub fn number_of(s: &[u8], p: Plan, x: Look) -> u8
-    requires { ⌜ Sane (now s) p × LookKept (now s) x ⌝ }
-    ensures { λ r. ⌜ r ≡ numberIn (planned (now (s .entry)) p) (given (now (s .entry)) x) ⌝ }
+pub fn number_of(s: &[u8], lists: &[u32; 128], memo: &[u32; 128], n: Counts, x: Look) -> u8
+    requires { ⌜ Sane (now s) (now lists) (now memo) n × LookKept (now s) x ⌝ }
+    ensures { λ r. ⌜ r ≡ numberIn (planned (now (s .entry)) (now (lists .entry)) (n .lists)) (given (now (s .entry)) x) ⌝ }
 {
     match x {
-        Look::Found(l) => number_listing(s, p, l),
+        Look::Found(l) => number_listing(s, lists, memo, n, l),
         Look::Nothing => 0,
     }
 }

@@ -1,8 +1,7 @@
--- From what the pack's reader answers to what the call answers. A pack that loads has at most 128 lists (`fit-of-pack`). Assumes nothing.
-use Prim.Native.Nat.{ℕ, _≤_}
-use mathlib.Core.Path.{_≡_, refl, sym, _∙_, ap}
+-- From what the pack's reader answers to what the call answers. Assumes nothing.
+use Prim.Native.Nat.{ℕ}
+use mathlib.Core.Path.{_≡_, sym, _∙_, ap}
 use mathlib.Core.List.{List}
-use lib.ListN.{length}
 use Rattle.tonekit_core.specs.declared.Refusal.{Refusal}
 use Rattle.tonekit_core.specs.Calls.{written}
 use Rattle.tonekit_core.specs.Calls as calls
@@ -12,12 +11,9 @@ use Rattle.tonekit_pack.specs.declared.Loaded.{Loaded}
 use Rattle.tonekit_pack.specs.declared.PackRead.the-variants.{Good, Refused}
 use Rattle.tonekit_pack.proofs.Single.{loads-alone}
 use Rattle.tonekit_expect.specs.Source.{sourceOfPack}
-use Rattle.tonekit_sheet.specs.Agree.{Bytes}
-use Rattle.tonekit_sheet.specs.Sheet.{listsOf, sheet}
-use Rattle.tonekit_sheet_fit.proofs.Fits.{fit-of-pack}
-use Rattle.tonekit_sheet_plan.specs.Rows.{packView}
+use Rattle.tonekit_sheet.specs.Sheet.{sheet}
 use Rattle.tonekit_sheet_plan.specs.Listings.{Reads}
-use Rattle.tonekit_sheet_write.specs.Outcome.{sheetOf, sheetOutcome}
+use Rattle.tonekit_sheet_write.specs.Outcome.{sheetOutcome}
 
 module _ (s : List ℕ) (l : Loaded) (h : answered l ≡ loadPack s) where
   module _ (e : ℕ) (g : l .read ≡ Good e) where
@@ -26,9 +22,6 @@ module _ (s : List ℕ) (l : Loaded) (h : answered l ≡ loadPack s) where
 
     pub reads : Reads s (shown (l .pack))
     reads = record { end = e; loads = alone }
-
-    pub few-lists : Bytes s → length (listsOf (packView s (shown (l .pack)))) ≤ 128
-    few-lists b = fit-of-pack s b (shown (l .pack)) e alone .few-lists
 
     pub is-written : written (sheet (sourceOfPack s (shown (l .pack)))) ≡ sheetOutcome s
     unfolding sheetOutcome

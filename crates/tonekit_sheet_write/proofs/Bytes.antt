@@ -7,12 +7,11 @@ use native.Mathlib.Nat.{add-zero, zero-add}
 use lib.Ieee.{Float, binary32, toBits}
 use lib.ListN.{length, getD, take, drop, length-append, length-map}
 use lib.Seq.{sets, length-sets}
-use Rattle.tonekit_bytes.specs.Fields.{le16, le32, f32Bytes, f32sBytes}
+use Rattle.tonekit_bytes.specs.Fields.{le16, f32Bytes, f32sBytes}
 use Rattle.tonekit_bytes.proofs.Write.{part-put}
 use Rattle.tonekit_pack.specs.Held.{inOrder, shown}
 use Rattle.tonekit_pack.specs.declared.Pack.{Pack}
 use Rattle.tonekit_pack.proofs.InOrder.{order-length, order-get}
-use Rattle.tonekit_pack.proofs.Loads.{loads, some-tones}
 use Rattle.tonekit_expect.specs.Lookup.{componentOf}
 use Rattle.tonekit_expect.specs.Source.{Tone, Accent, Carried, carried, components, given, toneAt, accentAt}
 use Rattle.tonekit_expect.specs.declared.Component.{Component}
@@ -24,13 +23,12 @@ use Rattle.tonekit_sheet.specs.Gather.{pieces, gather, gather-length, Wrote}
 use Rattle.tonekit_sheet.specs.Number.{numberIn}
 use Rattle.tonekit_sheet.specs.Sheet.{noTone, noAccent, noCarried, toneBytes, accentBytes, rowBytes, rowContext, bitsBytes, componentBytes, componentsBytes, listBytes, tonePiece, rowPiece, listPiece}
 use Rattle.tonekit_sheet_plan.specs.declared.Sorted.{Sorted}
-use Rattle.tonekit_sheet_plan.specs.declared.Plan.{Plan}
 use Rattle.tonekit_sheet_plan.specs.Rows.{packView, tonesOf, accentsOf, Ordered}
-use Rattle.tonekit_sheet_plan.specs.Listings.{carriedBy, Kept, Reads}
-use Rattle.tonekit_sheet_plan.specs.Plans.{planned, listAt, Sane}
+use Rattle.tonekit_sheet_plan.specs.Listings.{carriedBy, Kept}
+use Rattle.tonekit_sheet_plan.specs.Plans.{planned, listAt, ListsFine}
 use Rattle.tonekit_sheet_plan.proofs.Ascend.{map-get}
 use Rattle.tonekit_sheet_plan.proofs.Alike.{points-ten}
-use Rattle.tonekit_sheet_plan.proofs.Memo.{carried-get}
+use Rattle.tonekit_sheet_plan.proofs.Memo.{planned-get}
 use Rattle.tonekit_sheet_plan.proofs.Views.{view-tones, view-sorted}
 use Rattle.tonekit_sheet_write.specs.Pieces.{headOf, componentPiece, sortedPiece, componentsPart}
 
@@ -110,15 +108,16 @@ head-is : (s : List ℕ) (l : Listing) (n : ℕ) → Kept s l → (21 ∷ n ∷ 
 head-is s l n k =
     rw (components-at s l noCarried (l .count) 0 (k .some), named s l 0 .owner, named s l 0 .form, named s l 0 .label, components-length s l (l .count))
 
-pub list-piece : (s : List ℕ) (q : Plan) (i : ℕ) → i < q .count → Kept s (listAt s q i) → listPiece (planned s q) i ≡ headOf (i + 1) (listAt s q i) ++ componentsPart s (listAt s q i)
-list-piece s q i h k =
-    ap (listBytes (i + 1)) (carried-get s (q .at) (q .owner) (q .count) i h)
-    ∙ ap₂ (λ (a b : List ℕ). a ++ b) (head-is s (listAt s q i) (i + 1) k) (components-gather s (listAt s q i))
+module _ (s lists : List ℕ) (n i : ℕ) (h : i < n) (k : Kept s (listAt s lists i)) where
+  list-piece : listPiece (planned s lists n) i ≡ headOf (i + 1) (listAt s lists i) ++ componentsPart s (listAt s lists i)
+  list-piece =
+      ap (listBytes (i + 1)) (planned-get s lists n i h)
+      ∙ ap₂ (λ (a b : List ℕ). a ++ b) (head-is s (listAt s lists i) (i + 1) k) (components-gather s (listAt s lists i))
 
-pub list-length : (s : List ℕ) (q : Plan) (i : ℕ) → i < q .count → Kept s (listAt s q i) → 7 + 45 * listAt s q i .count ≡ length (listPiece (planned s q) i)
-list-length s q i h k =
-    let l = listAt s q i in
-    omega (arith, ap length (list-piece s q i h k), length-append (headOf (i + 1) l) (componentsPart s l), components-size s l)
+  list-length : 7 + 45 * listAt s lists i .count ≡ length (listPiece (planned s lists n) i)
+  list-length =
+      let l = listAt s lists i in
+      omega (arith, ap length list-piece, length-append (headOf (i + 1) l) (componentsPart s l), components-size s l)
 
 -- ---- what was written, under another name
 pub wrote-as : {a b : List ℕ} {at r : ℕ} {l m : List ℕ} → a ≡ b → Wrote a at l m r → Wrote b at l m r
@@ -128,31 +127,28 @@ pub wrote-size : {a : List ℕ} {at r : ℕ} {l m : List ℕ} → Wrote a at l m
 wrote-size {a} {at} {r} {l} {m} w = ap length (w .same) ∙ length-sets l at a
 
 -- list i, from its listing
-module _ (s : List ℕ) (q : Plan) (g : Sane s q) (i : ℕ) (h : i < q .count) {l : Listing} (e : l ≡ listAt s q i) where
+module _ (s lists : List ℕ) (n : ℕ) (g : ListsFine s lists n) (i : ℕ) (h : i < n) {l : Listing} (e : l ≡ listAt s lists i) where
   pub list-kept : Kept s l
-  list-kept = rw e (g .lists i h)
+  list-kept = rw e (g .each i h)
 
-  pub list-is : headOf (i + 1) l ++ componentsPart s l ≡ listPiece (planned s q) i
-  list-is = rw e (sym (list-piece s q i h (g .lists i h)))
+  pub list-is : headOf (i + 1) l ++ componentsPart s l ≡ listPiece (planned s lists n) i
+  list-is = rw e (sym (list-piece s lists n i h (g .each i h)))
 
-  pub list-size : 7 + 45 * l .count ≡ length (listPiece (planned s q) i)
-  list-size = rw e (list-length s q i h (g .lists i h))
+  pub list-size : 7 + 45 * l .count ≡ length (listPiece (planned s lists n) i)
+  list-size = rw e (list-length s lists n i h (g .each i h))
 
-  pub list-room : (at n : ℕ) → at + length (listPiece (planned s q) i) ≤ n → at + length (headOf (i + 1) l ++ componentsPart s l) ≤ n
-  list-room at n r = omega (arith, r, ap length list-is)
+  pub list-room : (at m : ℕ) → at + length (listPiece (planned s lists n) i) ≤ m → at + length (headOf (i + 1) l ++ componentsPart s l) ≤ m
+  list-room at m r = omega (arith, r, ap length list-is)
 
 -- ---- a row
-module _ (s : List ℕ) (p : Pack) (a : Sorted) (q : Plan) (r : ℕ) (o : Ordered s (shown p) a) where
+module _ (s : List ℕ) (p : Pack) (a : Sorted) (lists : List (List Carried)) (r : ℕ) (o : Ordered s (shown p) a) where
   pub row-is : {c : Context} {n m : ℕ} (x y : Look) → c ≡ rowContext (tonesOf s (shown p)) (accentsOf s a) r 0
-      → n ≡ numberIn (planned s q) (given s x) → given s x ≡ packView s (shown p) .row r 0
-      → m ≡ numberIn (planned s q) (given s y) → given s y ≡ packView s (shown p) .row r 1
-      → rowBytes c n m ≡ rowPiece (packView s (shown p)) (planned s q) r
+      → n ≡ numberIn lists (given s x) → given s x ≡ packView s (shown p) .row r 0
+      → m ≡ numberIn lists (given s y) → given s y ≡ packView s (shown p) .row r 1
+      → rowBytes c n m ≡ rowPiece (packView s (shown p)) lists r
   row-is {c} {n} {m} x y ec en ex em ey =
       let v = packView s (shown p) in
       let f : c ≡ rowContext (v .tones) (v .accents) r 0 = ec ∙ ap₂ (λ (ts : List Tone) (xs : List Accent). rowContext ts xs r 0) (sym (view-tones s (shown p))) (sym (view-sorted s (shown p) a o)) in
-      let g : n ≡ numberIn (planned s q) (v .row r 0) = en ∙ ap (numberIn (planned s q)) ex in
-      let h : m ≡ numberIn (planned s q) (v .row r 1) = em ∙ ap (numberIn (planned s q)) ey in
+      let g : n ≡ numberIn lists (v .row r 0) = en ∙ ap (numberIn lists) ex in
+      let h : m ≡ numberIn lists (v .row r 1) = em ∙ ap (numberIn lists) ey in
       rw (f, g, h)
-
-pub some-tone : (s : List ℕ) (p : Pack) → Reads s (shown p) → 1 ≤ p .tones
-some-tone s p r = omega (arith, some-tones s (shown p) (r .end) (loads s (shown p) (r .end) (r .loads)), order-length (p .toneat) (p .tones))

@@ -1,26 +1,23 @@
 -- The whole sheet of a pack: its parts one behind the other, its length, and what the writer answers. Assumes nothing.
-use Prim.Native.Nat.{ℕ, zero, suc, _+_, _-_, _*_, _≤_, _<_}
-use mathlib.Core.Path.{_≡_, refl, sym, _∙_, ap, ap₂, subst}
-use mathlib.Core.List.{List, [], _∷_, _++_, map}
+use Prim.Native.Nat.{ℕ, _+_, _-_, _*_, _≤_, _<_}
+use mathlib.Core.Path.{_≡_, refl, _∙_, ap, ap₂}
+use mathlib.Core.List.{List, [], _∷_, _++_}
 use native.Mathlib.Omega.{arith}
 use lib.ListN.{length, getD, length-append, length-map}
-use lib.Seq.{sets}
-use Rattle.tonekit_pack.specs.Pack.{Pst}
 use Rattle.tonekit_pack.specs.Held.{inOrder, shown}
 use Rattle.tonekit_pack.specs.declared.Pack.{Pack}
 use Rattle.tonekit_pack.proofs.InOrder.{order-length}
-use Rattle.tonekit_expect.specs.Source.{Accent, Settings, settingsAt, toneAt, accentAt, sourceOfPack}
+use Rattle.tonekit_expect.specs.Source.{Accent, settingsAt, toneAt, accentAt, sourceOfPack}
 use Rattle.tonekit_sheet.specs.Gather.{gather, gather-length, gather-more, gather-none, Wrote, joined, room-first, room-then}
-use Rattle.tonekit_sheet.specs.Sheet.{View, viewOf, noAccent, settingsBytes, accentBytes, tonePiece, accentPiece, rowPiece, listPiece, rowCount, rowsOf, listsOf, bytesWith, bytesOf, sheet}
+use Rattle.tonekit_sheet.specs.Sheet.{viewOf, noAccent, settingsBytes, accentBytes, tonePiece, accentPiece, rowPiece, listPiece, rowCount, rowsOf, listsOf, bytesWith, bytesOf, sheet}
 use Rattle.tonekit_sheet_plan.specs.declared.Sorted.{Sorted}
-use Rattle.tonekit_sheet_plan.specs.declared.Plan.{Plan}
-use Rattle.tonekit_sheet_plan.specs.Rows.{packView, accentsOf, Ordered}
+use Rattle.tonekit_sheet_plan.specs.Rows.{packView, Ordered}
 use Rattle.tonekit_sheet_plan.specs.Plans.{planned}
-use Rattle.tonekit_sheet_plan.proofs.Memo.{carried-length}
+use Rattle.tonekit_sheet_plan.proofs.Memo.{planned-length}
 use Rattle.tonekit_sheet_plan.proofs.Views.{view-tones, view-sorted, view-rows}
 use Rattle.tonekit_sheet_write.specs.Pieces.{sortedPiece, tonesPart, accentsPart, rowsPart, listsPart}
 
-module _ (s : List ℕ) (p : Pack) (a : Sorted) (q : Plan) where
+module _ (s : List ℕ) (p : Pack) (a : Sorted) (lists : List ℕ) (n : ℕ) where
   -- the six parts, one behind the other
   abbrev pub A : List ℕ
   A = settingsBytes (settingsAt s 0)
@@ -32,16 +29,16 @@ module _ (s : List ℕ) (p : Pack) (a : Sorted) (q : Plan) where
   C = accentsPart s a
 
   abbrev pub D : List ℕ
-  D = rowsPart s p a q
+  D = rowsPart s p a lists n
 
   abbrev pub E : List ℕ
-  E = listsPart s q
+  E = listsPart s lists n
 
   abbrev pub F : List ℕ
   F = 23 ∷ []
 
   abbrev pub Whole : List ℕ
-  Whole = bytesWith (packView s (shown p)) (planned s q)
+  Whole = bytesWith (packView s (shown p)) (planned s lists n)
 
   module _ (o : Ordered s (shown p) a) where
     settings-are : packView s (shown p) .settings ≡ settingsAt s 0
@@ -64,8 +61,8 @@ module _ (s : List ℕ) (p : Pack) (a : Sorted) (q : Plan) where
     parts =
         let v = packView s (shown p) in
         let b : gather (tonePiece v) 0 (length (v .tones)) ≡ B = ap (gather (tonePiece v) 0) tones-are in
-        let d : gather (rowPiece v (planned s q)) 0 (rowsOf v) ≡ D = ap (gather (rowPiece v (planned s q)) 0) rows-are in
-        let e : gather (listPiece (planned s q)) 0 (length (planned s q)) ≡ E = ap (gather (listPiece (planned s q)) 0) (carried-length s (q .at) (q .owner) (q .count)) in
+        let d : gather (rowPiece v (planned s lists n)) 0 (rowsOf v) ≡ D = ap (gather (rowPiece v (planned s lists n)) 0) rows-are in
+        let e : gather (listPiece (planned s lists n)) 0 (length (planned s lists n)) ≡ E = ap (gather (listPiece (planned s lists n)) 0) (planned-length s lists n) in
         ap₂ (λ (x y : List ℕ). x ++ y) (ap settingsBytes settings-are)
         (ap₂ (λ (x y : List ℕ). x ++ y) b (ap₂ (λ (x y : List ℕ). x ++ y) accents-are (ap₂ (λ (x y : List ℕ). x ++ y) d (ap (λ (x : List ℕ). x ++ F) e))))
 
@@ -74,7 +71,7 @@ module _ (s : List ℕ) (p : Pack) (a : Sorted) (q : Plan) where
     sheet-length r z h k =
         let b : length B ≡ 15 * (p .tones - 0) = gather-length (tonePiece (packView s (shown p))) 15 (λ i. refl) 0 (p .tones) in
         let c : length C ≡ 18 * (a .count - 0) = gather-length (sortedPiece s a) 18 (λ i. refl) 0 (a .count) in
-        let d : length D ≡ 6 * (rowCount (a .count) (p .tones) - 0) = gather-length (rowPiece (packView s (shown p)) (planned s q)) 6 (λ i. refl) 0 (rowCount (a .count) (p .tones)) in
+        let d : length D ≡ 6 * (rowCount (a .count) (p .tones) - 0) = gather-length (rowPiece (packView s (shown p)) (planned s lists n)) 6 (λ i. refl) 0 (rowCount (a .count) (p .tones)) in
         omega
         (arith, ap length parts, length-append A (B ++ (C ++ (D ++ (E ++ F)))), length-append B (C ++ (D ++ (E ++ F))), length-append C (D ++ (E ++ F)), length-append D (E ++ F), length-append E F)
 
@@ -122,17 +119,17 @@ module _ (s : List ℕ) (p : Pack) (a : Sorted) (q : Plan) where
                 all-written w₆ = rw parts (joined w₁ (joined w₂ (joined w₃ (joined w₄ (joined w₅ w₆)))))
 
 -- ---- the sum of the lists' lengths
-module _ (s : List ℕ) (q : Plan) where
+module _ (s lists : List ℕ) (n : ℕ) where
   abbrev left : ℕ → ℕ
-  left i = length (gather (listPiece (planned s q)) i (q .count))
+  left i = length (gather (listPiece (planned s lists n)) i n)
 
-  pub sum-on : (i total n : ℕ) → total + left i ≡ length (listsPart s q) → i < q .count → n ≡ length (listPiece (planned s q) i) → total + n + left (i + 1) ≡ length (listsPart s q)
-  sum-on i total n e h k = omega (arith, e, gather-more (listPiece (planned s q)) i (q .count) h, k)
+  pub sum-on : (i total m : ℕ) → total + left i ≡ length (listsPart s lists n) → i < n → m ≡ length (listPiece (planned s lists n) i) → total + m + left (i + 1) ≡ length (listsPart s lists n)
+  sum-on i total m e h k = omega (arith, e, gather-more (listPiece (planned s lists n)) i n h, k)
 
-  pub sum-end : (i total : ℕ) → total + left i ≡ length (listsPart s q) → q .count ≤ i → total ≡ length (listsPart s q)
-  sum-end i total e h = omega (arith, e, gather-none (listPiece (planned s q)) i (q .count) h)
+  pub sum-end : (i total : ℕ) → total + left i ≡ length (listsPart s lists n) → n ≤ i → total ≡ length (listsPart s lists n)
+  sum-end i total e h = omega (arith, e, gather-none (listPiece (planned s lists n)) i n h)
 
 -- ---- the lists planned are those of the sheet
-pub sheet-is : (s : List ℕ) (p : Pack) (q : Plan) → planned s q ≡ listsOf (packView s (shown p)) → bytesWith (packView s (shown p)) (planned s q) ≡ sheet (sourceOfPack s (shown p))
+pub sheet-is : (s : List ℕ) (p : Pack) (lists : List ℕ) (n : ℕ) → planned s lists n ≡ listsOf (packView s (shown p)) → bytesWith (packView s (shown p)) (planned s lists n) ≡ sheet (sourceOfPack s (shown p))
 unfolding sheet bytesOf
-sheet-is s p q e = ap (bytesWith (packView s (shown p))) e
+sheet-is s p lists n e = ap (bytesWith (packView s (shown p))) e

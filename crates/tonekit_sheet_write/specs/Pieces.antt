@@ -1,6 +1,5 @@
 -- The pieces of a pack's sheet, as they are written, and what the writer goes by.
 use Prim.Native.Nat.{ℕ}
-use mathlib.Core.Path.{_≡_}
 use mathlib.Core.List.{List, [], _∷_, _++_}
 use lib.ListN.{getD}
 use Rattle.tonekit_bytes.specs.Fields.{le16}
@@ -12,17 +11,17 @@ use Rattle.tonekit_expect.specs.declared.Listing.{Listing}
 use Rattle.tonekit_sheet.specs.Sheet.{noAccent, accentBytes, componentBytes, tonePiece, rowPiece, listPiece, rowCount}
 use Rattle.tonekit_sheet.specs.Gather.{gather}
 use Rattle.tonekit_sheet_plan.specs.declared.Sorted.{Sorted}
-use Rattle.tonekit_sheet_plan.specs.declared.Plan.{Plan}
+use Rattle.tonekit_sheet_plan.specs.declared.Counts.{Counts}
 use Rattle.tonekit_sheet_plan.specs.Rows.{packView, accentsOf, Ordered}
 use Rattle.tonekit_sheet_plan.specs.Listings.{Reads}
 use Rattle.tonekit_sheet_plan.specs.Plans.{planned, Sane}
 
--- a pack that was read from these bytes, its accents sorted, and the lists of its sheet planned
-pub record Planned (s : List ℕ) (p : Pack) (a : Sorted) (q : Plan) : Type 0 where
+-- a pack that was read from these bytes, its accents sorted, and its lists planned
+pub record Planned (s : List ℕ) (p : Pack) (a : Sorted) (lists memo : List ℕ) (n : Counts) : Type 0 where
   pub roomy : Roomy p
   pub reads : Reads s (shown p)
   pub ordered : Ordered s (shown p) a
-  pub sane : Sane s q
+  pub sane : Sane s lists memo n
 
 -- the head of a listing's list, under a number
 abbrev pub headOf : ℕ → Listing → List ℕ
@@ -43,11 +42,11 @@ tonesPart s p = gather (tonePiece (packView s (shown p))) 0 (p .tones)
 abbrev pub accentsPart : List ℕ → Sorted → List ℕ
 accentsPart s a = gather (sortedPiece s a) 0 (a .count)
 
-abbrev pub rowsPart : List ℕ → Pack → Sorted → Plan → List ℕ
-rowsPart s p a q = gather (rowPiece (packView s (shown p)) (planned s q)) 0 (rowCount (a .count) (p .tones))
+abbrev pub rowsPart : List ℕ → Pack → Sorted → List ℕ → ℕ → List ℕ
+rowsPart s p a lists n = gather (rowPiece (packView s (shown p)) (planned s lists n)) 0 (rowCount (a .count) (p .tones))
 
-abbrev pub listsPart : List ℕ → Plan → List ℕ
-listsPart s q = gather (listPiece (planned s q)) 0 (q .count)
+abbrev pub listsPart : List ℕ → List ℕ → ℕ → List ℕ
+listsPart s lists n = gather (listPiece (planned s lists n)) 0 n
 
 abbrev pub componentsPart : List ℕ → Listing → List ℕ
 componentsPart s l = gather (componentPiece s l) 0 (l .count)

@@ -6,10 +6,10 @@ ghost use Rattle.tonekit_core.specs.Calls.{answerIn, bufferAfter, written};
 ghost use Rattle.tonekit_pack.specs.Held.{shown, Roomy};
 ghost use Rattle.tonekit_expect.specs.Source.{sourceOfPack};
 ghost use Rattle.tonekit_sheet.specs.Gather.{Wrote};
-ghost use Rattle.tonekit_sheet.specs.Sheet.{listsOf, bytesWith, sheet, listPiece};
-ghost use Rattle.tonekit_sheet_plan.specs.Rows.{packView};
+ghost use Rattle.tonekit_sheet.specs.Sheet.{bytesWith, sheet, listPiece};
+ghost use Rattle.tonekit_sheet_plan.specs.Rows.{packView, Ordered};
 ghost use Rattle.tonekit_sheet_plan.specs.Listings.{Reads};
-ghost use Rattle.tonekit_sheet_plan.specs.Plans.{planned, Sane};
+ghost use Rattle.tonekit_sheet_plan.specs.Plans.{planned, ListsFine};
 ghost use Rattle.tonekit_sheet_write.specs.Pieces.{Planned, listsPart};
 ghost use Rattle.tonekit_sheet_write.specs.Outcome.{sheetOutcome};
 
@@ -21,7 +21,7 @@ use tonekit_core::Refusal;
 use tonekit_pack::Pack;
 use tonekit_pack::PackRead;
 use tonekit_pack::load_pack;
-use tonekit_sheet_plan::Plan;
+use tonekit_sheet_plan::Counts;
 use tonekit_sheet_plan::Sorted;
 use tonekit_sheet_plan::list_at;
 use tonekit_sheet_plan::plan_lists;
@@ -29,61 +29,72 @@ use tonekit_sheet_plan::rows::row_count;
 use tonekit_sheet_plan::rows::sort_accents;
 
 // The bytes of list i with its components.
-fn list_size(s: &[u8], q: Plan, i: usize) -> usize
-    requires { ⌜ Sane (now s) q × (i < q .count) ⌝ }
-    ensures { λ r. ⌜ (r ≡ length (listPiece (planned (now (s .entry)) q) i)) × (r ≤ 187) ⌝ }
+fn list_size(s: &[u8], lists: &[u32; 128], n: usize, i: usize) -> usize
+    requires { ⌜ ListsFine (now s) (now lists) n × (i < n) ⌝ }
+    ensures { λ r. ⌜ (r ≡ length (listPiece (planned (now (s .entry)) (now (lists .entry)) n) i)) × (r ≤ 187) ⌝ }
 {
-    7 + 45 * list_at(s, q, i).count
+    7 + 45 * list_at(s, lists, i).count
 }
 
 // The bytes of all lists.
-fn lists_size(s: &[u8], q: Plan) -> usize
-    requires { ⌜ Sane (now s) q ⌝ }
-    ensures { λ r. ⌜ (r ≡ length (listsPart (now (s .entry)) q)) × (r ≤ 23936) ⌝ }
+fn lists_size(s: &[u8], lists: &[u32; 128], n: usize) -> usize
+    requires { ⌜ ListsFine (now s) (now lists) n ⌝ }
+    ensures { λ r. ⌜ (r ≡ length (listsPart (now (s .entry)) (now (lists .entry)) n)) × (r ≤ 23936) ⌝ }
 {
     let mut total: usize = 0;
-    for i in 0..q.count {
-        total = total + list_size(s, q, i);
+    for i in 0..n {
+        total = total + list_size(s, lists, n, i);
     }
     total
 }
 
-// How many bytes a sheet has.
-fn needed(s: &[u8], p: Pack, a: Sorted, q: Plan) -> usize
-    requires { ⌜ Planned (now s) p a q ⌝ }
-    ensures { λ r. ⌜ r ≡ length (bytesWith (packView (now (s .entry)) (shown p)) (planned (now (s .entry)) q)) ⌝ }
+// How many bytes a sheet has: 9 for the settings, 15 for a tone, 18 for an accent, 6 for a row, the
+// lists, and 1 for the end.
+fn needed(s: &[u8], p: Pack, a: Sorted, lists: &[u32; 128], n: usize) -> usize
+    requires { ⌜ Roomy p × Ordered (now s) (shown p) a × ListsFine (now s) (now lists) n ⌝ }
+    ensures { λ r. ⌜ r ≡ length (bytesWith (packView (now (s .entry)) (shown p)) (planned (now (s .entry)) (now (lists .entry)) n)) ⌝ }
 {
     let rows = row_count(a.count, p.tones);
-    9 + 15 * p.tones + 18 * a.count + 6 * rows + lists_size(s, q) + 1
+    9 + 15 * p.tones + 18 * a.count + 6 * rows + lists_size(s, lists, n) + 1
 }
 
 // The bytes of a sheet, at the front of a buffer that is long enough.
-fn fill(s: &[u8], p: Pack, a: Sorted, q: Plan, out: &mut [u8]) -> usize
-    requires { ⌜ Planned (now s) p a q × (length (bytesWith (packView (now s) (shown p)) (planned (now s) q)) ≤ length (now out)) ⌝ }
-    ensures { λ r. ⌜ Wrote (bytesWith (packView (now (s .entry)) (shown p)) (planned (now (s .entry)) q)) 0 (now (out .entry)) (now (out .exit)) r ⌝ }
+fn fill(
+    s: &[u8],
+    p: Pack,
+    a: Sorted,
+    lists: &[u32; 128],
+    memo: &[u32; 128],
+    n: Counts,
+    out: &mut [u8],
+) -> usize
+    requires { ⌜ Planned (now s) p a (now lists) (now memo) n × (length (bytesWith (packView (now s) (shown p)) (planned (now s) (now lists) (n .lists))) ≤ length (now out)) ⌝ }
+    ensures { λ r. ⌜ Wrote (bytesWith (packView (now (s .entry)) (shown p)) (planned (now (s .entry)) (now (lists .entry)) (n .lists))) 0 (now (out .entry)) (now (out .exit)) r ⌝ }
 {
     let tones = parts::write_settings(s, out, 0);
     let accents = parts::write_tones(s, p, out, tones);
     let rows = parts::write_accents(s, a, out, accents);
-    let lists = parts::write_rows(s, p, a, q, out, rows);
-    let end = parts::write_lists(s, q, out, lists);
+    let behind = parts::write_rows(s, p, a, lists, memo, n, out, rows);
+    let end = parts::write_lists(s, lists, n.lists, out, behind);
     parts::write_end(out, end)
 }
 
 // Writes the sheet of a pack that was read, or answers the length that it needs and leaves the buffer
-// as it was. There are at most 128 lists, as in every pack that loads.
+// as it was.
 fn write_loaded(s: &[u8], p: Pack, out: &mut [u8]) -> Answer
-    requires { ⌜ Roomy p × Reads (now s) (shown p) × (length (listsOf (packView (now s) (shown p))) ≤ 128) ⌝ }
+    requires { ⌜ Roomy p × Reads (now s) (shown p) ⌝ }
     ensures { λ r. ⌜ (r ≡ answerIn (length (now (out .entry))) (written (sheet (sourceOfPack (now (s .entry)) (shown p))))) × (now (out .exit) ≡ bufferAfter (now (out .entry)) (written (sheet (sourceOfPack (now (s .entry)) (shown p))))) ⌝ }
 {
+    let mut lists = [0u32; 128];
+    let mut memo = [0u32; 128];
     let a = sort_accents(s, p);
-    let q = plan_lists(s, p, a);
-    let n = needed(s, p, a, q);
-    if out.len() < n {
-        return Answer::Refused(Refusal::ShortBuffer, n);
+    let n = plan_lists(s, p, a, &mut lists, &mut memo);
+    let size = needed(s, p, a, &lists, n.lists);
+    if out.len() < size {
+        return Answer::Refused(Refusal::ShortBuffer, size);
     }
-    fill(s, p, a, q, out);
-    Answer::Written(n)
+    fill(s, p, a, &lists, &memo, n, out);
+    Answer::Written(size)
 }
 
 // Writes a pack's sheet to a lent buffer: how many bytes, or why not and where. A buffer that is too

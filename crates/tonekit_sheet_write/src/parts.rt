@@ -1,15 +1,14 @@
 // The parts of a sheet, each written at a place of what is lent: where the next begins is answered.
-ghost use mathlib.Core.Path.{_≡_};
 ghost use mathlib.Core.List.{[], _∷_};
 ghost use Prim.Native.Nat.{_+_, _≤_, _<_};
 ghost use lib.ListN.{length};
 ghost use Rattle.tonekit_pack.specs.Held.{shown, Roomy};
 ghost use Rattle.tonekit_expect.specs.Source.{settingsAt, toneAt, accentAt};
-ghost use Rattle.tonekit_sheet.specs.Gather.{gather, Wrote};
+ghost use Rattle.tonekit_sheet.specs.Gather.{Wrote};
 ghost use Rattle.tonekit_sheet.specs.Sheet.{settingsBytes, toneBytes, accentBytes, rowPiece, listPiece};
 ghost use Rattle.tonekit_sheet_plan.specs.Rows.{packView, Slots};
 ghost use Rattle.tonekit_sheet_plan.specs.Listings.{Kept};
-ghost use Rattle.tonekit_sheet_plan.specs.Plans.{planned, Sane};
+ghost use Rattle.tonekit_sheet_plan.specs.Plans.{planned, ListsFine};
 ghost use Rattle.tonekit_sheet_write.specs.Pieces.{Planned, headOf, componentPiece, tonesPart, accentsPart, rowsPart, listsPart, componentsPart};
 use crate::records::put_accent;
 use crate::records::put_component;
@@ -22,7 +21,7 @@ use tonekit_bytes::u32_at;
 use tonekit_expect::Listing;
 use tonekit_expect::component_at;
 use tonekit_pack::Pack;
-use tonekit_sheet_plan::Plan;
+use tonekit_sheet_plan::Counts;
 use tonekit_sheet_plan::Sorted;
 use tonekit_sheet_plan::list_at;
 use tonekit_sheet_plan::look_row;
@@ -94,25 +93,44 @@ pub fn write_accents(s: &[u8], a: Sorted, out: &mut [u8], at: usize) -> usize
 }
 
 // Row r: its context, and the numbers of what its two lookups give.
-fn write_row(s: &[u8], p: Pack, a: Sorted, q: Plan, r: usize, out: &mut [u8], at: usize) -> usize
-    requires { ⌜ Planned (now s) p a q × (at + 6 ≤ length (now out)) ⌝ }
-    ensures { λ e. ⌜ Wrote (rowPiece (packView (now (s .entry)) (shown p)) (planned (now (s .entry)) q) r) at (now (out .entry)) (now (out .exit)) e ⌝ }
+fn write_row(
+    s: &[u8],
+    p: Pack,
+    a: Sorted,
+    lists: &[u32; 128],
+    memo: &[u32; 128],
+    n: Counts,
+    r: usize,
+    out: &mut [u8],
+    at: usize,
+) -> usize
+    requires { ⌜ Planned (now s) p a (now lists) (now memo) n × (at + 6 ≤ length (now out)) ⌝ }
+    ensures { λ e. ⌜ Wrote (rowPiece (packView (now (s .entry)) (shown p)) (planned (now (s .entry)) (now (lists .entry)) (n .lists)) r) at (now (out .entry)) (now (out .exit)) e ⌝ }
 {
     let c = row_context(s, p, a, r, 0);
-    let n = number_of(s, q, look_row(s, p, a, r, 0));
-    let m = number_of(s, q, look_row(s, p, a, r, 1));
-    put_row(&mut out[at..], c, n, m);
+    let first = number_of(s, lists, memo, n, look_row(s, p, a, r, 0));
+    let second = number_of(s, lists, memo, n, look_row(s, p, a, r, 1));
+    put_row(&mut out[at..], c, first, second);
     at + 6
 }
 
 // All rows.
-pub fn write_rows(s: &[u8], p: Pack, a: Sorted, q: Plan, out: &mut [u8], at: usize) -> usize
-    requires { ⌜ Planned (now s) p a q × (at + length (rowsPart (now s) p a q) ≤ length (now out)) ⌝ }
-    ensures { λ r. ⌜ Wrote (rowsPart (now (s .entry)) p a q) at (now (out .entry)) (now (out .exit)) r ⌝ }
+pub fn write_rows(
+    s: &[u8],
+    p: Pack,
+    a: Sorted,
+    lists: &[u32; 128],
+    memo: &[u32; 128],
+    n: Counts,
+    out: &mut [u8],
+    at: usize,
+) -> usize
+    requires { ⌜ Planned (now s) p a (now lists) (now memo) n × (at + length (rowsPart (now s) p a (now lists) (n .lists)) ≤ length (now out)) ⌝ }
+    ensures { λ r. ⌜ Wrote (rowsPart (now (s .entry)) p a (now (lists .entry)) (n .lists)) at (now (out .entry)) (now (out .exit)) r ⌝ }
 {
     let mut o = at;
     for i in 0..row_count(a.count, p.tones) {
-        o = write_row(s, p, a, q, i, out, o);
+        o = write_row(s, p, a, lists, memo, n, i, out, o);
     }
     o
 }
@@ -149,23 +167,23 @@ fn write_head(l: Listing, i: usize, out: &mut [u8], at: usize) -> usize
 }
 
 // List i with its components.
-fn write_list(s: &[u8], q: Plan, i: usize, out: &mut [u8], at: usize) -> usize
-    requires { ⌜ Sane (now s) q × (i < q .count) × (at + length (listPiece (planned (now s) q) i) ≤ length (now out)) ⌝ }
-    ensures { λ r. ⌜ Wrote (listPiece (planned (now (s .entry)) q) i) at (now (out .entry)) (now (out .exit)) r ⌝ }
+fn write_list(s: &[u8], lists: &[u32; 128], n: usize, i: usize, out: &mut [u8], at: usize) -> usize
+    requires { ⌜ ListsFine (now s) (now lists) n × (i < n) × (at + length (listPiece (planned (now s) (now lists) n) i) ≤ length (now out)) ⌝ }
+    ensures { λ r. ⌜ Wrote (listPiece (planned (now (s .entry)) (now (lists .entry)) n) i) at (now (out .entry)) (now (out .exit)) r ⌝ }
 {
-    let l = list_at(s, q, i);
+    let l = list_at(s, lists, i);
     let o = write_head(l, i, out, at);
     write_components(s, l, out, o)
 }
 
 // All lists, by number.
-pub fn write_lists(s: &[u8], q: Plan, out: &mut [u8], at: usize) -> usize
-    requires { ⌜ Sane (now s) q × (at + length (listsPart (now s) q) ≤ length (now out)) ⌝ }
-    ensures { λ r. ⌜ Wrote (listsPart (now (s .entry)) q) at (now (out .entry)) (now (out .exit)) r ⌝ }
+pub fn write_lists(s: &[u8], lists: &[u32; 128], n: usize, out: &mut [u8], at: usize) -> usize
+    requires { ⌜ ListsFine (now s) (now lists) n × (at + length (listsPart (now s) (now lists) n) ≤ length (now out)) ⌝ }
+    ensures { λ r. ⌜ Wrote (listsPart (now (s .entry)) (now (lists .entry)) n) at (now (out .entry)) (now (out .exit)) r ⌝ }
 {
     let mut o = at;
-    for i in 0..q.count {
-        o = write_list(s, q, i, out, o);
+    for i in 0..n {
+        o = write_list(s, lists, n, i, out, o);
     }
     o
 }

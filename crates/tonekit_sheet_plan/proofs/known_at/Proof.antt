@@ -1,18 +1,17 @@
 use borrow.Author.Needs.{needs}
 use Prim.Native.Nat.{_-_, _≤_}
 use native.Mathlib.Omega.{arith}
-use mathlib.Core.Path.{_≡_, sym, _∙_}
 use Rattle.tonekit_sheet_plan.proofs.known_at.Statement.{statement}
 use Rattle.tonekit_sheet_plan.proofs.known_at.Tie as tie
 
 abbrev Inv-loop : tie.InvT-loop
-Inv-loop owner o p i₀ i-end i = (i-end ≡ p .known) × (i ≤ i-end)
+Inv-loop memo n key i₀ i = i ≤ n
 
 abbrev μ-loop : tie.MeasureT-loop
-μ-loop owner o p i₀ i-end i = i-end - i
+μ-loop memo n key i₀ i = n - i
 
 returns : tie.Need-returns Inv-loop μ-loop
-returns c = (search needs, λ h. (c .before .before .before .if1 .taken, sym (c .before .wide .ensures .0) ∙ c .if2 .taken))
+returns c = (search needs, λ h. c .if1 .taken)
 
 loop-again : tie.Need-loop-again Inv-loop μ-loop
 loop-again c = search needs
@@ -29,8 +28,6 @@ known-at-spec =
     (λ c. search needs)
     (λ c. search needs)
     (λ c. search needs)
-    (λ c. search needs)
-    (λ c κs. search needs)
     returns
     (λ c. search needs)
     (λ c. search needs)

@@ -1,28 +1,23 @@
 use borrow.Author.Needs.{needs}
 use Prim.Native.Nat.{ℕ, _<_}
-use native.Mathlib.Omega.{arith}
 use mathlib.Core.Path.{sym, _∙_, ap}
 use lib.Dec.{lit<}
 use lib.ListN.{getD}
 use mir.Syntax.{w16}
 use mir.Val.{Fits}
 use Rattle.tonekit_pack.specs.Held.{shown}
-use Rattle.tonekit_pack.proofs.InOrder.{order-length}
-use Rattle.tonekit_pack.proofs.Loads.{loads, some-tones}
 use Rattle.tonekit_expect.specs.Lookup.{lookUp}
 use Rattle.tonekit_expect.specs.Source.{given}
 use Rattle.tonekit_expect.proofs.InOrder.{order-all}
 use Rattle.tonekit_sheet_plan.proofs.Recovered.{look-kept}
-use Rattle.tonekit_sheet_plan.proofs.Views.{view-row}
+use Rattle.tonekit_sheet_plan.proofs.Views.{view-row, some-tone}
 use Rattle.tonekit_sheet_plan.proofs.look_row.Statement.{statement}
 use Rattle.tonekit_sheet_plan.proofs.look_row.Tie as tie
 
 row-context-requires : tie.Need-row-context-requires
 row-context-requires c κs =
     let start = c .before in
-    let p = start .args .p in
-    let r = start .pre .1 in
-    (start .pre .0, omega (arith, some-tones _ _ _ (loads (start .args .s .now) (shown p) (r .end) (r .loads)), order-length (p .toneat) (p .tones)), start .pre .2 .slots)
+    (start .pre .0, some-tone (start .args .s .now) (start .args .p) (start .pre .1), start .pre .2 .slots)
 
 -- an offset is held as a u16
 near-rule : (c : tie.Start) (k : ℕ) → Fits w16 (getD (c .args .p .ruleat) k 0)
@@ -38,9 +33,11 @@ returns c =
     let p = start .args .p in
     let r = start .pre .1 in
     let rules = order-all (λ (r : ℕ). r < 65536) (p .ruleat) (p .rules) (lit< tt) (λ k. near-rule start k .fits) in
-    let tones = order-all (λ (r : ℕ). r < 65536) (p .toneat) (p .tones) (lit< tt) (λ k. near-tone start k .fits) in (
-      ap (given s) (c .look-up .ensures ∙ ap (lookUp s (shown p)) (c .before .row-context .ensures)) ∙ view-row s (shown p) (start .args .a) (start .pre .2) (start .args .i) (start .args .last),
+    let tones = order-all (λ (r : ℕ). r < 65536) (p .toneat) (p .tones) (lit< tt) (λ k. near-tone start k .fits) in
+    let e = c .look-up .ensures ∙ ap (lookUp s (shown p)) (c .before .row-context .ensures) in (
+      ap (given s) e ∙ view-row s (shown p) (start .args .a) (start .pre .2) (start .args .i) (start .args .last),
       λ l q. look-kept s (shown p) (r .end) (r .loads) rules tones _ l (sym (c .look-up .ensures) ∙ q),
+      e,
     )
 
 pub look-row-spec : {M : Type 1} → statement M

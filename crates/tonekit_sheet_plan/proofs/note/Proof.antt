@@ -1,17 +1,17 @@
 use borrow.Author.Needs.{needs}
-use mathlib.Core.Path.{sym, _∙_}
+use mathlib.Core.Path.{sym}
 use Rattle.tonekit_sheet_plan.proofs.Memo.{noted-none}
 use Rattle.tonekit_sheet_plan.proofs.note.Statement.{statement}
 use Rattle.tonekit_sheet_plan.proofs.note.Tie as tie
 
 note-listing-requires : tie.Need-note-listing-requires
 note-listing-requires c κs =
-    let start = c .before .before .before .before in
-    let e = c .before .x .given .1 in
+    let start = c .before .before .before .before .before .before in
+    let e = c .before .before .before .x .given .1 in
     (start .pre .0, start .pre .1 _ e, rw e at (start .pre .2))
 
 returns : tie.Need-returns
-returns c = rw (c .before .before .x .given .1) (c .note-listing .ensures)
+returns c = rw (c .before .before .before .before .x .given .1) (c .note-listing .ensures)
 
 returns-2 : tie.Need-returns-2
 returns-2 c = rw (c .enum-told .given .1) (sym (noted-none _), c .before .before .before .pre .0)

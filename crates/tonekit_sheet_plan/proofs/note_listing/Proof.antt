@@ -1,42 +1,68 @@
 use borrow.Author.Needs.{needs}
 use native.Mathlib.Omega.{arith}
-use Rattle.tonekit_sheet_plan.proofs.Memo.{way-known, way-found, way-room, way-new}
+use mathlib.Core.Path.{_∙_}
+use Prim.Native.Nat.{_<_}
+use Rattle.tonekit_sheet_plan.proofs.Memo.{key-small, way-known, way-found, way-room, way-new}
 use Rattle.tonekit_sheet_plan.proofs.note_listing.Statement.{statement}
 use Rattle.tonekit_sheet_plan.proofs.note_listing.Tie as tie
 
 returns : tie.Need-returns
 returns c =
-    let r = c .before .before .before in
-    let start = r .before .before in
-    let k = c .before .before .known-at .ensures .1 (c .if1 .taken) in
-    way-known (start .args .s .now) (start .args .p) (start .args .l) (r .record-of .result) (start .pre .0) (start .pre .1) (r .record-of .ensures .0) _ (c .if1 .taken) (k .0) (k .1)
+    let key = c .before .before .before .before .key-of in
+    let start = c .before .before .before .before .before .before in
+    let a = start .args in
+    way-known (a .s .now) (a .lists .now) (a .memo .now) (a .n) (a .l) (start .pre .0) (start .pre .1) (key .ensures .2) (c .before .before .known-at .result) (c .if1 .taken) (c .before .before .known-at .ensures .1 (c .if1 .taken) ∙ key .ensures .0)
+
+place-of-requires : tie.Need-place-of-requires
+place-of-requires c κs = let start = c .before .before .before .before .before .before .before in (start .pre .0 .lists-fine, start .pre .1)
+
+add-remember : tie.Need-add-remember
+add-remember c =
+    let start = c .before .before .before .before .before .before .before .before .before in
+    omega (arith, c .before .place-of .ensures .2, start .pre .0 .lists-fine .few)
+
+remember-requires : tie.Need-remember-requires
+remember-requires c κs =
+    let key = c .before .before .before .before .before .before .before .key-of in
+    let start = c .before .before .before .before .before .before .before .before .before in
+    let a = start .args in
+    (omega (arith, key .ensures .0, key-small (a .s .now) (a .l) (start .pre .1) (key .ensures .2)), omega (arith, c .before .place-of .ensures .2, start .pre .0 .lists-fine .few))
 
 returns-2 : tie.Need-returns-2
 returns-2 c =
-    let f = c .before .before .before in
-    let r = f .before .before .before .before in
-    let start = r .before .before in
-    way-found (start .args .s .now) (start .args .p) (start .args .l) (r .record-of .result) (start .pre .0) (start .pre .1) (r .record-of .ensures .0) (f .place-of .result) (f .place-of .ensures .0) (f .place-of .ensures .1) _ (c .before .if2 .taken) (c .remember .ensures)
+    let r = c .before .remember in
+    let p = c .before .before .before .place-of in
+    let key = c .before .before .before .before .before .before .before .before .before .key-of in
+    let start = c .before .before .before .before .before .before .before .before .before .before .before in
+    let a = start .args in
+    rw (r .ensures .0, r .ensures .1, key .ensures .0) (way-found (a .s .now) (a .lists .now) (a .memo .now) (a .n) (a .l) (start .pre .0) (start .pre .1) (key .ensures .2) (p .result) (p .ensures .0) (p .ensures .1) (c .if2 .taken))
 
-append-requires : tie.Need-append-requires
-append-requires c κs =
-    let f = c .before .before in
-    let r = f .before .before .before .before in
-    let start = r .before .before in
-    (r .record-of .ensures .1, way-room (start .args .s .now) (start .args .p) (start .args .l) (r .record-of .result) (start .pre .0) (start .pre .1) (r .record-of .ensures .0) (f .place-of .result) (f .place-of .ensures .0) (f .place-of .ensures .1) (c .if2 .left) (start .pre .2))
+-- there is room for a new list
+room : (c : tie.Else2) → c .before .before .before .place-of .result < 128
+room c =
+    let p = c .before .before .before .place-of in
+    let key = c .before .before .before .before .before .before .before .before .before .key-of in
+    let start = c .before .before .before .before .before .before .before .before .before .before .before in
+    let a = start .args in
+    way-room (a .s .now) (a .lists .now) (a .memo .now) (a .n) (a .l) (start .pre .0) (start .pre .1) (key .ensures .2) (p .result) (p .ensures .0) (p .ensures .1) (c .if2 .left) (p .ensures .2) (start .pre .2)
 
-cast-remember-2 : tie.Need-cast-remember-2
-cast-remember-2 c =
-    let f = c .before .before .before in
-    let start = f .before .before .before .before .before .before in
-    omega (arith, f .place-of .ensures .2, start .pre .0 .few)
+mul-lists : tie.Need-mul-lists
+mul-lists c = omega (arith, room c)
+
+element-write-lists : tie.Need-element-write-lists
+element-write-lists c = omega (arith, room c)
+
+add-t10 : tie.Need-add-t10
+add-t10 c = omega (arith, room c)
 
 returns-3 : tie.Need-returns-3
 returns-3 c =
-    let f = c .before .before .before .before in
-    let r = f .before .before .before .before in
-    let start = r .before .before in
-    way-new (start .args .s .now) (start .args .p) (start .args .l) (r .record-of .result) (start .pre .0) (start .pre .1) (r .record-of .ensures .0) (f .place-of .result) (f .place-of .ensures .0) (f .place-of .ensures .1) (c .before .before .if2 .left) (start .pre .2) _ _ (f .place-of .ensures .2) (c .before .append .ensures) (c .remember2 .ensures)
+    let r = c .before .remember in
+    let p = c .before .before .before .place-of in
+    let key = c .before .before .before .before .before .before .before .before .before .key-of in
+    let start = c .before .before .before .before .before .before .before .before .before .before .before in
+    let a = start .args in
+    rw (r .ensures .0, r .ensures .1, key .ensures .0) (way-new (a .s .now) (a .lists .now) (a .memo .now) (a .n) (a .l) (start .pre .0) (start .pre .1) (key .ensures .2) (p .result) (p .ensures .0) (p .ensures .1) (c .if2 .left) (p .ensures .2) (start .pre .2))
 
 pub note-listing-spec : {M : Type 1} → statement M
 note-listing-spec =
@@ -45,13 +71,11 @@ note-listing-spec =
     (λ c κs. search needs)
     (λ c κs. search needs)
     returns
-    (λ c κs. search needs)
-    (λ c. search needs)
-    (λ c. search needs)
-    (λ c κs. search needs)
+    place-of-requires
+    add-remember
+    remember-requires
     returns-2
-    append-requires
-    (λ c. search needs)
-    cast-remember-2
-    (λ c κs. search needs)
+    mul-lists
+    element-write-lists
+    add-t10
     returns-3)

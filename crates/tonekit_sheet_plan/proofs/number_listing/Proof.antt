@@ -1,21 +1,24 @@
 use borrow.Author.Needs.{needs}
-use native.Mathlib.Omega.{arith}
+use mathlib.Core.Path.{_∙_}
 use Rattle.tonekit_sheet_plan.proofs.Memo.{number-known, number-place}
 use Rattle.tonekit_sheet_plan.proofs.number_listing.Statement.{statement}
 use Rattle.tonekit_sheet_plan.proofs.number_listing.Tie as tie
 
 returns : tie.Need-returns
 returns c =
-    let r = c .before .before .before in
-    let start = r .before .before in
-    let k = c .before .before .known-at .ensures .1 (c .before .if1 .taken) in
-    number-known (start .args .s .now) (start .args .t2) (start .args .l) (r .record-of .result) (start .pre .0) (start .pre .1) (r .record-of .ensures .0) _ (c .before .if1 .taken) (k .0) (k .1)
+    let t = c .before .before .if1 .taken in
+    let k = c .before .before .before .before .known-at in
+    let key = c .before .before .before .before .before .key-of in
+    let start = c .before .before .before .before .before .before .before in
+    let a = start .args in
+    c .number-in .ensures ∙ number-known (a .s .now) (a .lists .now) (a .memo .now) (a .n) (a .l) (start .pre .0) (start .pre .1) (key .ensures .2) (k .result) t (k .ensures .1 t ∙ key .ensures .0)
 
 returns-2 : tie.Need-returns-2
 returns-2 c =
-    let r = c .before .before .before in
-    let start = r .before .before in
-    number-place (start .args .s .now) (start .args .t2) (start .args .l) (r .record-of .result) (start .pre .0) (start .pre .1) (r .record-of .ensures .0) (c .place-of .result) (c .place-of .ensures .0) (c .place-of .ensures .1)
+    let key = c .before .before .before .before .key-of in
+    let start = c .before .before .before .before .before .before in
+    let a = start .args in
+    number-place (a .s .now) (a .lists .now) (a .memo .now) (a .n) (a .l) (start .pre .0) (start .pre .1) (key .ensures .2) (c .place-of .result) (c .place-of .ensures .0) (c .place-of .ensures .1)
 
 pub number-listing-spec : {M : Type 1} → statement M
 number-listing-spec =
@@ -24,6 +27,8 @@ number-listing-spec =
     (λ c κs. search needs)
     (λ c κs. search needs)
     (λ c. search needs)
+    (λ c. search needs)
+    (λ c κs. search needs)
     returns
     (λ c κs. search needs)
     (λ c. search needs)

@@ -1,4 +1,3 @@
-use borrow.Author.Needs.{needs}
 use Prim.Native.Nat.{_≤_}
 use native.Mathlib.Omega.{arith}
 use Rattle.tonekit_sheet_write.proofs.Bytes.{list-kept, list-size}
@@ -12,7 +11,7 @@ list-at-requires c κs = let start = c .before in omega (arith, start .pre .0 .f
 few : (c : tie.After-list-at) → c .list-at .result .count ≤ 4
 few c =
     let start = c .before .before in
-    list-kept (start .args .s .now) (start .args .q) (start .pre .0) (start .args .i) (start .pre .1) (c .list-at .ensures) .few
+    list-kept (start .args .s .now) (start .args .lists .now) (start .args .n) (start .pre .0) (start .args .i) (start .pre .1) (c .list-at .ensures) .few
 
 mul-result : tie.Need-mul-result
 mul-result c = omega (arith, few (c .before))
@@ -23,7 +22,7 @@ add-result c = omega (arith, few (c .before))
 returns : tie.Need-returns
 returns c =
     let start = c .before .before .before in
-    (list-size (start .args .s .now) (start .args .q) (start .pre .0) (start .args .i) (start .pre .1) (c .before .list-at .ensures), omega (arith, few (c .before)))
+    (list-size (start .args .s .now) (start .args .lists .now) (start .args .n) (start .pre .0) (start .args .i) (start .pre .1) (c .before .list-at .ensures), omega (arith, few (c .before)))
 
 pub list-size-spec : {M : Type 1} → statement M
 list-size-spec =

@@ -1,7 +1,7 @@
 use borrow.Author.Needs.{needs}
-use Prim.Native.Nat.{_+_, _-_, _*_, _≤_, _<_}
+use Prim.Native.Nat.{_+_, _-_, _*_, _≤_}
 use native.Mathlib.Omega.{arith}
-use mathlib.Core.Path.{_≡_, refl}
+use mathlib.Core.Path.{_≡_}
 use native.Mathlib.Nat.{zero-add}
 use lib.ListN.{length}
 use Rattle.tonekit_sheet.specs.Gather.{gather}
@@ -13,29 +13,29 @@ use Rattle.tonekit_sheet_write.proofs.lists_size.Statement.{statement}
 use Rattle.tonekit_sheet_write.proofs.lists_size.Tie as tie
 
 abbrev Inv-loop : tie.InvT-loop
-Inv-loop s q total₀ i₀ i-end total i =
-    (i-end ≡ q .count) × (i ≤ i-end) × (i-end ≤ 128) × (total ≤ 187 * i) × (total + length (gather (listPiece (planned s q)) i (q .count)) ≡ length (listsPart s q))
+Inv-loop s lists n total₀ i₀ total i =
+    (i ≤ n) × (n ≤ 128) × (total ≤ 187 * i) × (total + length (gather (listPiece (planned s lists n)) i n) ≡ length (listsPart s lists n))
 
 abbrev μ-loop : tie.MeasureT-loop
-μ-loop s q total₀ i₀ i-end total i = i-end - i
+μ-loop s lists n total₀ i₀ total i = n - i
 
 loop-holds : tie.Need-loop-holds Inv-loop μ-loop
-loop-holds c = (search needs, search needs, c .before .pre .few, search needs, zero-add _)
+loop-holds c = (search needs, c .before .pre .few, search needs, zero-add _)
 
 list-size-requires : tie.Need-list-size-requires Inv-loop μ-loop
-list-size-requires c κs = let start = c .before .before .before in (start .pre, omega (arith, c .before .loop .inv .0, c .loop-test .taken))
+list-size-requires c κs = let start = c .before .before .before in (start .pre, c .loop-test .taken)
 
 loop-again : tie.Need-loop-again Inv-loop μ-loop
 loop-again c =
     let l = c .before .before in
     let a = l .before .before .args in
-    (l .loop .inv .0, omega arith, l .loop .inv .2, omega (arith, c .list-size .ensures .1), sum-on (a .s .now) (a .q) (l .loop .i) (l .loop .total) _ (l .loop .inv .4) (omega (arith, l .loop .inv .0, c .before .loop-test .taken)) (c .list-size .ensures .0))
+    (omega arith, l .loop .inv .1, omega (arith, c .list-size .ensures .1), sum-on (a .s .now) (a .lists .now) (a .n) (l .loop .i) (l .loop .total) _ (l .loop .inv .3) (c .before .loop-test .taken) (c .list-size .ensures .0))
 
 returns : tie.Need-returns Inv-loop μ-loop
 returns c =
     let l = c .before in
     let a = l .before .before .args in
-    (sum-end (a .s .now) (a .q) (l .loop .i) (l .loop .total) (l .loop .inv .4) (omega (arith, l .loop .inv .0, c .loop-test .left)), omega arith)
+    (sum-end (a .s .now) (a .lists .now) (a .n) (l .loop .i) (l .loop .total) (l .loop .inv .3) (c .loop-test .left), omega arith)
 
 pub lists-size-spec : {M : Type 1} → statement M
 lists-size-spec =

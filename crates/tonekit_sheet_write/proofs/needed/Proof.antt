@@ -1,18 +1,17 @@
 use borrow.Author.Needs.{needs}
-use native.Mathlib.Omega.{arith}
 use Rattle.tonekit_sheet_write.proofs.Together.{sheet-length}
 use Rattle.tonekit_sheet_write.proofs.needed.Statement.{statement}
 use Rattle.tonekit_sheet_write.proofs.needed.Tie as tie
 
 row-count-requires : tie.Need-row-count-requires
-row-count-requires c κs = let g = c .before .pre in (g .ordered .slots .few, g .roomy .few-tones)
+row-count-requires c κs = let g = c .before .pre in (g .1 .slots .few, g .0 .few-tones)
 
 returns : tie.Need-returns
 returns c =
     let r = c .before .before .before in
     let start = r .before .before in
     let a = start .args in
-    sheet-length (a .s .now) (a .p) (a .a) (a .q) (start .pre .ordered) _ _ (r .row-count .ensures .0) (c .lists-size .ensures .0)
+    sheet-length (a .s .now) (a .p) (a .a) (a .lists .now) (a .n) (start .pre .1) _ _ (r .row-count .ensures .0) (c .lists-size .ensures .0)
 
 pub needed-spec : {M : Type 1} → statement M
 needed-spec =

@@ -1,18 +1,16 @@
 use borrow.Author.Needs.{needs}
-use native.Mathlib.Omega.{arith}
 use mathlib.Core.Path.{refl}
 use Rattle.tonekit_core.specs.Calls.{answerIn, bufferAfter}
-use Rattle.tonekit_sheet_write.proofs.Answers.{reads, few-lists, is-written, is-refused}
+use Rattle.tonekit_sheet_write.proofs.Answers.{reads, is-written, is-refused}
 use Rattle.tonekit_sheet_write.proofs.write_sheet.Statement.{statement}
 use Rattle.tonekit_sheet_write.proofs.write_sheet.Tie as tie
 
 write-loaded-requires : tie.Need-write-loaded-requires
 write-loaded-requires c κs =
     let l = c .before .before .before .before .before in
-    let known = l .before .before in
-    let s = known .before .args .pack .now in
+    let s = l .before .before .before .args .pack .now in
     let g = c .before .before .read .given .1 in
-    (l .load-pack .ensures .1, reads s (l .load-pack .result) (l .load-pack .ensures .0) _ g, few-lists s (l .load-pack .result) (l .load-pack .ensures .0) _ g (λ i. omega (arith, known .shared-slice-known .given i)))
+    (l .load-pack .ensures .1, reads s (l .load-pack .result) (l .load-pack .ensures .0) _ g)
 
 returns : tie.Need-returns
 returns c =

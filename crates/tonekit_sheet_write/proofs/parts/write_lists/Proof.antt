@@ -1,7 +1,6 @@
 use borrow.Author.Needs.{needs}
-use Prim.Native.Nat.{_-_, _<_}
+use Prim.Native.Nat.{_-_}
 use native.Mathlib.Omega.{arith}
-use mathlib.Core.Path.{_≡_}
 use Rattle.tonekit_sheet.specs.Gather.{Writing, write-begun, write-room, write-next, write-ended}
 use Rattle.tonekit_sheet.specs.Sheet.{listPiece}
 use Rattle.tonekit_sheet_plan.specs.Plans.{planned}
@@ -10,34 +9,30 @@ use Rattle.tonekit_sheet_write.proofs.parts.write_lists.Statement.{stat
 use Rattle.tonekit_sheet_write.proofs.parts.write_lists.Tie as tie
 
 abbrev Inv-loop : tie.InvT-loop
-Inv-loop s q out₀ at o₀ i₀ i-end out o i = (i-end ≡ q .count) × Writing (listPiece (planned s q)) (q .count) at (listsPart s q) out₀ out i o
+Inv-loop s lists n out₀ at o₀ i₀ out o i = Writing (listPiece (planned s lists n)) n at (listsPart s lists n) out₀ out i o
 
 abbrev μ-loop : tie.MeasureT-loop
-μ-loop s q out₀ at o₀ i₀ i-end out o i = i-end - i
+μ-loop s lists n out₀ at o₀ i₀ out o i = n - i
 
 loop-holds : tie.Need-loop-holds Inv-loop μ-loop
-loop-holds c = (search needs, write-begun _ _ _ _ _ (omega arith))
-
--- one of the plan's lists
-inside : (c : tie.In-loop Inv-loop μ-loop) → c .before .loop .i < c .before .before .before .before .args .q .count
-inside c = omega (arith, c .before .loop .inv .0, c .loop-test .taken)
+loop-holds c = write-begun _ _ _ _ _ (omega arith)
 
 write-list-requires : tie.Need-write-list-requires Inv-loop μ-loop
 write-list-requires c κs =
     let l = c .before .before in
     let start = l .before .before .before in
-    (start .pre .0, inside (c .before), write-room _ (l .loop .inv .1) (inside (c .before)) (start .pre .1))
+    (start .pre .0, c .before .loop-test .taken, write-room _ (l .loop .inv) (c .before .loop-test .taken) (start .pre .1))
 
 loop-again : tie.Need-loop-again Inv-loop μ-loop
 loop-again c =
     let d = c .before .before .before .before in
-    (d .before .loop .inv .0, write-next _ (d .before .loop .inv .1) (inside d) (c .before .before .write-list .ensures))
+    write-next _ (d .before .loop .inv) (d .loop-test .taken) (c .before .before .write-list .ensures)
 
 same-length : tie.Need-same-length Inv-loop μ-loop
-same-length c = c .before .loop .inv .1 .size
+same-length c = c .before .loop .inv .size
 
 returns : tie.Need-returns Inv-loop μ-loop
-returns c = write-ended _ (c .before .loop .inv .1) (omega (arith, c .before .loop .inv .0, c .loop-test .left))
+returns c = write-ended _ (c .before .loop .inv) (c .loop-test .left)
 
 pub write-lists-spec : {M : Type 1} → statement M
 write-lists-spec =

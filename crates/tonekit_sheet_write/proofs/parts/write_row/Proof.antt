@@ -3,7 +3,9 @@ use Prim.Native.Nat.{_+_}
 use mathlib.Core.Path.{refl}
 use mir.Syntax.{w64}
 use mir.Val.{Fits}
-use Rattle.tonekit_sheet_write.proofs.Bytes.{wrote-part, wrote-as, row-is, some-tone}
+use Rattle.tonekit_sheet_plan.specs.Plans.{planned}
+use Rattle.tonekit_sheet_plan.proofs.Views.{some-tone}
+use Rattle.tonekit_sheet_write.proofs.Bytes.{wrote-part, wrote-as, row-is}
 use Rattle.tonekit_sheet_write.proofs.parts.write_row.Statement.{statement}
 use Rattle.tonekit_sheet_write.proofs.parts.write_row.Tie as tie
 
@@ -28,7 +30,7 @@ returns c =
     let start = r .before .before .before in
     let a = start .args in
     wrote-as
-    (row-is (a .s .now) (a .p) (a .a) (a .q) (a .r) (start .pre .0 .ordered) (n .before .look-row .result) (m .before .look-row2 .result) (r .row-context .ensures) (n .number-of .ensures) (n .before .look-row .ensures .0) (m .number-of2 .ensures) (m .before .look-row2 .ensures .0))
+    (row-is (a .s .now) (a .p) (a .a) (planned (a .s .now) (a .lists .now) (a .n .lists)) (a .r) (start .pre .0 .ordered) (n .before .look-row .result) (m .before .look-row2 .result) (r .row-context .ensures) (n .number-of .ensures) (n .before .look-row .ensures .0) (m .number-of2 .ensures) (m .before .look-row2 .ensures .0))
     (wrote-part _ _ _ _ _ (start .pre .1) refl (c .before .before .put-row .ensures))
 
 pub write-row-spec : {M : Type 1} → statement M

@@ -12,11 +12,11 @@ use Rattle.tonekit_sheet_write.proofs.parts.write_rows.Statement.{state
 use Rattle.tonekit_sheet_write.proofs.parts.write_rows.Tie as tie
 
 abbrev Inv-loop : tie.InvT-loop
-Inv-loop s p a q out₀ at o₀ i₀ i-end out o i =
-    (i-end ≡ rowCount (a .count) (p .tones)) × Writing (rowPiece (packView s (shown p)) (planned s q)) (rowCount (a .count) (p .tones)) at (rowsPart s p a q) out₀ out i o
+Inv-loop s p a lists memo n out₀ at o₀ i₀ i-end out o i =
+    (i-end ≡ rowCount (a .count) (p .tones)) × Writing (rowPiece (packView s (shown p)) (planned s lists (n .lists))) (rowCount (a .count) (p .tones)) at (rowsPart s p a lists (n .lists)) out₀ out i o
 
 abbrev μ-loop : tie.MeasureT-loop
-μ-loop s p a q out₀ at o₀ i₀ i-end out o i = i-end - i
+μ-loop s p a lists memo n out₀ at o₀ i₀ i-end out o i = i-end - i
 
 row-count-requires : tie.Need-row-count-requires Inv-loop μ-loop
 row-count-requires c κs = let g = c .before .before .pre .0 in (g .ordered .slots .few, g .roomy .few-tones)
