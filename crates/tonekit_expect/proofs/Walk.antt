@@ -1,6 +1,6 @@
 -- The search by number, and one step of the walk up the parents.
 use Prim.Native.Nat.{ℕ, zero, suc, _+_, _-_, _≤_, _<_}
-use mathlib.Core.Path.{_≡_, refl, _∙_, ap, subst}
+use mathlib.Core.Path.{_≡_, refl, sym, _∙_, ap, subst}
 use mathlib.Core.Bool.{_&&_}
 use mathlib.Core.List.{List}
 use native.Mathlib.Omega.{arith}
@@ -15,7 +15,7 @@ use Rattle.tonekit_expect.specs.declared.Found.the-variants as found
 use Rattle.tonekit_expect.specs.declared.Winner.{Winner}
 use Rattle.tonekit_expect.specs.declared.Winner.the-variants as winner
 use Rattle.tonekit_expect.specs.declared.Context.{Context}
-use Rattle.tonekit_expect.specs.Lookup.{indexTurn, indexOf, matches, moreThan, betterOf, fromRule, toRule, bestTurn, bestRule, parentOf, orParent, toParent, climbTurn, findRule}
+use Rattle.tonekit_expect.specs.Lookup.{indexTurn, indexOf, matches, moreThan, betterOf, fromRule, toRule, bestTurn, bestRule, parentOf, orParent, toParent, climbTurn, findRule, listed, lookAt, lookUp}
 
 -- ---- the search
 module _ (s os : List ℕ) (n : ℕ) where
@@ -123,3 +123,8 @@ module _ (s : List ℕ) (st : Pst) (c : Context) (P : ℕ → Type 0) (each : (i
   pub winner-is : (i a r : ℕ) → i < length (st .accents) → findRule s st c i ≡ winner.Rule a r → (a < length (st .accents)) × P r
   unfolding findRule
   winner-is i a r h e = found-is (length (st .accents)) i a r h e
+
+-- what a lookup gives whose accent and tone are held: the listing of the tone's record and of the rule that was found
+pub look-found : (s : List ℕ) (st : Pst) (c : Context) (i t o : ℕ) (w : Winner) → indexOf s (st .accents) (c .accent) ≡ found.At i → indexOf s (st .tones) (c .tone) ≡ found.At t → o ≡ getD (st .tones) t 0 → w ≡ findRule s st c i → listed s st c o w ≡ lookUp s st c
+unfolding lookUp
+look-found s st c i t o w a b p q = ap (λ n. listed s st c n w) p ∙ ap (listed s st c (getD (st .tones) t 0)) q ∙ sym (ap (λ f. lookAt s st c f (indexOf s (st .tones) (c .tone))) a ∙ ap (lookAt s st c (found.At i)) b)

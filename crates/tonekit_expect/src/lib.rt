@@ -204,7 +204,7 @@ fn parent_index(s: &[u8], p: Pack, i: usize) -> Found
     ensures { λ r. ⌜ r ≡ parentOf (now (s .entry)) (shown p) i ⌝ }
 {
     let o = p.accentat[i] as usize;
-    accent_index(s, p, byte_at(s, o, 2))
+    index_of(s, &p.accentat, p.accents, byte_at(s, o, 2))
 }
 
 // The rule that a walk from accent i up its parents ends with: the best of the first accent that has
@@ -246,8 +246,8 @@ fn parts_from(s: &[u8], o: usize) -> usize
     n
 }
 
-// The rule at r with its parts, under its owner's number.
-fn rule_listing(s: &[u8], owner: u8, r: usize) -> Listing
+// The rule at r with its parts, under its owner's number. A pack's offsets fit 16 bits.
+pub fn rule_listing(s: &[u8], owner: u8, r: usize) -> Listing
     requires { ⌜ r < 65536 ⌝ }
     ensures { λ l. ⌜ l ≡ ruleListing (now (s .entry)) owner r ⌝ }
 {
@@ -295,13 +295,13 @@ pub fn look_up(s: &[u8], p: Pack, c: Context) -> Look
     requires { ⌜ Roomy p ⌝ }
     ensures { λ r. ⌜ r ≡ lookUp (now (s .entry)) (shown p) c ⌝ }
 {
-    let Found::At(i) = accent_index(s, p, c.accent) else {
+    let Found::At(i) = index_of(s, &p.accentat, p.accents, c.accent) else {
         return Look::Nothing;
     };
-    let Found::At(t) = tone_index(s, p, c.tone) else {
+    let Found::At(t) = index_of(s, &p.toneat, p.tones, c.tone) else {
         return Look::Nothing;
     };
-    let o = p.toneat[t] as usize;
+    let o = wide(p.toneat[t]);
     listing_of(s, p, c, o, find_rule(s, p, c, i))
 }
 

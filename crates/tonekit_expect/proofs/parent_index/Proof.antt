@@ -6,11 +6,11 @@ use Rattle.tonekit_expect.proofs.parent_index.Tie as tie
 
 returns : tie.Need-returns
 returns c =
-    let start = c .before .before .before .before in
+    let start = c .before .before .before .before .before .before in
     let p = start .args .t2 in
-    c .accent-index .ensures ∙ simp (c .before .byte-at .ensures, order-get (p .accentat) (p .accents) (start .args .i) (start .pre .1))
+    c .index-of .ensures ∙ simp (c .before .byte-at .ensures, order-get (p .accentat) (p .accents) (start .args .i) (start .pre .1))
 
--- mul-o, element-copy-out-o, cast-o, byte-at-requires, accent-index-requires: by search
+-- mul-o, element-copy-out-o, cast-o, byte-at-requires, index-of-requires: by search
 pub parent-index-spec : {M : Type 1} → statement M
 parent-index-spec =
     tie.close
