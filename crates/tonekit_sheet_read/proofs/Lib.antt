@@ -12,7 +12,4 @@ pub mod Fine
 pub mod Kept
 pub mod Nothing
 pub mod Loads
-pub mod Looks
-pub mod Components
-pub mod FoundLists
 pub mod Front

@@ -4,7 +4,6 @@ ghost use Prim.Native.Nat.{_≤_};
 ghost use Rattle.tonekit_sheet.specs.Reader.{rowsDue, finished, readSheet, loadSheet, checkSheet};
 ghost use Rattle.tonekit_sheet_read.specs.Held.{shown, answered, answeredAt, Roomy};
 
-pub mod look;
 mod order;
 mod read;
 
