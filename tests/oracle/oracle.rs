@@ -83,59 +83,89 @@ fn f32_bits(v: f32) -> [u8; 4] {
     if v.is_nan() { 0x7FC0_0000 } else { v.to_bits() }.to_le_bytes()
 }
 
-/// The shape of a query, its issues united with the query's own; 11 where there is none.
-fn shape_of(q: &[u8]) -> Result<Extracted, u8> {
-    let span = TbuSpan {
-        start_frame: u32_at(q, 5),
-        end_frame: u32_at(q, 9),
-    };
-    let register = Register {
-        floor_st: f32_at(q, 13),
-        median_st: 0.0,
-        ceil_st: f32_at(q, 17),
-        n_syllables: 0,
-    };
-    let frames = q[46..]
-        .chunks_exact(10)
-        .map(|f| F0Frame {
+/// A query that has been read, for many calls.
+pub struct Query {
+    grading: GradingTarget,
+    target: ToneTarget,
+    context: TargetContext,
+    span: TbuSpan,
+    register: Register,
+    own: u16,
+    track: F0Track,
+}
+
+impl Query {
+    pub fn read(q: &[u8]) -> Query {
+        let variants = (0..usize::from(q[23])).map(|i| LexicalVariant {
+            tone: tone(q[24 + 5 * i]),
+            weight: f32_at(q, 25 + 5 * i),
+        });
+        let frames = q[46..].chunks_exact(10).map(|f| F0Frame {
             hz: (f[1] == 1).then(|| f32_at(f, 2)),
             voiced_p: f32_at(f, 6),
-        })
-        .collect();
-    let track = F0Track {
-        frames,
-        provider: String::new(),
-    };
-    let mut found = extract(&track, &span, &register).map_err(|_| 11)?;
-    let own = u16_at(q, 21);
-    for (bit, issue) in ISSUES.iter().enumerate() {
-        if own >> bit & 1 == 1 && !found.issues.contains(issue) {
-            found.issues.push(*issue);
+        });
+        Query {
+            grading: grading(q[1]),
+            target: ToneTarget {
+                tone: tone(q[2]),
+                lexical_variants: variants.collect(),
+            },
+            context: context(q[3], q[4]),
+            span: TbuSpan {
+                start_frame: u32_at(q, 5),
+                end_frame: u32_at(q, 9),
+            },
+            register: Register {
+                floor_st: f32_at(q, 13),
+                median_st: 0.0,
+                ceil_st: f32_at(q, 17),
+                n_syllables: 0,
+            },
+            own: u16_at(q, 21),
+            track: F0Track {
+                frames: frames.collect(),
+                provider: String::new(),
+            },
         }
     }
-    Ok(found)
+
+    /// The shape, its issues united with the query's own; 11 where there is none.
+    fn extract(&self) -> Result<Extracted, u8> {
+        let mut found = extract(&self.track, &self.span, &self.register).map_err(|_| 11)?;
+        for (bit, issue) in ISSUES.iter().enumerate() {
+            if self.own >> bit & 1 == 1 && !found.issues.contains(issue) {
+                found.issues.push(*issue);
+            }
+        }
+        Ok(found)
+    }
+
+    pub fn shape(&self) -> Result<[u8; 124], u8> {
+        let Extracted { shape: x, issues } = self.extract()?;
+        assert_eq!(x.onset.to_bits(), x.contour[0].to_bits());
+        assert_eq!(x.offset.to_bits(), x.contour[9].to_bits());
+        let mut out = Vec::with_capacity(124);
+        out.push(51);
+        out.extend(x.span.start_frame.to_le_bytes());
+        out.extend(x.span.end_frame.to_le_bytes());
+        for v in x.contour.iter().chain(&x.voiced_weights) {
+            out.extend(f32_bits(*v));
+        }
+        for v in [x.mean, x.slope, x.curvature] {
+            out.extend(f32_bits(v));
+        }
+        out.push(u8::from(x.turning_point.is_some()));
+        out.extend(f32_bits(x.turning_point.unwrap_or(0.0)));
+        for v in [x.range, x.duration_ms, x.voiced_fraction, x.f0_confidence] {
+            out.extend(f32_bits(v));
+        }
+        out.extend(issue_bits(&issues).to_le_bytes());
+        Ok(out.try_into().expect("124 bytes"))
+    }
 }
 
 pub fn shape(query: &[u8]) -> Result<[u8; 124], u8> {
-    let Extracted { shape: x, issues } = shape_of(query)?;
-    assert_eq!(x.onset.to_bits(), x.contour[0].to_bits());
-    assert_eq!(x.offset.to_bits(), x.contour[9].to_bits());
-    let mut out = vec![51];
-    out.extend(x.span.start_frame.to_le_bytes());
-    out.extend(x.span.end_frame.to_le_bytes());
-    for v in x.contour.iter().chain(&x.voiced_weights) {
-        out.extend(f32_bits(*v));
-    }
-    for v in [x.mean, x.slope, x.curvature] {
-        out.extend(f32_bits(v));
-    }
-    out.push(u8::from(x.turning_point.is_some()));
-    out.extend(f32_bits(x.turning_point.unwrap_or(0.0)));
-    for v in [x.range, x.duration_ms, x.voiced_fraction, x.f0_confidence] {
-        out.extend(f32_bits(v));
-    }
-    out.extend(issue_bits(&issues).to_le_bytes());
-    Ok(out.try_into().expect("124 bytes"))
+    Query::read(query).shape()
 }
 
 fn grading(accent: u8) -> GradingTarget {
@@ -217,29 +247,15 @@ impl Pack {
             .collect())
     }
 
-    pub fn judge(&self, query: &[u8]) -> Result<[u8; 64], u8> {
-        let Extracted { shape: x, issues } = shape_of(query)?;
-        let target = ToneTarget {
-            tone: tone(query[2]),
-            lexical_variants: (0..usize::from(query[23]))
-                .map(|i| LexicalVariant {
-                    tone: tone(query[24 + 5 * i]),
-                    weight: f32_at(query, 25 + 5 * i),
-                })
-                .collect(),
-        };
+    pub fn judge(&self, query: &Query) -> Result<[u8; 64], u8> {
+        let Extracted { shape: x, issues } = query.extract()?;
         let j = self
             .0
-            .judge(
-                &grading(query[1]),
-                &x,
-                &target,
-                &context(query[3], query[4]),
-                &issues,
-            )
+            .judge(&query.grading, &x, &query.target, &query.context, &issues)
             .map_err(refusal)?;
 
-        let mut out = vec![49, number(&j.expected.0), j.loglik.len() as u8];
+        let mut out = Vec::with_capacity(64);
+        out.extend([49, number(&j.expected.0), j.loglik.len() as u8]);
         for i in 0..8 {
             out.extend(j.loglik.get(i).map_or([0; 4], |v| f32_bits(*v)));
         }
@@ -285,9 +301,72 @@ fn delta(kind: DeltaKind) -> u8 {
 }
 
 pub fn judge(pack: &[u8], query: &[u8]) -> Result<[u8; 64], u8> {
-    Pack::read(pack).judge(query)
+    Pack::read(pack).judge(&Query::read(query))
 }
 
 pub fn look(pack: &[u8], accent: u8, of: u8, prev: u8, fin: u8) -> Result<Vec<Component>, u8> {
     Pack::read(pack).look(accent, of, prev, fin)
+}
+
+/// The length of a pack's record.
+fn length(kind: u8) -> usize {
+    [9, 56, 19, 7, 46, 1][usize::from(kind) - 1]
+}
+
+/// The sheet that document 01 fixes for a pack, with every lookup the Rust's.
+pub fn sheet(pack: &[u8]) -> Vec<u8> {
+    let read = Pack::read(pack);
+    let mut out = vec![17];
+    out.extend(&pack[1..9]);
+    let (mut tones, mut accents) = (Vec::new(), Vec::new());
+    let mut at = 0;
+    while at < pack.len() {
+        match pack[at] {
+            2 => {
+                tones.push(pack[at + 1]);
+                out.extend([18, pack[at + 1]]);
+                out.extend(&pack[at + 2..at + 6]);
+                out.extend(&pack[at + 47..at + 56]);
+            }
+            3 => accents.push((pack[at + 1], &pack[at + 3..at + 19])),
+            _ => {}
+        }
+        at += length(pack[at]);
+    }
+    accents.sort();
+    for (number, tolerances) in &accents {
+        out.extend([19, *number]);
+        out.extend(*tolerances);
+    }
+    let mut lists: Vec<Vec<Component>> = Vec::new();
+    let mut number = |found: Vec<Component>| {
+        let at = lists.iter().position(|l| *l == found).unwrap_or_else(|| {
+            lists.push(found);
+            lists.len() - 1
+        });
+        (at + 1) as u8
+    };
+    for (accent, _) in &accents {
+        for &tone in &tones {
+            for prev in std::iter::once(0).chain(tones.iter().copied()) {
+                out.extend([20, *accent, tone, prev]);
+                for fin in 0..2 {
+                    out.push(read.look(*accent, tone, prev, fin).map_or(0, &mut number));
+                }
+            }
+        }
+    }
+    for (i, list) in lists.iter().enumerate() {
+        let first = &list[0];
+        out.extend([21, (i + 1) as u8, first.owner, first.form]);
+        out.extend(first.label.to_le_bytes());
+        out.push(list.len() as u8);
+        for c in list {
+            out.push(22);
+            out.extend(c.weight.to_le_bytes());
+            out.extend(c.points.iter().flat_map(|p| p.to_le_bytes()));
+        }
+    }
+    out.push(23);
+    out
 }

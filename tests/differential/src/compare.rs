@@ -89,65 +89,6 @@ fn from_oracle<const N: usize>(answer: Option<Result<[u8; N], u8>>) -> Answer {
     }
 }
 
-/// The sheet that document 01 fixes, with every lookup the Rust's.
-#[cfg(oracle)]
-fn oracle_sheet(pack: &[u8]) -> Vec<u8> {
-    let read = oracle::Pack::read(pack);
-    let mut out = vec![17];
-    out.extend(&pack[1..9]);
-    let (mut tones, mut accents) = (Vec::new(), Vec::new());
-    for at in starts(pack) {
-        match pack.get(at) {
-            Some(2) => {
-                tones.push(pack[at + 1]);
-                out.extend([18, pack[at + 1]]);
-                out.extend(&pack[at + 2..at + 6]);
-                out.extend(&pack[at + 47..at + 56]);
-            }
-            Some(3) => accents.push((pack[at + 1], pack[at + 3..at + 19].to_vec())),
-            _ => {}
-        }
-    }
-    accents.sort();
-    for (number, tolerances) in &accents {
-        out.extend([19, *number]);
-        out.extend(tolerances);
-    }
-    let mut lists: Vec<Vec<oracle::Component>> = Vec::new();
-    for (accent, _) in &accents {
-        for &tone in &tones {
-            for prev in std::iter::once(0).chain(tones.iter().copied()) {
-                out.extend([20, *accent, tone, prev]);
-                for fin in 0..2 {
-                    out.push(match read.look(*accent, tone, prev, fin) {
-                        Err(_) => 0,
-                        Ok(found) => {
-                            let at = lists.iter().position(|l| *l == found).unwrap_or_else(|| {
-                                lists.push(found);
-                                lists.len() - 1
-                            });
-                            (at + 1) as u8
-                        }
-                    });
-                }
-            }
-        }
-    }
-    for (i, list) in lists.iter().enumerate() {
-        let first = &list[0];
-        out.extend([21, (i + 1) as u8, first.owner, first.form]);
-        out.extend(first.label.to_le_bytes());
-        out.push(list.len() as u8);
-        for c in list {
-            out.push(22);
-            out.extend(c.weight.to_le_bytes());
-            out.extend(c.points.iter().flat_map(|p| p.to_le_bytes()));
-        }
-    }
-    out.push(23);
-    out
-}
-
 /// Asks the oracle what it can answer.
 #[cfg(oracle)]
 pub fn with_oracle(t: &mut Tally, case: u64, kind: usize, c: &Call, ours: &Answer) {
@@ -201,7 +142,7 @@ pub fn with_oracle(t: &mut Tally, case: u64, kind: usize, c: &Call, ours: &Answe
             }
         }
         WRITE_SHEET if ours.is_ok() && (kind == 0 || kind == 7) => {
-            let theirs = caught(|| oracle_sheet(&c.a)).ok_or((255, 255));
+            let theirs = caught(|| oracle::sheet(&c.a)).ok_or((255, 255));
             t.same(
                 "oracle's lookups, all of a pack, put into a sheet: write_sheet",
                 theirs == *ours,
