@@ -3,6 +3,7 @@
 here=$(cd "$(dirname "${BASH_SOURCE[0]}")" && pwd)
 root=$(cd "$here/../.." && pwd)
 out=$root/target/controller
+calls='tonekit_check_pack tonekit_check_query tonekit_check_sheet tonekit_write_shape tonekit_write_sheet tonekit_judge tonekit_judge_sheet'
 ulimit -c 0
 mkdir -p "$out"
 
@@ -52,15 +53,17 @@ END
     "$clang" -x ir "$out/module.bc" -S -emit-llvm -O0 -Xclang -disable-llvm-passes -o "$out/module.ll"
 }
 
-# object ARCH CPU LEVEL: the module for a 32-bit Arm. Layouts in it are absolute, usize stays 64 bits and pointers stand in
+# object ARCH CPU LEVEL [WORDS..]: the module for a 32-bit Arm, with more words for clang. Layouts in it are absolute, usize stays 64 bits and pointers stand in
 # slots of 8 bytes, so that another data layout, triple and processor are all it takes. Prints the object's name.
 object() {
-    local name=$out/tonekit-$1-$3
+    local arch=$1 cpu=$2 level=$3 name=$out/tonekit-$1-$3
+    shift 3
+    [ $# -eq 0 ] || name+=-other
     sed -e 's/^target datalayout = .*/target datalayout = "e-m:e-p:32:32-Fi8-i64:64-v128:64:128-a:0:32-n32-S64"/' \
-        -e "s/^target triple = .*/target triple = \"$1-unknown-none-eabi\"/" \
+        -e "s/^target triple = .*/target triple = \"$arch-unknown-none-eabi\"/" \
         -e '/^attributes #/ s/ "\(target-cpu\|target-features\|tune-cpu\)"="[^"]*"//g' "$out/module.ll" >"$name.ll"
-    "$clang" --target="$1-none-eabi" -mcpu="$2" -mfloat-abi=soft -ffunction-sections -fdata-sections -fstack-size-section \
-        -mllvm -trap-unreachable -mllvm -no-trap-after-noreturn -Werror -c -x ir "$name.ll" "-$3" -o "$name.o"
+    "$clang" --target="$arch-none-eabi" -mcpu="$cpu" -mfloat-abi=soft -ffunction-sections -fdata-sections -fstack-size-section \
+        -mllvm -trap-unreachable -mllvm -no-trap-after-noreturn -Werror "$@" -c -x ir "$name.ll" "-$level" -o "$name.o"
     echo "$name.o"
 }
 

@@ -21,8 +21,10 @@ while at < len(cases):
     if answers[place:place + length] != wanted[place:place + length]:
         differ += 1
         if differ <= 3:
-            print(f'case {count}, {CALLS[call]} of {first} and {second} bytes, room {room}: '
-                  f'{answers[place:place + 12].hex() or "no answer"}, not {wanted[place:place + 12].hex()}')
+            got, right = answers[place:place + length], wanted[place:place + length]
+            first_at = next((i for i in range(len(got)) if got[i] != right[i]), len(got))
+            print(f'case {count}, {CALLS[call]} of {first} and {second} bytes, room {room}: differs from byte {first_at} of the answer on, '
+                  f'{got[first_at:first_at + 8].hex() or "nothing"}, not {right[first_at:first_at + 8].hex()}')
     at += 12 + length
     place += length
     count += 1

@@ -28,7 +28,8 @@ static uint32_t bits32(volatile float x)
     return x != x ? 0x7FC00000 : v.bits;
 }
 
-#define ORDER(x, y) ((x < y) | (x <= y) << 1 | (x > y) << 2 | (x >= y) << 3 | (x == y) << 4 | (x != y) << 5)
+#define ORDER(x, y) \
+    ((x < y) | (x <= y) << 1 | (x > y) << 2 | (x >= y) << 3 | (x == y) << 4 | (x != y) << 5 | __builtin_isunordered(x, y) << 6)
 
 int main(void)
 {

@@ -7,12 +7,6 @@
 #include "board.h"
 #include "tonekit.h"
 
-uint64_t tonekit_ln(uint64_t bits);
-uint64_t tonekit_log2(uint64_t bits);
-uint64_t tonekit_exp(uint64_t bits);
-uint64_t tonekit_root(uint64_t bits);
-uint32_t tonekit_narrow(uint64_t bits);
-
 struct head { uint32_t call, first, second, room, behind, skew; };
 
 /* The calls, by the numbers that the recorded samples give them (crates/replay/README.md). */
