@@ -1,0 +1,5 @@
+pub mod Digits
+pub mod Text
+pub mod Read
+pub mod Decimal
+pub mod Bench
