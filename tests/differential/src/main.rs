@@ -15,6 +15,7 @@ mod samples;
 mod sheet;
 mod tally;
 
+use std::io::Write;
 use std::path::Path;
 use std::time::Instant;
 
@@ -85,6 +86,30 @@ fn show(seed: u64, index: u64) {
     }
 }
 
+/// Writes sheets that load, each behind its length as a u32: by turns one of a pack and one of no
+/// pack.
+fn write_sheets(count: u64, seed: u64) {
+    let mut out = Vec::new();
+    let mut written = 0;
+    for index in 0.. {
+        if written == count {
+            break;
+        }
+        let mut r = rng::Rng::new(seed, index);
+        let bytes = if written % 2 == 0 {
+            reference::write_sheet(&pack::pack(&mut r).bytes()).expect("a pack that loads")
+        } else {
+            sheet::sheet(&mut r, false)
+        };
+        if reference::check_sheet(&bytes).is_none() {
+            out.extend((bytes.len() as u32).to_le_bytes());
+            out.extend(bytes);
+            written += 1;
+        }
+    }
+    std::io::stdout().write_all(&out).expect("standard output");
+}
+
 fn main() {
     let args: Vec<String> = std::env::args().skip(1).collect();
     let number = |i: usize, otherwise: u64| {
@@ -103,6 +128,10 @@ fn main() {
             true
         }
         "replay" => samples::replay(Path::new(&args[1])) == 0,
+        "sheets" => {
+            write_sheets(number(1, 2_000), number(2, 1));
+            true
+        }
         "case" => {
             show(number(2, 1), number(1, 0));
             true

@@ -67,7 +67,7 @@ pub fn ask(call: u8, a: &[u8], b: &[u8], out: &mut [u8]) -> u64 {
     let (po, no) = (out.as_mut_ptr(), out.len() as u64);
     let mut place = u64::MAX;
     let at = &mut place as *mut u64;
-    let number = unsafe {
+    let number: u32 = unsafe {
         match call {
             #[cfg(port_check_pack)]
             CHECK_PACK => tonekit_check_pack(pa, na, at),

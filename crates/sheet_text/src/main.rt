@@ -1,0 +1,444 @@
+// sheet_text [FILE]..: each sheet as plain text on standard output, or 52, number, u32 place; - is
+// standard input, and so is no FILE at all. No sheet has more bytes than are read. README.md
+// describes the text.
+ghost use Prim.Native.Nat.{_<_, _≤_};
+ghost use Rattle.tonekit_sheet_read.specs.Held.{Roomy};
+use libc::STDIN_FILENO;
+use libc::STDOUT_FILENO;
+use tonekit_bytes::byte_at;
+use tonekit_bytes::u16_at;
+use tonekit_bytes::u32_at;
+use tonekit_sheet_read::Sheet;
+use tonekit_sheet_read::SheetRead;
+
+// Text is gathered on a page before it is written. What adds to the page takes the place of the next
+// byte, n, and answers the one after what it added.
+
+// Where the next byte goes: n, or the front again once a full page is written.
+fn next_place(page: &[u8; 4096], n: usize) -> usize
+    ensures { λ r. ⌜ r < 4096 ⌝ }
+{
+    if n < 4096 {
+        return n;
+    }
+    io::write_all(STDOUT_FILENO, page);
+    0
+}
+
+// Writes what is on the page.
+fn flush(page: &[u8; 4096], n: usize) {
+    io::write_all(STDOUT_FILENO, front(page, n));
+}
+
+// The first n bytes; of a shorter slice all.
+fn front(s: &[u8], n: usize) -> &[u8] {
+    if n < s.len() {
+        return &s[0..n];
+    }
+    s
+}
+
+// Adds bytes to the page.
+fn add(page: &mut [u8; 4096], n: usize, text: &[u8]) -> usize {
+    let mut at = n;
+    let mut i = 0;
+    while i < text.len() {
+        let place = next_place(page, at);
+        page[place] = text[i];
+        at = place + 1;
+        i += 1;
+    }
+    at
+}
+
+// Adds the one text or the other.
+fn add_either(page: &mut [u8; 4096], n: usize, one: bool, text: &[u8], other: &[u8]) -> usize {
+    if one {
+        add(page, n, text)
+    } else {
+        add(page, n, other)
+    }
+}
+
+// Adds a whole number behind a text.
+fn add_whole(page: &mut [u8; 4096], n: usize, text: &[u8], x: u16) -> usize {
+    let mut digits = [0u8; 20];
+    let k = io::decimal(x as u64, &mut digits);
+    let at = add(page, n, text);
+    add(page, at, &digits[..k])
+}
+
+// Adds the float at index o + k behind a text, as the shortest decimal that reads back to its bits.
+fn add_float(page: &mut [u8; 4096], n: usize, text: &[u8], s: &[u8], o: usize, k: usize) -> usize {
+    let d = tonekit_decimal::decimal(u32_at(s, o, k));
+    let digits = d.text;
+    let at = add(page, n, text);
+    add(page, at, front(&digits, d.count))
+}
+
+fn add_settings(page: &mut [u8; 4096], n: usize, s: &[u8]) -> usize {
+    let n = add_float(page, n, b"tonekit sheet\n\nsettings: temperature ", s, 0, 1);
+    let n = add_float(page, n, b", heard threshold ", s, 0, 5);
+    add(page, n, b"\n\n")
+}
+
+// The tone at o.
+fn add_tone(page: &mut [u8; 4096], n: usize, s: &[u8], o: usize) -> usize {
+    let n = add_whole(page, n, b"tone ", byte_at(s, o, 1) as u16);
+    let n = add_float(page, n, b": prior ", s, o, 2);
+    if byte_at(s, o, 6) == 0 {
+        return add(page, n, b", no region\n");
+    }
+    let n = add_float(page, n, b", region ", s, o, 7);
+    let n = add_float(page, n, b" to ", s, o, 11);
+    add(page, n, b"\n")
+}
+
+fn add_tones(page: &mut [u8; 4096], n: usize, s: &[u8], tones: usize) -> usize
+    requires { ⌜ tones ≤ 8 ⌝ }
+{
+    let mut at = n;
+    for t in 0..tones {
+        at = add_tone(page, at, s, 9 + 15 * t);
+    }
+    at
+}
+
+// The accent at o.
+fn add_accent(page: &mut [u8; 4096], n: usize, s: &[u8], o: usize) -> usize {
+    let n = add_whole(page, n, b"accent ", byte_at(s, o, 1) as u16);
+    let n = add_float(page, n, b": tolerances contour ", s, o, 2);
+    let n = add_float(page, n, b", onset ", s, o, 6);
+    let n = add_float(page, n, b", offset ", s, o, 10);
+    let n = add_float(page, n, b", turning ", s, o, 14);
+    add(page, n, b"\n")
+}
+
+// The accents from o on.
+fn add_accents(page: &mut [u8; 4096], n: usize, s: &[u8], o: usize, accents: usize) -> usize
+    requires { ⌜ (o ≤ 129) × (accents ≤ 8) ⌝ }
+{
+    let mut at = add(page, n, b"\n");
+    for a in 0..accents {
+        at = add_accent(page, at, s, o + 18 * a);
+    }
+    at
+}
+
+// The rows of one accent and tone stand from o on, one for each preceding tone, none first.
+
+// Where row p takes list x: 1 not at the end of a phrase, 2 at the end, 3 in both, 0 in neither.
+fn taken(s: &[u8], o: usize, p: usize, x: u8) -> u8
+    requires { ⌜ p < 9 ⌝ }
+{
+    let inside = byte_at(s, o, 6 * p + 4) == x;
+    let last = byte_at(s, o, 6 * p + 5) == x;
+    if inside & last {
+        return 3;
+    }
+    if inside {
+        return 1;
+    }
+    if last { 2 } else { 0 }
+}
+
+// Whether one of the first rows takes list x so, as `taken` numbers it.
+fn some_taken(s: &[u8], o: usize, rows: usize, x: u8, so: u8) -> bool
+    requires { ⌜ rows ≤ 9 ⌝ }
+{
+    let mut some = false;
+    for p in 0..rows {
+        some = some | (taken(s, o, p, x) == so);
+    }
+    some
+}
+
+// The preceding tone of row p where it takes list x so; the first is put behind the words for it.
+fn add_preceding(
+    page: &mut [u8; 4096],
+    n: usize,
+    s: &[u8],
+    o: usize,
+    p: usize,
+    x: u8,
+    so: u8,
+    words: &[u8],
+) -> usize
+    requires { ⌜ p < 9 ⌝ }
+{
+    if taken(s, o, p, x) != so {
+        return n;
+    }
+    let n = add_either(page, n, some_taken(s, o, p, x, so), b", ", words);
+    let preceding = byte_at(s, o, 6 * p + 3);
+    if preceding == 0 {
+        return add(page, n, b"none");
+    }
+    add_whole(page, n, b"", preceding as u16)
+}
+
+// The preceding tones of all rows that take list x so.
+fn add_so(
+    page: &mut [u8; 4096],
+    n: usize,
+    s: &[u8],
+    o: usize,
+    rows: usize,
+    x: u8,
+    so: u8,
+    words: &[u8],
+) -> usize
+    requires { ⌜ rows ≤ 9 ⌝ }
+{
+    let mut at = n;
+    for p in 0..rows {
+        at = add_preceding(page, at, s, o, p, x, so, words);
+    }
+    at
+}
+
+// The contexts that take list x at one place of a phrase and not at the other.
+fn add_by_place(page: &mut [u8; 4096], n: usize, s: &[u8], o: usize, rows: usize, x: u8) -> usize
+    requires { ⌜ rows ≤ 9 ⌝ }
+{
+    let both = some_taken(s, o, rows, x, 3);
+    let inside = some_taken(s, o, rows, x, 1);
+    let last = some_taken(s, o, rows, x, 2);
+    let n = add_either(page, n, both & (inside | last), b";", b"");
+    let n = add_so(
+        page,
+        n,
+        s,
+        o,
+        rows,
+        x,
+        1,
+        b" not at the end of a phrase after ",
+    );
+    let n = add_either(page, n, inside & last, b";", b"");
+    add_so(page, n, s, o, rows, x, 2, b" at the end of a phrase after ")
+}
+
+// The contexts that take list x, folded together.
+fn add_contexts(page: &mut [u8; 4096], n: usize, s: &[u8], o: usize, rows: usize, x: u8) -> usize
+    requires { ⌜ rows ≤ 9 ⌝ }
+{
+    let by_place = some_taken(s, o, rows, x, 1) | some_taken(s, o, rows, x, 2);
+    if !(some_taken(s, o, rows, x, 0) | by_place) {
+        return add(page, n, b" in every context\n");
+    }
+    let n = add_so(page, n, s, o, rows, x, 3, b" after ");
+    let n = add_by_place(page, n, s, o, rows, x);
+    add(page, n, b"\n")
+}
+
+// What row p takes, at the end of a phrase or not.
+fn taken_by(s: &[u8], o: usize, p: usize, last: bool) -> u8
+    requires { ⌜ p < 9 ⌝ }
+{
+    if last {
+        return byte_at(s, o, 6 * p + 5);
+    }
+    byte_at(s, o, 6 * p + 4)
+}
+
+// Whether a context before names list x: an earlier row, or row p not at the end of a phrase where
+// the end is asked for.
+fn named_before(s: &[u8], o: usize, p: usize, x: u8, last: bool) -> bool
+    requires { ⌜ p < 9 ⌝ }
+{
+    let either = some_taken(s, o, p, x, 1) | some_taken(s, o, p, x, 2);
+    let before = some_taken(s, o, p, x, 3) | either;
+    before | (last & (taken_by(s, o, p, false) == x))
+}
+
+// The entry of what row p takes, where no context before names it.
+fn add_entry(
+    page: &mut [u8; 4096],
+    n: usize,
+    s: &[u8],
+    o: usize,
+    rows: usize,
+    p: usize,
+    last: bool,
+) -> usize
+    requires { ⌜ (rows ≤ 9) × (p < 9) ⌝ }
+{
+    let x = taken_by(s, o, p, last);
+    if named_before(s, o, p, x, last) {
+        return n;
+    }
+    if x == 0 {
+        let n = add(page, n, b"  nothing:");
+        return add_contexts(page, n, s, o, rows, x);
+    }
+    let n = add_whole(page, n, b"  list ", x as u16);
+    let n = add(page, n, b":");
+    add_contexts(page, n, s, o, rows, x)
+}
+
+// The table of the accent and tone whose rows begin at o; nothing for a row further on.
+fn add_table(page: &mut [u8; 4096], n: usize, s: &[u8], o: usize, rows: usize) -> usize
+    requires { ⌜ rows ≤ 9 ⌝ }
+{
+    if byte_at(s, o, 3) != 0 {
+        return n;
+    }
+    let n = add_whole(page, n, b"\naccent ", byte_at(s, o, 1) as u16);
+    let n = add_whole(page, n, b", tone ", byte_at(s, o, 2) as u16);
+    let mut at = add(page, n, b"\n");
+    for p in 0..rows {
+        at = add_entry(page, at, s, o, rows, p, false);
+        at = add_entry(page, at, s, o, rows, p, true);
+    }
+    at
+}
+
+// The tables of the rows from o on, of which so many stand for one accent and tone.
+fn add_tables(
+    page: &mut [u8; 4096],
+    n: usize,
+    s: &[u8],
+    o: usize,
+    rows: usize,
+    each: usize,
+) -> usize
+    requires { ⌜ (o ≤ 273) × (rows ≤ 576) × (each ≤ 9) ⌝ }
+{
+    let mut at = add(
+        page,
+        n,
+        b"\ncontexts, by preceding tone (none: no tone precedes), at the end of a phrase or not:\n",
+    );
+    for r in 0..rows {
+        at = add_table(page, at, s, o + 6 * r, each);
+    }
+    at
+}
+
+// The ten points from index o + k on.
+fn add_points(page: &mut [u8; 4096], n: usize, s: &[u8], o: usize, k: usize) -> usize
+    requires { ⌜ k ≤ 20000 ⌝ }
+{
+    let mut at = add_float(page, n, b"    points ", s, o, k);
+    for i in 1..10 {
+        at = add_float(page, at, b", ", s, o, k + 4 * i);
+    }
+    add(page, at, b"\n")
+}
+
+// The components of the list at o.
+fn add_components(page: &mut [u8; 4096], n: usize, s: &[u8], o: usize, count: u8) -> usize {
+    let mut at = n;
+    for j in 0..count {
+        let k = 7 + 45 * (j as usize);
+        at = add_whole(page, at, b"  component ", j as u16);
+        at = add_float(page, at, b": weight ", s, o, k + 1);
+        at = add(page, at, b"\n");
+        at = add_points(page, at, s, o, k + 5);
+    }
+    at
+}
+
+fn add_form(page: &mut [u8; 4096], n: usize, form: u8) -> usize {
+    match form {
+        1 => add(page, n, b", form citation, label "),
+        2 => add(page, n, b", form single, label "),
+        _ => add(page, n, b", form mixture, label "),
+    }
+}
+
+// The list at an offset.
+fn add_list(page: &mut [u8; 4096], n: usize, s: &[u8], offset: u16) -> usize {
+    let o = offset as usize;
+    let n = add_whole(page, n, b"\nlist ", byte_at(s, o, 1) as u16);
+    let n = add_whole(page, n, b": owner accent ", byte_at(s, o, 2) as u16);
+    let n = add_form(page, n, byte_at(s, o, 3));
+    let n = add_whole(page, n, b"", u16_at(s, o, 4));
+    let n = add(page, n, b"\n");
+    add_components(page, n, s, o, byte_at(s, o, 6))
+}
+
+// The lists at these offsets.
+fn add_lists(page: &mut [u8; 4096], n: usize, s: &[u8], offsets: &[u16; 128], lists: usize) -> usize
+    requires { ⌜ lists ≤ 128 ⌝ }
+{
+    let mut at = add(
+        page,
+        n,
+        b"\nlists, each component with its weight and ten points, evenly spaced from start to end:\n",
+    );
+    for i in 0..lists {
+        at = add_list(page, at, s, offsets[i]);
+    }
+    at
+}
+
+// The text of a sheet that loads.
+fn write_text(s: &[u8], st: Sheet)
+    requires { ⌜ Roomy st ⌝ }
+{
+    let mut page = [0u8; 4096];
+    let accents = 9 + 15 * st.tones;
+    let rows = accents + 18 * st.accents;
+    let offsets = st.listat;
+    let n = add_settings(&mut page, 0, s);
+    let n = add_tones(&mut page, n, s, st.tones);
+    let n = add_accents(&mut page, n, s, accents, st.accents);
+    let n = add_tables(&mut page, n, s, rows, st.rows, st.tones + 1);
+    let n = add_lists(&mut page, n, s, &offsets, st.lists);
+    let n = add(&mut page, n, b"\nend\n");
+    flush(&page, n);
+}
+
+// Writes the text of a sheet, or its refusal.
+fn print_sheet(s: &[u8]) {
+    let l = tonekit_sheet_read::load_sheet(s);
+    let read = l.read;
+    match read {
+        SheetRead::Good(_) => write_text(s, l.sheet),
+        SheetRead::Refused(r, place) => {
+            let bytes = tonekit_report::refusal_record(r, place);
+            io::write_all(STDOUT_FILENO, &bytes);
+        }
+    }
+}
+
+// Prints the sheet that an open file holds.
+fn print_open(fd: i32) {
+    let mut space = io::large_buffer();
+    let n = io::read_full(fd, &mut space);
+    print_sheet(&space[..n]);
+}
+
+// Prints the sheet that argument i names.
+fn print_named(i: usize) {
+    let mut name = io::buffer();
+    let n = os::arg(i, &mut name);
+    if os::errno() != 0 {
+        os::fail(b"sheet_text");
+        return;
+    }
+    if check::same(&name[..n], b"-") {
+        print_open(STDIN_FILENO);
+        return;
+    }
+    let fd = os::open_read(&name[..n]);
+    if fd < 0 {
+        os::fail(&name[..n]);
+        return;
+    }
+    print_open(fd);
+    libc::close(fd);
+}
+
+fn main() {
+    let count = os::arg_count();
+    if count < 2 {
+        print_open(STDIN_FILENO);
+        return;
+    }
+    for i in 1..count {
+        print_named(i);
+    }
+}
