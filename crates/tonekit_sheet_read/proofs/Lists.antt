@@ -1,20 +1,40 @@
--- A list's turn in the check at the end, with its offset read from the array. Assumes nothing.
+-- The lists at a sheet's end: one that is there, two that differ, and a list's turn with its offset read from the array. Assumes nothing.
 use Prim.Native.Nat.{ℕ, _+_, _≤_, _<_}
-use mathlib.Core.Path.{_≡_}
-use mathlib.Core.Bool.{false, cond, not, _&&_}
+use mathlib.Core.Path.{_≡_, refl, sym}
+use mathlib.Core.Bool.{true, false, cond, not, _&&_}
 use mathlib.Core.List.{List}
 use native.Mathlib.Omega.{arith}
 use lib.Dec.{eqb}
+use borrow.Author.Tests.{ne-eqb}
 use lib.ListN.{getD}
-use Rattle.tonekit_core.specs.Loop.{next, stop}
+use Rattle.tonekit_core.specs.Loop.{next, stop, range}
 use Rattle.tonekit_bytes.specs.Fields.{byteAt}
 use Rattle.tonekit_pack.specs.Held.{inOrder}
-use Rattle.tonekit_pack.proofs.InOrder.{order-get}
+use Rattle.tonekit_pack.specs.Pack.{holds, zeroOrHeld}
+use Rattle.tonekit_pack.proofs.InOrder.{order-length, order-get}
+use Rattle.tonekit_pack.proofs.Numbers.{not-held}
+use Rattle.tonekit_pack.proofs.Split.{split}
 use Rattle.tonekit_expect.specs.declared.Found.the-variants as found
-use Rattle.tonekit_sheet.specs.Reader.{named, equalTurn, repeated, listTurn}
+use Rattle.tonekit_sheet.specs.Reader.{named, listSize, sameTurn, sameLists, equalTurn, repeated, listTurn}
 use Rattle.tonekit_sheet_read.specs.declared.Sheet.{Sheet}
 use Rattle.tonekit_sheet_read.specs.Held.{shown}
-use Rattle.tonekit_sheet_read.proofs.SameLoops.{range-same}
+use Rattle.tonekit_sheet_read.proofs.SameLoops.{range-same, settled, range-parts}
+
+-- the list at place p has the number x
+pub there : (s xs : List ℕ) (n p x : ℕ) → p < n → byteAt s (getD xs p 0 + 1) ≡ x → true ≡ zeroOrHeld s (inOrder xs n) x
+unfolding zeroOrHeld
+there s xs n p x h e =
+    split (holds s (inOrder xs n) x)
+    (λ t. split (eqb x 0) (λ q. rw q) (λ q. rw (q, t)))
+    (λ t. absurd (not-held s (inOrder xs n) x t p (omega (arith, order-length xs n)) (rw (order-get xs n p h) e)))
+
+-- lists that differ in a byte are not equal
+pub differ : (s : List ℕ) (a b k : ℕ) → 2 ≤ k → k < listSize s a → (byteAt s (a + k) ≡ byteAt s (b + k) → ⊥) → false ≡ sameLists s a b
+unfolding sameLists
+differ s a b k l h n =
+    let f = sameTurn s a b in
+    settled f (sym (range-parts f 2 k (listSize s a) true l (omega arith))) h
+    (split (range f 2 k true) (λ t. rw (t, ne-eqb (byteAt s (a + k)) (byteAt s (b + k)) n)) (λ t. rw t)) (λ i. refl)
 
 repeated-order : (s xs : List ℕ) (n i o : ℕ) → i ≤ n → repeated s (inOrder xs n) i o ≡ repeated s xs i o
 unfolding repeated

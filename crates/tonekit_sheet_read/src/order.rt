@@ -1,33 +1,49 @@
 // What is judged at a sheet's end: list references (7), then the order (8).
 ghost use mathlib.Core.Path.{_≡_};
-ghost use Prim.Native.Nat.{_+_, _*_, _<_, _≤_};
-ghost use lib.ListN.{length, getD};
-ghost use Rattle.tonekit_pack.specs.Pack.{numberAt, zeroOrHeld};
+ghost use Prim.Native.Nat.{_<_, _≤_};
+ghost use mathlib.Core.Bool.{false};
+ghost use lib.Dec.{ltb};
+ghost use Rattle.tonekit_core.specs.Loop.{range};
+ghost use Rattle.tonekit_pack.specs.Pack.{zeroOrHeld};
 ghost use Rattle.tonekit_pack.specs.Held.{inOrder};
-ghost use Rattle.tonekit_sheet.specs.Reader.{rowsDue, rowAt, looseRow, accentDown, prevDue, rowDue, most, rowNames, rowWrong, named, listSize, sameLists, repeated, listWrong};
+ghost use Rattle.tonekit_sheet.specs.Reader.{rowsDue, rowAt, looseRow, accentDown, prevDue, rowDue, most, rowNames, rowWrong, namesTurn, named, sameLists, repeated, listWrong};
 ghost use Rattle.tonekit_sheet_read.specs.Held.{shown, Roomy};
 use crate::Sheet;
 use tonekit_bytes::byte_at;
 use tonekit_expect::Found;
 
 // The offset of row r, of at most 576.
-pub fn row_at(st: Sheet, r: usize) -> usize
+fn row_at(st: Sheet, r: usize) -> usize
     requires { ⌜ Roomy st × (r ≤ 576) ⌝ }
     ensures { λ o. ⌜ (o ≡ rowAt (shown st) r) × (o ≤ 4000) ⌝ }
 {
     9 + 15 * st.tones + 18 * st.accents + 6 * r
 }
 
-// 0, or the number of one of the first n lists at these offsets.
-fn list_there(s: &[u8], at: [u16; 128], n: usize, x: u8) -> bool
+// An offset as a usize.
+fn wide(x: u16) -> usize
+    ensures { λ r. ⌜ r ≡ x ⌝ }
+{
+    x as usize
+}
+
+// Whether x is 0, or the number of one of the first n lists at these offsets: in a sheet in order,
+// of list x.
+fn list_there(s: &[u8], at: &[u16; 128], n: usize, x: u8) -> bool
     requires { ⌜ n ≤ 128 ⌝ }
-    ensures { λ r. ⌜ r ≡ zeroOrHeld (now (s .entry)) (inOrder at n) x ⌝ }
+    ensures { λ r. ⌜ r ≡ zeroOrHeld (now (s .entry)) (inOrder (now (at .entry)) n) x ⌝ }
 {
     if x == 0 {
         return true;
     }
+    let p = x as usize - 1;
+    if p < n {
+        if byte_at(s, wide(at[p]), 1) == x {
+            return true;
+        }
+    }
     for i in 0..n {
-        if byte_at(s, at[i] as usize, 1) == x {
+        if byte_at(s, wide(at[i]), 1) == x {
             return true;
         }
     }
@@ -42,8 +58,8 @@ pub fn loose_row(s: &[u8], st: Sheet) -> Found
     let at = st.listat;
     for r in 0..st.rows {
         let o = row_at(st, r);
-        let not_final = list_there(s, at, st.lists, byte_at(s, o, 4));
-        let last = list_there(s, at, st.lists, byte_at(s, o, 5));
+        let not_final = list_there(s, &at, st.lists, byte_at(s, o, 4));
+        let last = list_there(s, &at, st.lists, byte_at(s, o, 5));
         if !(not_final & last) {
             return Found::At(o);
         }
@@ -128,43 +144,65 @@ pub fn row_wrong(s: &[u8], st: Sheet) -> Found
     Found::Nothing
 }
 
-// Whether a row names list n.
-fn named(s: &[u8], st: Sheet, n: usize) -> bool
-    requires { ⌜ Roomy st ⌝ }
-    ensures { λ b. ⌜ b ≡ named (now (s .entry)) (shown st) n ⌝ }
+// The first row from a row on that names list n, or the number of rows.
+fn use_from(s: &[u8], st: Sheet, n: usize, from: usize) -> usize
+    requires { ⌜ Roomy st × (from ≤ st .rows) ⌝ }
+    ensures { λ r. ⌜ (r ≤ st .rows) × (ltb r (st .rows) ≡ range (namesTurn (now (s .entry)) (shown st) n) from (st .rows) false) ⌝ }
 {
-    let mut used = false;
-    for r in 0..st.rows {
+    for r in from..st.rows {
         let o = row_at(st, r);
         let first = byte_at(s, o, 4) as usize == n;
         let last = byte_at(s, o, 5) as usize == n;
-        used = used | (first | last);
+        if first | last {
+            return r;
+        }
     }
-    used
+    st.rows
 }
 
-// Whether the lists at two offsets are equal but for their numbers.
+// A row that names list n, or the number of rows: the first from a row on, else the first of all.
+// Lists are numbered by first use, so list n is first named at or behind list n - 1.
+fn use_of(s: &[u8], st: Sheet, n: usize, from: usize) -> usize
+    requires { ⌜ Roomy st × (from ≤ st .rows) ⌝ }
+    ensures { λ r. ⌜ (r ≤ st .rows) × (ltb r (st .rows) ≡ named (now (s .entry)) (shown st) n) ⌝ }
+{
+    let r = use_from(s, st, n, from);
+    if r < st.rows {
+        return r;
+    }
+    use_from(s, st, n, 0)
+}
+
+// Whether the lists at two offsets are equal but for their numbers. Byte 50, of the first curve's
+// last point, tells most apart.
 fn same_lists(s: &[u8], a: usize, b: usize) -> bool
     ensures { λ r. ⌜ r ≡ sameLists (now (s .entry)) a b ⌝ }
 {
-    let mut ok = true;
     let size = 7 + 45 * (byte_at(s, a, 6) as usize);
-    for k in 2..size {
-        ok = ok & (byte_at(s, a, k) == byte_at(s, b, k));
+    if 50 < size {
+        if byte_at(s, a, 50) != byte_at(s, b, 50) {
+            return false;
+        }
     }
-    ok
+    for k in 2..size {
+        if byte_at(s, a, k) != byte_at(s, b, k) {
+            return false;
+        }
+    }
+    true
 }
 
 // Whether one of the first n lists is equal to the one at o.
-fn repeated(s: &[u8], at: [u16; 128], n: usize, o: usize) -> bool
+fn repeated(s: &[u8], at: &[u16; 128], n: usize, o: usize) -> bool
     requires { ⌜ n ≤ 128 ⌝ }
-    ensures { λ r. ⌜ r ≡ repeated (now (s .entry)) at n o ⌝ }
+    ensures { λ r. ⌜ r ≡ repeated (now (s .entry)) (now (at .entry)) n o ⌝ }
 {
-    let mut hit = false;
     for i in 0..n {
-        hit = hit | same_lists(s, o, at[i] as usize);
+        if same_lists(s, o, wide(at[i])) {
+            return true;
+        }
     }
-    hit
+    false
 }
 
 // The first list that has not its place as its number, is named by no row, or is equal to an
@@ -174,10 +212,12 @@ pub fn list_wrong(s: &[u8], st: Sheet) -> Found
     ensures { λ r. ⌜ r ≡ listWrong (now (s .entry)) (shown st) ⌝ }
 {
     let at = st.listat;
+    let mut from = 0;
     for i in 0..st.lists {
         let o = at[i] as usize;
         let numbered = byte_at(s, o, 1) as usize == i + 1;
-        let fine = numbered & (named(s, st, i + 1) & !repeated(s, at, i, o));
+        from = use_of(s, st, i + 1, from);
+        let fine = numbered & ((from < st.rows) & !repeated(s, &at, i, o));
         if !fine {
             return Found::At(o);
         }

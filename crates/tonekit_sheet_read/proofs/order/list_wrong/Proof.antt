@@ -1,10 +1,10 @@
--- `list_wrong` meets its contract: from each list on, those left give what all give. Assumes nothing.
+-- `list_wrong` meets its contract: from each list on, those left give what all give, whatever row the next use is looked for from. Assumes nothing.
 use mathlib.Core.Path.{_≡_, refl, _∙_}
 use borrow.Author.Needs.{needs}
 use native.Mathlib.Omega.{arith}
 use Prim.Native.Nat.{_+_, _-_, _≤_}
 use mathlib.Core.Bool.{_&&_, not}
-use lib.Dec.{eqb}
+use lib.Dec.{eqb, ltb}
 use Rattle.tonekit_core.specs.Loop.{rangeTo, to-again, to-stop, to-ended}
 use Rattle.tonekit_pack.proofs.InOrder.{order-length}
 use Rattle.tonekit_expect.specs.declared.Found.the-variants as found
@@ -16,34 +16,37 @@ use Rattle.tonekit_sheet_read.proofs.order.list_wrong.Statement.{statem
 use Rattle.tonekit_sheet_read.proofs.order.list_wrong.Tie as tie
 
 abbrev Inv-loop : tie.InvT-loop
-Inv-loop s st at i₀ i-end i = (i-end ≡ st .lists) × (i ≤ i-end) × (rangeTo (listTurn s (shown st)) (λ u. found.Nothing) i i-end 0 ≡ listWrong s (shown st))
+Inv-loop s st at from₀ i₀ i-end from i = (i-end ≡ st .lists) × (i ≤ i-end) × (from ≤ st .rows) × (rangeTo (listTurn s (shown st)) (λ u. found.Nothing) i i-end 0 ≡ listWrong s (shown st))
 
 abbrev μ-loop : tie.MeasureT-loop
-μ-loop s st at i₀ i-end i = i-end - i
+μ-loop s st at from₀ i₀ i-end from i = i-end - i
 
 returns : tie.Need-returns Inv-loop μ-loop
 returns c =
-    let l = c .before .before .before .before .before in
-    to-stop _ _ (l .loop .inv .2) (c .before .before .before .before .loop-test .taken)
-    (list-turn-at (c .before .before .before .before .before .before .before .before .args .s .now) (c .before .before .before .before .before .before .before .before .args .st) (l .loop .i) 0 (omega arith)
-    ∙ simp (← (c .before .before .before .byte-at .ensures), ← (c .before .before .named .ensures), ← (c .before .repeated .ensures), not-true (eqb (c .before .before .before .byte-at .result) (l .loop .i + 1) && (c .before .before .named .result && not (c .before .repeated .result))) (c .if1 .taken)))
+    let l = c .before .before .before .before .before .before .before in
+    let a = c .before .before .before .before .before .before .before .before .before .before .args in
+    to-stop _ _ (l .loop .inv .3) (c .before .before .before .before .before .before .loop-test .taken)
+    (list-turn-at (a .s .now) (a .st) (l .loop .i) 0 (omega arith)
+    ∙ simp (← (c .before .before .before .before .before .byte-at .ensures), ← (c .before .before .before .before .use-of .ensures .1), ← (c .before .repeated .ensures), not-true (eqb (c .before .before .before .before .before .byte-at .result) (l .loop .i + 1) && (ltb (c .before .before .before .before .use-of .result) (a .st .rows) && not (c .before .repeated .result))) (c .if1 .taken)))
 
 loop-again : tie.Need-loop-again Inv-loop μ-loop
 loop-again c =
-    let l = c .before .before .before .before .before in (
+    let l = c .before .before .before .before .before .before .before in
+    let a = c .before .before .before .before .before .before .before .before .before .before .args in (
       l .loop .inv .0,
       omega arith,
-      to-again _ _ (l .loop .inv .2) (c .before .before .before .before .loop-test .taken)
-          (list-turn-at (c .before .before .before .before .before .before .before .before .args .s .now) (c .before .before .before .before .before .before .before .before .args .st) (l .loop .i) 0 (omega arith)
-          ∙ simp (← (c .before .before .before .byte-at .ensures), ← (c .before .before .named .ensures), ← (c .before .repeated .ensures), not-false (eqb (c .before .before .before .byte-at .result) (l .loop .i + 1) && (c .before .before .named .result && not (c .before .repeated .result))) (c .if1 .left))),
+      c .before .before .before .before .use-of .ensures .0,
+      to-again _ _ (l .loop .inv .3) (c .before .before .before .before .before .before .loop-test .taken)
+          (list-turn-at (a .s .now) (a .st) (l .loop .i) 0 (omega arith)
+          ∙ simp (← (c .before .before .before .before .before .byte-at .ensures), ← (c .before .before .before .before .use-of .ensures .1), ← (c .before .repeated .ensures), not-false (eqb (c .before .before .before .before .before .byte-at .result) (l .loop .i + 1) && (ltb (c .before .before .before .before .use-of .result) (a .st .rows) && not (c .before .repeated .result))) (c .if1 .left))),
     )
 
 returns-2 : tie.Need-returns-2 Inv-loop μ-loop
-returns-2 c = to-ended _ _ (c .before .loop .inv .2) (c .loop-test .left)
+returns-2 c = to-ended _ _ (c .before .loop .inv .3) (c .loop-test .left)
 
 loop-holds : tie.Need-loop-holds Inv-loop μ-loop
 unfolding listWrong
-loop-holds c = (refl, omega arith, rw order-length)
+loop-holds c = (refl, omega arith, omega arith, rw order-length)
 
 pub list-wrong-spec : {M : Type 1} → statement M
 list-wrong-spec =

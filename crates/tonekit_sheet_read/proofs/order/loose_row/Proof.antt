@@ -20,13 +20,13 @@ abbrev μ-loop : tie.MeasureT-loop
 
 returns : tie.Need-returns Inv-loop μ-loop
 returns c =
-    let l = c .before .before .before .before .before .before .before in
-    to-stop _ _ (l .loop .inv .2) (c .before .before .before .before .before .before .loop-test .taken) (simp (← (c .before .before .before .before .before .row-at .ensures .0), ← (c .before .before .before .before .byte-at .ensures), ← (c .before .before .before .list-there .ensures), ← (c .before .before .byte-at2 .ensures), ← (c .before .list-there2 .ensures), not-true (c .before .before .before .list-there .result && c .before .list-there2 .result) (c .if1 .taken)))
+    let l = c .before .before .before .before .before .before .before .before .before in
+    to-stop _ _ (l .loop .inv .2) (c .before .before .before .before .before .before .before .before .loop-test .taken) (simp (← (c .before .before .before .before .before .before .before .row-at .ensures .0), ← (c .before .before .before .before .before .byte-at .ensures), ← (c .before .before .before .before .list-there .ensures), ← (c .before .before .byte-at2 .ensures), ← (c .before .list-there2 .ensures), not-true (c .before .before .before .before .list-there .result && c .before .list-there2 .result) (c .if1 .taken)))
 
 loop-again : tie.Need-loop-again Inv-loop μ-loop
 loop-again c =
-    let l = c .before .before .before .before .before .before .before in
-    (l .loop .inv .0, omega arith, to-again _ _ (l .loop .inv .2) (c .before .before .before .before .before .before .loop-test .taken) (simp (← (c .before .before .before .before .before .row-at .ensures .0), ← (c .before .before .before .before .byte-at .ensures), ← (c .before .before .before .list-there .ensures), ← (c .before .before .byte-at2 .ensures), ← (c .before .list-there2 .ensures), not-false (c .before .before .before .list-there .result && c .before .list-there2 .result) (c .if1 .left))))
+    let l = c .before .before .before .before .before .before .before .before .before in
+    (l .loop .inv .0, omega arith, to-again _ _ (l .loop .inv .2) (c .before .before .before .before .before .before .before .before .loop-test .taken) (simp (← (c .before .before .before .before .before .before .before .row-at .ensures .0), ← (c .before .before .before .before .before .byte-at .ensures), ← (c .before .before .before .before .list-there .ensures), ← (c .before .before .byte-at2 .ensures), ← (c .before .list-there2 .ensures), not-false (c .before .before .before .before .list-there .result && c .before .list-there2 .result) (c .if1 .left))))
 
 returns-2 : tie.Need-returns-2 Inv-loop μ-loop
 returns-2 c = to-ended _ _ (c .before .loop .inv .2) (c .loop-test .left)

@@ -1,24 +1,29 @@
--- `repeated` meets its contract: from each list on, those left give what all give. Assumes nothing.
+-- `repeated` meets its contract: from each list on, those left give what all give, and one that is equal decides. Assumes nothing.
 use mathlib.Core.Path.{_≡_, refl}
+use mathlib.Core.Bool.{false}
 use borrow.Author.Needs.{needs}
 use native.Mathlib.Omega.{arith}
 use Prim.Native.Nat.{_-_, _≤_}
 use Rattle.tonekit_core.specs.Loop.{range, again, ended}
 use Rattle.tonekit_sheet.specs.Reader.{equalTurn, repeated}
+use Rattle.tonekit_sheet_read.proofs.SameLoops.{settled}
 use Rattle.tonekit_sheet_read.proofs.order.repeated.Statement.{statement}
 use Rattle.tonekit_sheet_read.proofs.order.repeated.Tie as tie
 
 abbrev Inv-loop : tie.InvT-loop
-Inv-loop s n o at hit₀ i₀ hit i = (i ≤ n) × (range (equalTurn s at o) i n hit ≡ repeated s at n o)
+Inv-loop s at n o i₀ i = (i ≤ n) × (range (equalTurn s at o) i n false ≡ repeated s at n o)
 
 abbrev μ-loop : tie.MeasureT-loop
-μ-loop s n o at hit₀ i₀ hit i = n - i
-
-loop-again : tie.Need-loop-again Inv-loop μ-loop
-loop-again c = (omega arith, again _ (c .before .before .loop .inv .1) (c .before .loop-test .taken) (rw (← (c .same-lists .ensures))))
+μ-loop s at n o i₀ i = n - i
 
 returns : tie.Need-returns Inv-loop μ-loop
-returns c = ended _ (c .before .loop .inv .1) (c .loop-test .left)
+returns c = settled _ (c .before .before .before .before .before .loop .inv .1) (c .before .before .before .before .loop-test .taken) (rw (← (c .before .before .wide .ensures), ← (c .before .same-lists .ensures)) (c .if1 .taken)) (λ i. refl)
+
+loop-again : tie.Need-loop-again Inv-loop μ-loop
+loop-again c = (omega arith, again _ (c .before .before .before .before .before .loop .inv .1) (c .before .before .before .before .loop-test .taken) (rw (← (c .before .before .wide .ensures), ← (c .before .same-lists .ensures)) (c .if1 .left)))
+
+returns-2 : tie.Need-returns-2 Inv-loop μ-loop
+returns-2 c = ended _ (c .before .loop .inv .1) (c .loop-test .left)
 
 loop-holds : tie.Need-loop-holds Inv-loop μ-loop
 unfolding repeated
@@ -33,9 +38,10 @@ repeated-spec =
     loop-holds
     (λ c. search needs)
     (λ c. search needs)
-    (λ c. search needs)
     (λ c κs. search needs)
+    (λ c κs. search needs)
+    returns
     (λ c. search needs)
     (λ c. search needs)
     loop-again
-    returns)
+    returns-2)
