@@ -10,8 +10,9 @@ use lib.Dec.{eqb, leb, ltb}
 use lib.Ieee.{Float, binary32, ofBits}
 use borrow.Author.Tests.{eqb-true, eqb-false, leb-true, leb-false, ltb-true, ltb-false, lt-leb, lt-ltb, le-ltb}
 use Rattle.tonekit_core.specs.Loop.{Turn, next, stop, turnsTo, rangeTo, loopTo, loopOn}
-use Rattle.tonekit_core.specs.declared.Refusal.the-variants.{CutShort}
+use Rattle.tonekit_core.specs.declared.Refusal.the-variants.{CutShort, Loose, Unordered}
 use Rattle.tonekit_bytes.specs.Fields.{byteAt, u16At, u32At, f32At}
+use Rattle.tonekit_expect.specs.declared.Found.{Found}
 use Rattle.tonekit_expect.specs.declared.Found.the-variants as found
 use Rattle.tonekit_pack.specs.Ranges.{regionFine, tolerancesFine}
 use Rattle.tonekit_pack.specs.Pack.{numberAt, holds, zeroOrHeld, settingsVerdict}
@@ -19,14 +20,13 @@ use Rattle.tonekit_pack.proofs.Split.{split}
 use Rattle.tonekit_pack.proofs.Turns.{by-verdict}
 use Rattle.tonekit_pack.proofs.Front.{Agree}
 use Rattle.tonekit_sheet.specs.Sheet.{accentPlace, tonePlace, prevPlace}
-use Rattle.tonekit_sheet.specs.Reader.{Sst, Out, loaded, refused, rowsDue, dueNext, sizeOf, toneVerdict, accentVerdict, rowVerdict, listVerdict, pointFine, pointTurn, pointsFine, lastList, componentVerdict, bodyVerdict, recordVerdict, added, rowAt, looseTurn, looseRow, accentTurn, accentDown, prevDue, rowDue, rowNames, rowTurn, rowWrong, namesTurn, named, listSize, sameTurn, sameLists, equalTurn, repeated, listTurn, listWrong, finished, start, readSheet, singly, loadSheet, said, checkSheet}
+use Rattle.tonekit_sheet.specs.Reader.{Sst, Out, loaded, refused, rowsDue, dueNext, sizeOf, toneVerdict, accentVerdict, rowVerdict, listVerdict, pointFine, pointTurn, pointsFine, lastList, componentVerdict, bodyVerdict, recordVerdict, added, rowAt, looseTurn, looseRow, accentTurn, accentDown, prevDue, rowDue, rowNames, rowTurn, rowWrong, namesTurn, named, listSize, sameTurn, sameLists, equalTurn, repeated, listTurn, listWrong, orElse, refusedAt, finished, start, readSheet, singly, loadSheet, said, checkSheet}
 use Rattle.tonekit_sheet_read.proofs.Places.{rows-few, accent-inside, tone-inside, prev-inside}
 use Rattle.tonekit_sheet_read.proofs.SameLoops.{range-same}
-use Rattle.tonekit_sheet_read.proofs.Records.{Closed, rows, components, Due, due-is, settings, tone, accent, row, list, component, finish, sound}
+use Rattle.tonekit_sheet_read.proofs.Records.{Closed, rows, Due, due-is, settings, tone, accent, row, list, component, finish, sound}
 use Rattle.tonekit_sheet_read.proofs.Reading.{after-list}
-use Rattle.tonekit_sheet_read.proofs.Turns.{run, run-refused, run-end, run-on, limit-idle}
-use Rattle.tonekit_sheet_read.proofs.Kept.{ListFine, Kept, keep}
-use Rattle.tonekit_sheet_read.proofs.Loads.{loads}
+use Rattle.tonekit_sheet_read.proofs.Turns.{run, run-refused, run-end, run-on, limit-idle, accepted, no-turns, not-loaded, same-loaded}
+use Rattle.tonekit_sheet_read.proofs.Kept.{ListRead, Kept, kept-start, no-due, keep}
 
 taken-agrees : (n : ℕ) (s : List ℕ) → Agree n (take n s) s
 taken-agrees n s =
@@ -200,22 +200,15 @@ module _ (n : ℕ) (t s : List ℕ) (a : Agree n t s) (at : ℕ) (st : Sst) (p :
       (λ r u l. rw (row-byte r 4 l (omega arith), row-byte r 5 l (omega arith)))
 
   module _ (c : Closed st) where
-    no-due : st .due ≡ 0
-    no-due = none c
-      where
-        none : Closed st → st .due ≡ 0
-        none (rows d e) = p .placed .no-lists (omega arith) .2
-        none (components d e) = e
-
     -- a list, with all its components, stands before the end
-    list-fine : (i : ℕ) → i < length (st .lists) → ListFine s (st .accents) (getD (st .lists) i 0) 0 at
+    list-fine : (i : ℕ) → i < length (st .lists) → ListRead s (getD (st .lists) i 0) 0 at
     list-fine i h =
         split (ltb (i + 1) (length (st .lists))) (λ u. p .lists i (ltb-true (i + 1) (length (st .lists)) u))
-        (λ u. let q : length (st .lists) - 1 ≡ i = omega (arith, ltb-false (i + 1) (length (st .lists)) u) in rw (no-due, q) at (p .latest (omega arith)))
+        (λ u. let q : length (st .lists) - 1 ≡ i = omega (arith, ltb-false (i + 1) (length (st .lists)) u) in rw (no-due (p .placed) c, q) at (p .latest (omega arith)))
 
     -- so as many bytes of it as the longest list has are in the front
     list-byte : (i k : ℕ) → i < length (st .lists) → k < 187 → byteAt t (getD (st .lists) i 0 + k) ≡ byteAt s (getD (st .lists) i 0 + k)
-    list-byte i k l h = let f = list-fine i l in a .bytes (getD (st .lists) i 0 + k) (omega (arith, f .extent, f .head .some))
+    list-byte i k l h = let f = list-fine i l in a .bytes (getD (st .lists) i 0 + k) (omega (arith, f .extent, f .some))
 
     equal-same : (i j : ℕ) → i < length (st .lists) → j < length (st .lists) → sameLists t (getD (st .lists) i 0) (getD (st .lists) j 0) ≡ sameLists s (getD (st .lists) i 0) (getD (st .lists) j 0)
     unfolding sameLists
@@ -224,7 +217,7 @@ module _ (n : ℕ) (t s : List ℕ) (a : Agree n t s) (at : ℕ) (st : Sst) (p :
         let y = getD (st .lists) j 0 in
         rw (list-byte i 6 l (omega arith))
         (range-same (sameTurn t x y) (sameTurn s x y) 2 (listSize s x) true (omega arith)
-        (λ k u b. let d : k < 187 = omega (arith, list-fine i l .head .few) in rw (list-byte i k l d, list-byte j k h d)))
+        (λ k u b. let d : k < 187 = omega (arith, list-fine i l .few) in rw (list-byte i k l d, list-byte j k h d)))
 
     repeated-same : (i : ℕ) → i < length (st .lists) → repeated t (st .lists) i (getD (st .lists) i 0) ≡ repeated s (st .lists) i (getD (st .lists) i 0)
     unfolding repeated
@@ -270,29 +263,8 @@ run-same (suc f) n t s a d at st p l =
     (λ e. let k : byteAt s at ≡ 23 → ⊥ = eqb-false (byteAt s at) 23 e in
     let q : suc f - 1 ≡ f = omega arith in
     rw (run-on t d (suc f) at st (omega arith) (same ∙ v) (λ x. k (sym here ∙ x)), run-on s d (suc f) at st (omega arith) v k, q, here, count)
-    (run-same f n t s a d (at + sizeOf (byteAt s at)) (added (byteAt s at) at (byteAt s (at + 6)) st) (keep s at st p (ok .due) refl (ok .whole) (ok .body) k) l)))
+    (run-same f n t s a d (at + sizeOf (byteAt s at)) (added (byteAt s at) at (byteAt s (at + 6)) st) (keep s at st p (ok .due) (ok .body) k) l)))
     (λ r v. run-refused t d (suc f) at st (omega arith) r (same ∙ v) ∙ sym (run-refused s d (suc f) at st (omega arith) r v))
-
-kept-start : (s : List ℕ) → Kept s 0 (start .st)
-kept-start s = record {
-  placed = record { first = λ q. refl; place = λ q. absurd (omega arith); no-tones = λ q. refl; no-accents = λ q. refl; no-rows = λ q. refl; no-lists = λ q. (refl, refl, refl); few-rows = omega arith; all-rows = λ q. absurd (omega arith) };
-  begun = λ q. absurd (omega arith);
-  few-tones = omega arith;
-  some-tone = λ q. absurd (omega arith);
-  tones-at = λ i l. absurd (omega arith);
-  tones = λ i l. absurd (omega arith);
-  few-accents = omega arith;
-  some-accent = λ q. absurd (omega arith);
-  accents-at = λ i l. absurd (omega arith);
-  accents = λ i l. absurd (omega arith);
-  rows = λ i l. absurd (omega arith);
-  few-lists = omega arith;
-  some-list = λ q. absurd (omega arith);
-  lists = λ i l. absurd (omega arith);
-  latest = λ l. absurd (omega arith);
-  here = λ l. absurd (omega arith);
-  few-in-all = omega arith;
-}
 
 read-agrees : (n : ℕ) (t s : List ℕ) → Agree n t s → 13400 ≤ n → readSheet t ≡ readSheet s
 read-agrees n t s a l =
@@ -304,8 +276,27 @@ single-agrees : (n : ℕ) (t s : List ℕ) (a : Agree n t s) (o : Out) → ((st 
 single-agrees n t s a (loaded st e) h = rw (a .goes e (h st e refl))
 single-agrees n t s a (refused r place) h = refl
 
+end-of : (st fin : Sst) (e e' : ℕ) (a b : Found) → refusedAt Loose a (refusedAt Unordered b (loaded st e)) ≡ loaded fin e' → e ≡ e'
+end-of st fin e e' (found.At o) b h = not-loaded Loose o e' fin h
+end-of st fin e e' found.Nothing (found.At o) h = not-loaded Unordered o e' fin h
+end-of st fin e e' found.Nothing found.Nothing h = same-loaded st fin e e' h .1
+
+finished-end : (s : List ℕ) (st fin : Sst) (e e' : ℕ) → finished s st e ≡ loaded fin e' → e ≡ e'
+unfolding finished
+finished-end s st fin e e' h = end-of st fin e e' (looseRow s st) (orElse (accentDown s st) (orElse (rowWrong s st) (listWrong s st))) h
+
+run-near : (f : ℕ) (s : List ℕ) (at : ℕ) (st fin : Sst) (e : ℕ) → run s (refused CutShort (length s)) f at st ≡ loaded fin e → Kept s at st → e ≤ 13266
+run-near zero s at st fin e h p = no-turns s at st fin CutShort (length s) e h
+run-near (suc f) s at st fin e h p =
+    let a = accepted s (refused CutShort (length s)) f at st fin e h in
+    split (eqb (byteAt s at) 23)
+    (λ b. omega (arith, near s at st p, finished-end s st fin (at + 1) e (a .ended (eqb-true (byteAt s at) 23 b))))
+    (λ b. let n : byteAt s at ≡ 23 → ⊥ = eqb-false (byteAt s at) 23 b in
+    run-near f s (at + sizeOf (byteAt s at)) (added (byteAt s at) at (byteAt s (at + 6)) st) fin e (a .goes n) (keep s at st p (a .passes .due) (a .passes .body) n))
+
 end-near : (s : List ℕ) (st : Sst) (e : ℕ) → readSheet s ≡ loaded st e → e ≤ 13266
-end-near s st e h = let l = loads s st e h in omega (arith, l .ends, near s (l .place) st (l .kept))
+unfolding readSheet
+end-near s st e h = run-near (length s + 1) s 0 (start .st) st e h (kept-start s)
 
 -- what stands past the first 13,400 bytes is no matter but that it is there
 pub front-alone : (s : List ℕ) (n : ℕ) → 13400 ≤ n → loadSheet (take n s) ≡ loadSheet s

@@ -8,8 +8,5 @@ pub mod Reading
 pub mod AtEnd
 pub mod Turns
 pub mod Single
-pub mod Fine
 pub mod Kept
-pub mod Nothing
-pub mod Loads
 pub mod Front

@@ -1,21 +1,19 @@
 -- What a record that is fine shows: its kind was due, it is whole, and each test of its body passed. Assumes nothing.
 use Prim.Native.Nat.{ℕ, _+_, _≤_, _<_}
 use mathlib.Core.Path.{_≡_, refl}
-use mathlib.Core.Logic.{_⊎_, inl, inr}
-use mathlib.Core.Bool.{true, false, not, _&&_, _||_}
+use mathlib.Core.Bool.{true, not, _&&_, _||_}
 use mathlib.Core.List.{List}
 use native.Mathlib.Omega.{arith}
 use lib.ListN.{length}
 use lib.Dec.{eqb, leb, ltb}
-use borrow.Author.Tests.{eqb-true, leb-false, ltb-true, ltb-false}
+use borrow.Author.Tests.{eqb-true, eqb-false, leb-false, ltb-true, ltb-false, not-true}
 use Rattle.tonekit_core.specs.declared.Refusal.the-variants.{Misplaced, CutShort}
 use Rattle.tonekit_core.specs.declared.Verdict.the-variants as verdict
 use Rattle.tonekit_bytes.specs.Fields.{byteAt}
 use Rattle.tonekit_pack.specs.Pack.{numberAt, holds}
 use Rattle.tonekit_pack.proofs.Split.{split, either, neither, both}
 use Rattle.tonekit_pack.proofs.Records.{not-fine, Passed, passed}
-use borrow.Author.Tests.{not-false}
-use Rattle.tonekit_sheet.specs.Reader.{Sst, rowsDue, complete, dueNext, sizeOf, toneFine, toneVerdict, accentFine, accentVerdict, rowFine, rowHeld, rowVerdict, listCrowded, listFine, listVerdict, componentFine, componentVerdict, bodyVerdict, recordVerdict}
+use Rattle.tonekit_sheet.specs.Reader.{Sst, rowsDue, complete, dueNext, sizeOf, toneFine, toneVerdict, accentFine, accentVerdict, listCrowded, listFine, listVerdict, componentFine, componentVerdict, bodyVerdict, recordVerdict}
 
 -- a list or the end is due: after the last row, or after the last component of a list
 pub data Closed (st : Sst) : Type 0 where
@@ -95,10 +93,6 @@ module _ (s : List ℕ) (at : ℕ) (st : Sst) where
   unfolding bodyVerdict accentVerdict
   accent-passed h = passed (leb 8 (length (st .accents))) (accentFine s at) (not (holds s (st .accents) (numberAt s at))) true h
 
-  pub row-passed : bodyVerdict 20 s at st ≡ verdict.Fine → Passed false (rowFine s at) true (rowHeld s at st)
-  unfolding bodyVerdict rowVerdict
-  row-passed h = passed false (rowFine s at) true (rowHeld s at st) h
-
   pub list-passed : bodyVerdict 21 s at st ≡ verdict.Fine → Passed (listCrowded s at st) (listFine s at) true (holds s (st .accents) (byteAt s (at + 2)))
   unfolding bodyVerdict listVerdict
   list-passed h = passed (listCrowded s at st) (listFine s at) true (holds s (st .accents) (byteAt s (at + 2))) h
@@ -117,11 +111,10 @@ module _ (s : List ℕ) (at : ℕ) (st : Sst) where
   pub component-room : bodyVerdict 22 s at st ≡ verdict.Fine → st .total < 192
   component-room h = leb-false 192 (st .total) (component-passed h .room)
 
-  -- of a list: room for it, and at most 4 components, or 1
+  -- of a list: room for it, and at most 4 components
   pub record ListRoom : Type 0 where
     pub few : length (st .lists) < 128
     pub count : byteAt s (at + 6) ≤ 4
-    pub lone : (byteAt s (at + 3) ≡ 3) ⊎ (byteAt s (at + 6) ≤ 1)
 
   pub list-room : bodyVerdict 21 s at st ≡ verdict.Fine → ListRoom
   list-room h =
@@ -133,5 +126,15 @@ module _ (s : List ℕ) (at : ℕ) (st : Sst) where
       record {
         few = leb-false 128 (length (st .lists)) (a .0);
         count = ltb-false 4 n (b .0);
-        lone = split (ltb 1 n) (λ t. inl (eqb-true form 3 (not-false (eqb form 3) (rw t at (b .1))))) (λ t. inr (ltb-false 1 n t));
       }
+
+  -- and at least one
+  pub list-some : bodyVerdict 21 s at st ≡ verdict.Fine → 1 ≤ byteAt s (at + 6)
+  list-some h =
+      let form = byteAt s (at + 3) in
+      let n = byteAt s (at + 6) in
+      let a = both (not (eqb (numberAt s at) 0)) _ (list-passed h .ranges) in
+      let b = both (not (eqb (byteAt s (at + 2)) 0)) _ (a .1) in
+      let c = both (leb 1 form && leb form 3) _ (b .1) in
+      let d = both (not (eqb n 0)) _ (c .1) in
+      omega (arith, eqb-false n 0 (not-true (eqb n 0) (d .0)))

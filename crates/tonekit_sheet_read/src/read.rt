@@ -1,9 +1,8 @@
 // What is said of one record of a sheet, and what is kept of it.
 ghost use mathlib.Core.Path.{_≡_};
-ghost use Prim.Native.Nat.{_+_, _*_, _<_, _≤_};
+ghost use Prim.Native.Nat.{_+_, _≤_};
 ghost use lib.ListN.{length};
-ghost use Rattle.tonekit_pack.specs.Pack.{holds, zeroOrHeld};
-ghost use Rattle.tonekit_pack.specs.Held.{inOrder};
+ghost use Rattle.tonekit_pack.specs.Pack.{holds};
 ghost use Rattle.tonekit_sheet.specs.Reader.{rowsDue, complete, dueNext, sizeOf, toneVerdict, accentVerdict, rowVerdict, listVerdict, pointFine, pointsFine, lastList, componentVerdict, bodyVerdict, recordVerdict, added, start};
 ghost use Rattle.tonekit_sheet_read.specs.Held.{stepped, shown, Roomy, Follows};
 use crate::Sheet;
@@ -23,7 +22,7 @@ use tonekit_pack::read::settings_verdict;
 use tonekit_sheet::size_of;
 
 // The rows that are due: one for each accent, tone, and tone or none before it.
-pub fn rows_due(st: Sheet) -> usize
+fn rows_due(st: Sheet) -> usize
     requires { ⌜ Roomy st ⌝ }
     ensures { λ r. ⌜ (r ≡ rowsDue (shown st)) × (r ≤ 576) ⌝ }
 {
@@ -61,7 +60,7 @@ fn due_next(st: Sheet, k: u8) -> bool
 
 // Whether one of n records, from an offset on and each so many bytes behind the one before, has x
 // as its number.
-pub fn holds_from(s: &[u8], o: usize, step: usize, n: usize, x: u8) -> bool
+fn holds_from(s: &[u8], o: usize, step: usize, n: usize, x: u8) -> bool
     requires { ⌜ (o ≤ 65536) × (step ≤ 18) × (n ≤ 8) ⌝ }
     ensures { λ r. ⌜ r ≡ holds (now (s .entry)) (stepped o step n) x ⌝ }
 {
@@ -140,7 +139,7 @@ fn list_verdict(s: &[u8], o: usize, st: Sheet) -> Verdict
 }
 
 // Of size at most 128.
-pub fn point_fine(x: f32) -> bool
+fn point_fine(x: f32) -> bool
     ensures { λ r. ⌜ r ≡ pointFine x ⌝ }
 {
     (-128.0 <= x) & (x <= 128.0)
