@@ -9,7 +9,7 @@ use lib.Dec.{eqb, leb, ltb}
 use lib.Pow.{pow-add}
 use Rattle.tonekit_decimal.specs.Decimal.{reads, candidate, choice, shortest, quarter, nearestOf, significand, scaleField, lowerGap, decimalOf, roundsTo}
 
-differ : {b : Bool} → b ≡ true → b ≡ false → ⊥
+pub differ : {b : Bool} → b ≡ true → b ≡ false → ⊥
 differ {b} e f = let z : _≡_ {A = ℕ} 0 1 = cc in omega arith
 
 -- what `reads` says
@@ -26,7 +26,7 @@ unfolding reads
 ends-read lo hi odd d h l = simp (le-leb (lo + odd) d h, le-leb (d + odd) hi l)
 
 -- what a choice says of the two candidates
-abbrev pick : Bool → Bool → Bool → ℕ
+abbrev pub pick : Bool → Bool → Bool → ℕ
 pick d u n = cond d (cond u (cond n 1 2) 1) (cond u 2 0)
 
 pick-one : (d u n : Bool) → pick d u n ≡ 1 → d ≡ true
@@ -56,15 +56,15 @@ module _ (lo v hi odd : ℕ) (rv : reads lo hi odd v ≡ true) where
   near : ℕ → Bool
   near p = leb (2 * v) (candidate v p 0 + candidate v p 1)
 
-  one : (p : ℕ) → choice lo v hi odd p ≡ 1 → reads lo hi odd (candidate v p 0) ≡ true
+  pub one : (p : ℕ) → choice lo v hi odd p ≡ 1 → reads lo hi odd (candidate v p 0) ≡ true
   unfolding choice low high near
   one p e = pick-one (low p) (high p) (near p) e
 
-  two : (p : ℕ) → choice lo v hi odd p ≡ 2 → reads lo hi odd (candidate v p 1) ≡ true
+  pub two : (p : ℕ) → choice lo v hi odd p ≡ 2 → reads lo hi odd (candidate v p 1) ≡ true
   unfolding choice low high near
   two p e = pick-two (low p) (high p) (near p) e
 
-  none : (p : ℕ) → (choice lo v hi odd p ≡ 1 → ⊥) → (choice lo v hi odd p ≡ 2 → ⊥)
+  pub none : (p : ℕ) → (choice lo v hi odd p ≡ 1 → ⊥) → (choice lo v hi odd p ≡ 2 → ⊥)
       → (reads lo hi odd (candidate v p 0) ≡ false) × (reads lo hi odd (candidate v p 1) ≡ false)
   unfolding choice low high near
   none p a b = pick-none (low p) (high p) (near p) a b
@@ -81,7 +81,7 @@ module _ (lo v hi odd : ℕ) (rv : reads lo hi odd v ≡ true) where
       by false false e g h = h
 
   -- where a multiple of 10 ^ q reads, one of the two beside v does
-  some : (q k : ℕ) → reads lo hi odd (k * 10 ^ q) ≡ true → reads lo hi odd (candidate v q 0) ≡ false → reads lo hi odd (candidate v q 1) ≡ false → ⊥
+  pub some : (q k : ℕ) → reads lo hi odd (k * 10 ^ q) ≡ true → reads lo hi odd (candidate v q 0) ≡ false → reads lo hi odd (candidate v q 1) ≡ false → ⊥
   unfolding candidate
   some q k r a b = by (leb (k * 10 ^ q) v) refl
     where
@@ -112,7 +112,7 @@ module _ (lo v hi odd : ℕ) (rv : reads lo hi odd v ≡ true) where
   part : (p q : ℕ) → q ≤ p → 10 ^ p ≡ 10 ^ (p - q) * 10 ^ q
   part p q h = let e : p ≡ (p - q) + q = omega arith in ap (λ (j : ℕ). 10 ^ j) e ∙ pow-add 10 (p - q) q
 
-  multiple : (p q c : ℕ) → q ≤ p → candidate v p c ≡ (v / 10 ^ p + c) * 10 ^ (p - q) * 10 ^ q
+  pub multiple : (p q c : ℕ) → q ≤ p → candidate v p c ≡ (v / 10 ^ p + c) * 10 ^ (p - q) * 10 ^ q
   unfolding candidate
   multiple p q c h =
       ap (λ (z : ℕ). (v / 10 ^ p + c) * z) (part p q h) ∙ sym (mul-assoc (v / 10 ^ p + c) (10 ^ (p - q)) (10 ^ q))
@@ -136,12 +136,12 @@ module _ (lo v hi odd : ℕ) (rv : reads lo hi odd v ≡ true) where
           let n = none (suc p) (eqb-false (choice lo v hi odd (suc p)) 1 e) (eqb-false (choice lo v hi odd (suc p)) 2 g) in
           absurd (some (suc p) k (rw eq at r) (n .0) (n .1))
 
-quarter-positive : (e : ℕ) → 1 ≤ quarter e
+pub quarter-positive : (e : ℕ) → 1 ≤ quarter e
 unfolding quarter
 quarter-positive e = one-le-mul {a = 2 ^ (e - 1)} {b = 5 ^ 151} (one-le-pow (e - 1) 2 (omega arith)) (one-le-pow 151 5 (omega arith))
 
 -- the value itself reads
-value-reads : (m b q : ℕ) → 1 ≤ b → 1 ≤ q → reads ((4 * m - b) * q) ((4 * m + 2) * q) (m % 2) (4 * m * q) ≡ true
+pub value-reads : (m b q : ℕ) → 1 ≤ b → 1 ≤ q → reads ((4 * m - b) * q) ((4 * m + 2) * q) (m % 2) (4 * m * q) ≡ true
 value-reads m b q h l = ends-read ((4 * m - b) * q) ((4 * m + 2) * q) (m % 2) (4 * m * q) (below m) above
   where
     above : 4 * m * q + m % 2 ≤ (4 * m + 2) * q
@@ -154,7 +154,7 @@ value-reads m b q h l = ends-read ((4 * m - b) * q) ((4 * m + 2) * q) (m % 2) (4
         let t : (4 * suc n - b + 1) * q ≤ 4 * suc n * q = mul-le-mul-right q (omega arith) in
         omega (arith, one-mul q)
 
-gap-positive : (e f : ℕ) → 1 ≤ lowerGap e f
+pub gap-positive : (e f : ℕ) → 1 ≤ lowerGap e f
 unfolding lowerGap
 gap-positive e f = by (eqb f 0) (ltb 1 e)
   where

@@ -122,7 +122,7 @@ fn search(lo: &[u8; 190], v: &[u8; 190], hi: &[u8; 190], odd: u64) -> [u8; 190]
     *v
 }
 
-// 4 m - below, 0 where that is less.
+// 4 m - below, or 0 where below is more.
 fn lower(m: u64, below: u64) -> u64
     requires { ⌜ m < 16777216 ⌝ }
     ensures { λ r. ⌜ r ≡ 4 * m - below ⌝ }
@@ -130,8 +130,8 @@ fn lower(m: u64, below: u64) -> u64
     if 4 * m < below { 0 } else { 4 * m - below }
 }
 
-// The shortest decimal in the rounding interval of m 2^(e - 150), whose lower end is below quarters
-// of a step away.
+// The shortest decimal in the rounding interval of m 2^(e - 150). Its upper end is two quarters of a
+// step away, its lower end `below` quarters.
 fn shortest(m: u64, e: usize, below: u64) -> [u8; 190]
     requires { ⌜ (m < 16777216) × (1 ≤ e) × (e ≤ 254) ⌝ }
     ensures { λ r. ⌜ r ≡ digits 190 (nearestOf m e below) ⌝ }
