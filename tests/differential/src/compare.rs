@@ -444,16 +444,19 @@ pub fn compare(t: &mut Tally, seed: u64, index: u64) {
         }
         answers.push(ours);
     }
-    // Both stations agree; a pack and its twin have one sheet; a sheet's lookups are its pack's.
+    // Both stations agree; two packs have one sheet exactly when they agree; a sheet's lookups are its pack's.
     for i in 1..case.calls.len() {
         let (one, two) = (&case.calls[i - 1], &case.calls[i]);
-        let name = match (one.call, two.call) {
-            (JUDGE, JUDGE_SHEET) => "reference: judge = judge_sheet on the pack's sheet",
-            (LOOK_PACK, LOOK_SHEET) => "reference: look_pack = look_sheet on the pack's sheet",
-            (WRITE_SHEET, WRITE_SHEET) => "reference: one sheet for two packs of the same lookups",
+        let (name, alike) = match (one.call, two.call) {
+            (JUDGE, JUDGE_SHEET) => ("reference: judge = judge_sheet on the pack's sheet", true),
+            (LOOK_PACK, LOOK_SHEET) => ("reference: look_pack = look_sheet on the pack's sheet", true),
+            (WRITE_SHEET, WRITE_SHEET) => match reference::agree(&one.a, &two.a) {
+                Ok(true) => ("reference: one sheet for two packs that agree", true),
+                _ => ("reference: two sheets for two packs that do not agree", false),
+            },
             _ => continue,
         };
-        t.same(name, answers[i - 1] == answers[i], index, || {
+        t.same(name, (answers[i - 1] == answers[i]) == alike, index, || {
             words(one, &say(&answers[i - 1]), &say(&answers[i]))
         });
     }

@@ -547,3 +547,46 @@ pub fn twin(r: &mut Rng, pack: &Pack) -> Pack {
         ..pack.clone()
     }
 }
+
+/// One small change, which a lookup may show or not: another parent, a rule gone or moved, the label, a weight or the sign of a
+/// knot of a rule, a tone's curve, or what no lookup carries (a prior, a tolerance, a setting).
+pub fn nudge(r: &mut Rng, pack: &mut Pack) {
+    let at = r.below(pack.accents.len());
+    let rules = pack.accents[at].rules.len();
+    match r.below(9) {
+        0 => pack.accents[at].parent = 0,
+        1 if rules > 0 => {
+            let i = r.below(rules);
+            pack.accents[at].rules.remove(i);
+        }
+        2 if rules > 1 => {
+            let i = r.below(rules - 1);
+            pack.accents[at].rules.swap(i, i + 1);
+        }
+        3 | 4 | 5 if rules > 0 => {
+            let i = r.below(rules);
+            let rule = &mut pack.accents[at].rules[i];
+            let j = r.below(rule.parts.len());
+            let k = r.below(rule.parts[j].knots.len());
+            match r.below(3) {
+                0 => rule.label ^= 1 << r.below(16),
+                1 if rule.form == 3 => rule.parts[j].weight = pick!(r, 0.0, LEAST, 1.0),
+                _ => rule.parts[j].knots[k] = -rule.parts[j].knots[k],
+            }
+        }
+        6 => {
+            let i = r.below(pack.tones.len());
+            if let Some(knot) = pack.tones[i].knots.first_mut() {
+                *knot = -*knot;
+            }
+        }
+        7 => {
+            let i = r.below(pack.tones.len());
+            pack.tones[i].prior = pick!(r, 1.0, 0.5, LEAST);
+        }
+        _ => match r.below(2) {
+            0 => pack.temperature = pick!(r, 1.0, 2.0),
+            _ => pack.accents[at].tolerances[r.below(4)] = pick!(r, 1.0, 0.5),
+        },
+    }
+}

@@ -134,6 +134,34 @@ pub fn look_sheet(sheet: &[u8], accent: u8, tone: u8, prev: u8, fin: u8) -> Opti
     look(&Sheet::read(sheet).ok()?, accent, tone, prev, fin)
 }
 
+/// Demand 3's words: whether settings, tones in order and accents in any order agree, and every lookup of a held accent and
+/// tone, after a held tone or none, at the end of a phrase or not, gives the same components. For two packs that load.
+pub fn agree(one: &[u8], two: &[u8]) -> Result<bool, Refusal> {
+    let packs = [Pack::read(one)?, Pack::read(two)?];
+    let held = |p: &Pack| {
+        let tones: Vec<_> = p
+            .tones
+            .iter()
+            .map(|t| (t.number, t.prior.to_bits(), t.flag, t.from.to_bits(), t.to.to_bits()))
+            .collect();
+        let mut accents: Vec<_> =
+            p.accents.iter().map(|a| (a.number, a.tolerances.map(f32::to_bits))).collect();
+        accents.sort_unstable();
+        (p.temperature.to_bits(), p.threshold.to_bits(), tones, accents)
+    };
+    if held(&packs[0]) != held(&packs[1]) {
+        return Ok(false);
+    }
+    let tones: Vec<u8> = packs[0].tones.iter().map(|t| t.number).collect();
+    let prevs: Vec<u8> = [0].into_iter().chain(tones.iter().copied()).collect();
+    let same = |accent: u8, tone: u8, prev: u8, fin: u8| {
+        look(&packs[0], accent, tone, prev, fin) == look(&packs[1], accent, tone, prev, fin)
+    };
+    Ok(packs[0].accents.iter().all(|a| {
+        tones.iter().all(|&t| prevs.iter().all(|&p| (0..2).all(|fin| same(a.number, t, p, fin))))
+    }))
+}
+
 /// Program `station`: "reads u16 pack length, pack, query ... (missing length bytes are 0; a length
 /// past the input's end takes what is there) and writes the record, or 52, number, u32 place".
 pub fn station(input: &[u8]) -> Vec<u8> {
