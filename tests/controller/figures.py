@@ -31,12 +31,13 @@ FIVE += accent(1, 0, 1.0, 1.0, 1.0, 1.0) + bytes([6])
 
 
 def alike_sheet():
-    """A sheet of no pack that is longest to read: 128 lists of one component, alike but for the last point."""
+    """A sheet of no pack that is long to read: 128 lists of one component, alike but for the last bits of the ninth point."""
     head = bytes([17]) + f32(1.0, 0.25) + b''.join(bytes([18, t]) + f32(0.125) + bytes(9) for t in range(1, 9))
     head += b''.join(bytes([19, a]) + f32(0.5, 0.75, 1.0, 0.25) for a in range(1, 9))
     places = [(a, t, prev) for a in range(1, 9) for t in range(1, 9) for prev in range(9)]
     rows = b''.join(bytes([20, *place, *((2 * i + 1, 2 * i + 2) if i < 64 else (1, 2))]) for i, place in enumerate(places))
-    lists = b''.join(bytes([21, n, 1, 2, 7, 0, 1, 22]) + f32(1.0, *[2.0] * 9, n / 128) for n in range(1, 129))
+    ninth = [struct.pack('<I', 0x40000000 + n) for n in range(1, 129)]
+    lists = b''.join(bytes([21, n, 1, 2, 7, 0, 1, 22]) + f32(1.0, *[2.0] * 8) + ninth[n - 1] + f32(2.0) for n in range(1, 129))
     return head + rows + lists + bytes([23])
 
 
@@ -57,6 +58,7 @@ def figures(host=None):
         ('judge, 1024 frames, all voiced, 4 variants, heavy pack', case(JUDGE, heavy, hard, RECORD)),
         ('judge_sheet, the same, heavy pack\'s sheet', case(JUDGE_SHEET, sheets[3], hard, RECORD)),
         ('judge_sheet, the same, largest sheet', case(JUDGE_SHEET, sheets[1], hard, RECORD)),
+        ('judge_sheet, the same, alike pack\'s sheet', case(JUDGE_SHEET, sheets[2], hard, RECORD)),
         ('judge_sheet, the same, sheet of 128 lists alike', case(JUDGE_SHEET, alike_sheet(), hard, RECORD)),
         ('write_shape, 30 frames', case(WRITE_SHAPE, query(30), room=SHAPE)),
         ('write_shape, 1024 frames', case(WRITE_SHAPE, query(1024), room=SHAPE)),
