@@ -39,6 +39,14 @@ fn main() {
         Ok(r) => {
             let f32_at = |i: usize| f32::from_le_bytes(r[i..i + 4].try_into().expect("four bytes"));
             println!("expected tone {}, heard {}, log-likelihood ratio {:.4}", r[1], r[49], f32_at(35));
+            if r[39] == 1 {
+                let label = u16::from_le_bytes([r[46], r[47]]);
+                let distance = f32_at(40);
+                println!("nearest curve: accent {}, form {}, label {label}, part {}, distance {distance:.4}", r[44], r[45], r[48]);
+            }
+            for i in 0..usize::from(r[50]) {
+                println!("delta of kind {} by {:.4}", r[51 + 5 * i], f32_at(52 + 5 * i));
+            }
         }
         Err((number, place)) => {
             println!("refused: {number} at {place}");
