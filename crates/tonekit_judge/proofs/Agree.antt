@@ -1,32 +1,21 @@
 -- A judgement depends on the squared distances of the components that are there, and on no others. Assumes nothing.
-use Prim.Native.Nat.{ℕ, zero, suc, _+_, _-_, _*_, _≤_, _<_}
-use mathlib.Core.Path.{_≡_, refl, ap, _∙_}
+use Prim.Native.Nat.{ℕ, _+_, _*_, _<_}
+use mathlib.Core.Path.{_≡_, ap, _∙_}
 use mathlib.Core.List.{List}
 use native.Mathlib.Omega.{arith}
 use lib.ListN.{getD, set, replicate}
 use lib.Ieee.{Float, nan}
-use Rattle.tonekit_core.specs.Loop.{turns, range}
 use Rattle.tonekit_score.specs.Score.{zero32, noMixing, mixTurn, mixtureOf, mixtureLog, calibrate}
 use Rattle.tonekit_score.specs.declared.Scoring.{Scoring}
 use Rattle.tonekit_score.specs.declared.Mixing.{Mixing}
 use Rattle.tonekit_score.specs.declared.Mixture.{Mixture}
 use Rattle.tonekit_score.specs.declared.Tolerance.{Tolerance}
 use Rattle.tonekit_shape.specs.declared.ToneShape.{ToneShape}
+use Rattle.tonekit_core.proofs.LoopLaws.{range-same}
 use Rattle.tonekit_judge.specs.Judge.{Listed, Counted, Placed, Filled, cell, distanceAt, plainOf, judgedOf, toneTurn, toneMixing, loglikAt, loglikTurn, logliks, partTurn, partMixing, targetTurn, targetMixing}
 use Rattle.tonekit_judge.specs.declared.Inventory.{Inventory}
 use Rattle.tonekit_judge.specs.declared.Targets.{Targets}
 use Rattle.tonekit_judge.specs.declared.ToneJudgement.{ToneJudgement}
-
--- two loops whose turns agree
-module _ {S : Type 0} (f g : ℕ → S → S) where
-  turns-same : (k i hi : ℕ) (s : S) → i + k ≤ hi → ((j : ℕ) (t : S) → j < hi → f j t ≡ g j t) → turns f k i s ≡ turns g k i s
-  unfolding turns
-  turns-same zero i hi s e h = refl
-  turns-same (suc k) i hi s e h = rw (h i s (omega arith)) (turns-same k (i + 1) hi (g i s) (omega arith) h)
-
-  pub range-same : (lo hi : ℕ) (s : S) → lo ≤ hi → ((j : ℕ) (t : S) → j < hi → f j t ≡ g j t) → range f lo hi s ≡ range g lo hi s
-  unfolding range
-  range-same lo hi s e h = turns-same (hi - lo) lo hi s (omega arith) h
 
 module _ (s : Scoring) (tones : ℕ) (counts : List ℕ) (weights : List Float) (d e : ℕ → ℕ → Float)
     (same : (t j : ℕ) → t < tones → j < getD counts t 0 → d t j ≡ e t j) where

@@ -15,7 +15,7 @@ use Rattle.tonekit_sheet.specs.FromSheet.{sourceOfSheet}
 use Rattle.tonekit_sheet.specs.Agree.{Bytes, Agree}
 use Rattle.tonekit_sheet.specs.Fit.{Fit}
 use Rattle.tonekit_sheet_laws.specs.Place.{stOf}
-use Rattle.tonekit_sheet_laws.proofs.Loops.{range-same}
+use Rattle.tonekit_core.proofs.LoopLaws.{range-same}
 use Rattle.tonekit_sheet_laws.proofs.Bytes.{gather-same}
 use Rattle.tonekit_sheet_laws.proofs.Asked.{row-held}
 use Rattle.tonekit_sheet_laws.proofs.Round.{round}
@@ -41,7 +41,7 @@ module _ (v w : View) (settings : v .settings ≡ w .settings) (tones : v .tones
   lists-same : listsOf v ≡ listsOf mixed
   unfolding mixed listsOf
   lists-same =
-      range-same (noteTurn v) (noteTurn mixed) (rowsOf v) []
+      range-same (noteTurn v) (noteTurn mixed) 0 (rowsOf v) [] (omega arith)
       (λ r l h. ap₂ (λ (x y : Option (List Carried)). noted (noted l x) y) (same r 0 h (omega arith)) (same r 1 h (omega arith)))
 
   rows-same : (lists : List (List Carried)) → gather (rowPiece v lists) 0 (rowsOf v) ≡ gather (rowPiece mixed lists) 0 (rowsOf v)

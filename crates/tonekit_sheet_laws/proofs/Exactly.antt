@@ -16,7 +16,7 @@ use Rattle.tonekit_sheet.specs.FromSheet.{sourceOfSheet}
 use Rattle.tonekit_sheet.specs.Agree.{Held, Agree}
 use Rattle.tonekit_sheet.specs.Fit.{Fit}
 use Rattle.tonekit_sheet_laws.specs.Place.{stOf}
-use Rattle.tonekit_sheet_laws.proofs.Loops.{range-same}
+use Rattle.tonekit_core.proofs.LoopLaws.{range-same}
 use Rattle.tonekit_sheet_laws.proofs.Bytes.{gather-same}
 use Rattle.tonekit_sheet_laws.proofs.Asked.{row-asks, row-held}
 use Rattle.tonekit_sheet_laws.proofs.Round.{round}
@@ -39,7 +39,7 @@ module _ (v : View) (row : ℕ → ℕ → Option (List Carried)) (first : (r : 
 
   lists-same : listsOf v ≡ listsOf with-rows
   unfolding listsOf
-  lists-same = range-same (noteTurn v) (noteTurn with-rows) (rowsOf v) [] (λ r l h. ap₂ (λ (x y : Option (List Carried)). noted (noted l x) y) (first r h) (final r h))
+  lists-same = range-same (noteTurn v) (noteTurn with-rows) 0 (rowsOf v) [] (omega arith) (λ r l h. ap₂ (λ (x y : Option (List Carried)). noted (noted l x) y) (first r h) (final r h))
 
   pieces-same : (lists : List (List Carried)) → gather (rowPiece v lists) 0 (rowsOf v) ≡ gather (rowPiece with-rows lists) 0 (rowsOf v)
   pieces-same lists =

@@ -1,11 +1,11 @@
 -- Loops of which every turn is known: counted, for all, for any, and to their end without a stop. Assumes nothing.
 use Prim.Native.Nat.{ℕ, zero, suc, _+_, _-_, _≤_, _<_}
-use mathlib.Core.Path.{_≡_, refl, sym, ap, _∙_}
+use mathlib.Core.Path.{_≡_, refl, sym, _∙_}
 use mathlib.Core.Bool.{Bool, true, false, _&&_, _||_}
 use native.Mathlib.Omega.{arith}
 use lib.Dec.{eqb}
 use borrow.Author.Tests.{eqb-true, eqb-false}
-use Rattle.tonekit_core.specs.Loop.{Turn, next, turns, range, range-done, rangeTo, to-again, to-ended}
+use Rattle.tonekit_core.specs.Loop.{Turn, next, turns, range, rangeTo, to-again, to-ended}
 use Rattle.tonekit_core.proofs.LoopLaws.{range-keeps}
 use Rattle.tonekit_pack.proofs.Split.{split, both}
 
@@ -23,13 +23,6 @@ module _ {S : Type 0} (f : ℕ → S → S) where
       let b : n - 0 ≡ n = omega arith in
       let c : 0 + n ≡ n = omega arith in
       rw (a, b) (last-turn n 0 s ∙ rw c)
-
--- two loops whose turns give the same
-pub range-same : {S : Type 0} (f g : ℕ → S → S) (n : ℕ) (s : S) → ((i : ℕ) (t : S) → i < n → f i t ≡ g i t) → range f 0 n s ≡ range g 0 n s
-range-same {S} f g n s h =
-    range-keeps f (λ (j : ℕ) (t : S). t ≡ range g 0 j s) 0 n s (omega arith)
-    (λ j t l e. h j t l ∙ ap (g j) e ∙ sym (range-last g j s))
-    (sym (range-done g 0 0 s (omega arith)))
 
 -- every test passes, and only then does the loop say so
 pub range-all : (t : ℕ → Bool) (lo hi : ℕ) → lo ≤ hi → ((i : ℕ) → i < hi → t i ≡ true) → range (λ i ok. ok && t i) lo hi true ≡ true

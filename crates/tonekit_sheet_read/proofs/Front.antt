@@ -22,7 +22,7 @@ use Rattle.tonekit_pack.proofs.Front.{Agree}
 use Rattle.tonekit_sheet.specs.Sheet.{accentPlace, tonePlace, prevPlace}
 use Rattle.tonekit_sheet.specs.Reader.{Sst, Out, loaded, refused, rowsDue, dueNext, sizeOf, toneVerdict, accentVerdict, rowVerdict, listVerdict, pointFine, pointTurn, pointsFine, lastList, componentVerdict, bodyVerdict, recordVerdict, added, rowAt, looseTurn, looseRow, accentTurn, accentDown, prevDue, rowDue, rowNames, rowTurn, rowWrong, namesTurn, named, listSize, sameTurn, sameLists, equalTurn, repeated, listTurn, listWrong, orElse, refusedAt, finished, start, readSheet, singly, loadSheet, said, checkSheet}
 use Rattle.tonekit_sheet_read.proofs.Places.{rows-few, accent-inside, tone-inside, prev-inside}
-use Rattle.tonekit_sheet_read.proofs.SameLoops.{range-same}
+use Rattle.tonekit_core.proofs.LoopLaws.{range-same}
 use Rattle.tonekit_sheet_read.proofs.Records.{Closed, rows, Due, due-is, settings, tone, accent, row, list, component, finish, sound}
 use Rattle.tonekit_sheet_read.proofs.Reading.{after-list}
 use Rattle.tonekit_sheet_read.proofs.Turns.{run, run-refused, run-end, run-on, limit-idle, accepted, no-turns, not-loaded, same-loaded}

@@ -1,7 +1,7 @@
 pub mod Stepped
 pub mod Places
 pub mod Rows
-pub mod SameLoops
+pub mod Loops
 pub mod Lists
 pub mod Records
 pub mod Reading

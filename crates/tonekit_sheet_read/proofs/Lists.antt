@@ -18,7 +18,8 @@ use Rattle.tonekit_expect.specs.declared.Found.the-variants as found
 use Rattle.tonekit_sheet.specs.Reader.{named, listSize, sameTurn, sameLists, equalTurn, repeated, listTurn}
 use Rattle.tonekit_sheet_read.specs.declared.Sheet.{Sheet}
 use Rattle.tonekit_sheet_read.specs.Held.{shown}
-use Rattle.tonekit_sheet_read.proofs.SameLoops.{range-same, settled, range-parts}
+use Rattle.tonekit_core.proofs.LoopLaws.{range-same}
+use Rattle.tonekit_sheet_read.proofs.Loops.{settled, range-parts}
 
 -- the list at place p has the number x
 pub there : (s xs : List ℕ) (n p x : ℕ) → p < n → byteAt s (getD xs p 0 + 1) ≡ x → true ≡ zeroOrHeld s (inOrder xs n) x

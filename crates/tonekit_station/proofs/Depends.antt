@@ -1,16 +1,16 @@
 -- A judgement depends on nothing but settings, tones, the graded accent's tolerances and the inventory's listings. Assumes nothing.
-use Prim.Native.Nat.{ℕ, zero, suc, _+_, _-_, _≤_, _<_}
+use Prim.Native.Nat.{ℕ, zero, suc, _≤_, _<_}
 use mathlib.Core.Path.{_≡_, refl, sym, _∙_, ap}
 use mathlib.Core.Logic.{_⊎_, inl, inr}
 use mathlib.Core.Bool.{true, _||_}
 use mathlib.Core.List.{List, [], _∷_}
 use mathlib.Core.Option.{Option, none, some}
-use native.Mathlib.Omega.{arith}
 use native.Mathlib.Nat.{le-of-suc-le-suc, not-suc-le-zero}
 use lib.Dec.{eqb}
 use borrow.Author.Tests.{eq-eqb, eqb-true}
 use lib.ListN.{length, getD}
-use Rattle.tonekit_core.specs.Loop.{Turn, next, stop, turnsTo, rangeTo}
+use Rattle.tonekit_core.specs.Loop.{rangeTo}
+use Rattle.tonekit_core.proofs.LoopLaws.{to-same}
 use Rattle.tonekit_query.specs.Query.{loadQuery, framesOf}
 use Rattle.tonekit_query.specs.declared.Query.{Query}
 use Rattle.tonekit_query.specs.declared.QueryRead.{QueryRead}
@@ -25,19 +25,6 @@ use Rattle.tonekit_sheet.specs.Agree.{Held, Agree}
 use Rattle.tonekit_judge.specs.Judge.{Listed}
 use Rattle.tonekit_inventory.specs.Gather.{Gathering, all, lacks, noTone, nothingYet, inContext, gatherAt, gatherTurn, gathered}
 use Rattle.tonekit_station.specs.Judgement.{contextOf, listedBy, gradedBy, judgedBy, onQuery, judgement}
-
--- a loop goes the same way with turns that are the same
-module _ {S R : Type 0} (f g : ℕ → S → Turn S R) (end : S → R) where
-  turns-same : (k i : ℕ) (t : Turn S R) → ((j : ℕ) (s : S) → j < k + i → f j s ≡ g j s) → turnsTo f end k i t ≡ turnsTo g end k i t
-  unfolding turnsTo
-  turns-same zero i (next s) h = refl
-  turns-same zero i (stop r) h = refl
-  turns-same (suc k) i (next s) h = ap (turnsTo f end k (i + 1)) (h i s (omega arith)) ∙ turns-same k (i + 1) (g i s) (λ j s l. h j s (omega arith))
-  turns-same (suc k) i (stop r) h = refl
-
-  pub range-same : (n : ℕ) (s : S) → ((j : ℕ) (s : S) → j < n → f j s ≡ g j s) → rangeTo f end 0 n s ≡ rangeTo g end 0 n s
-  unfolding rangeTo
-  range-same n s h = turns-same (n - 0) 0 (next s) (λ j s l. h j s (omega arith))
 
 -- a tone of the list is held by its number
 tone-at : (ts : List Tone) (i : ℕ) → i < length ts → toneIn ts (getD ts i noTone .number) ≡ true
@@ -63,7 +50,7 @@ module _ (a b : Source) (agree : Agree a b) where
     gathers-same : gathered a c ≡ gathered b c
     unfolding gathered
     gathers-same =
-        range-same (gatherTurn a c) (gatherTurn b c) all (length (a .tones)) (nothingYet (length (a .tones))) turn-same
+        to-same (gatherTurn a c) (gatherTurn b c) all (length (a .tones)) (nothingYet (length (a .tones))) turn-same
         ∙ ap (λ (n : ℕ). rangeTo (gatherTurn b c) all 0 n (nothingYet n)) (ap length (agree .tones))
 
   -- a query that loads

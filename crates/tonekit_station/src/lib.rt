@@ -70,7 +70,7 @@ fn judge_listed(
         targets,
         issues,
     );
-    let record = tonekit_judge::judgement_record(q.tone, tones as u8, j);
+    let record = tonekit_judge::record::judgement_record(q.tone, tones as u8, j);
     tonekit_bytes::write_record(out, &record)
 }
 

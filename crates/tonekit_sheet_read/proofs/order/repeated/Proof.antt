@@ -6,7 +6,7 @@ use native.Mathlib.Omega.{arith}
 use Prim.Native.Nat.{_-_, _≤_}
 use Rattle.tonekit_core.specs.Loop.{range, again, ended}
 use Rattle.tonekit_sheet.specs.Reader.{equalTurn, repeated}
-use Rattle.tonekit_sheet_read.proofs.SameLoops.{settled}
+use Rattle.tonekit_sheet_read.proofs.Loops.{settled}
 use Rattle.tonekit_sheet_read.proofs.order.repeated.Statement.{statement}
 use Rattle.tonekit_sheet_read.proofs.order.repeated.Tie as tie
 

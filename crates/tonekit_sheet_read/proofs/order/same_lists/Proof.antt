@@ -7,7 +7,7 @@ use Prim.Native.Nat.{_-_, _<_}
 use native.Mathlib.Omega.{arith}
 use Rattle.tonekit_core.specs.Loop.{range, again, ended}
 use Rattle.tonekit_sheet.specs.Reader.{listSize, sameTurn, sameLists}
-use Rattle.tonekit_sheet_read.proofs.SameLoops.{settled}
+use Rattle.tonekit_sheet_read.proofs.Loops.{settled}
 use Rattle.tonekit_sheet_read.proofs.Lists.{differ}
 use Rattle.tonekit_sheet_read.proofs.order.same_lists.Statement.{statement}
 use Rattle.tonekit_sheet_read.proofs.order.same_lists.Tie as tie

@@ -8,7 +8,7 @@ use Prim.Native.Nat.{_-_, _≤_, _<_}
 use Rattle.tonekit_core.specs.Loop.{range, again, ended}
 use Rattle.tonekit_sheet.specs.Reader.{namesTurn}
 use Rattle.tonekit_sheet_read.specs.Held.{shown}
-use Rattle.tonekit_sheet_read.proofs.SameLoops.{settled}
+use Rattle.tonekit_sheet_read.proofs.Loops.{settled}
 use Rattle.tonekit_sheet_read.proofs.order.use_from.Statement.{statement}
 use Rattle.tonekit_sheet_read.proofs.order.use_from.Tie as tie
 

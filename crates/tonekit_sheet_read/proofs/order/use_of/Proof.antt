@@ -7,7 +7,7 @@ use borrow.Author.Tests.{lt-ltb}
 use native.Mathlib.Omega.{arith}
 use Rattle.tonekit_sheet.specs.Reader.{namesTurn, named}
 use Rattle.tonekit_sheet_read.specs.Held.{shown}
-use Rattle.tonekit_sheet_read.proofs.SameLoops.{found-before}
+use Rattle.tonekit_sheet_read.proofs.Loops.{found-before}
 use Rattle.tonekit_sheet_read.proofs.order.use_of.Statement.{statement}
 use Rattle.tonekit_sheet_read.proofs.order.use_of.Tie as tie
 

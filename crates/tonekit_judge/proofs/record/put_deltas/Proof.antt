@@ -2,8 +2,8 @@
 use mathlib.Core.Path.{_≡_, refl, sym, _∙_, ap}
 use borrow.Author.Needs.{needs}
 use Rattle.tonekit_judge.specs.Record.{oneBytes, deltaBytes}
-use Rattle.tonekit_judge.proofs.put_deltas.Statement.{statement}
-use Rattle.tonekit_judge.proofs.put_deltas.Tie as tie
+use Rattle.tonekit_judge.proofs.record.put_deltas.Statement.{statement}
+use Rattle.tonekit_judge.proofs.record.put_deltas.Tie as tie
 
 returns : tie.Need-returns
 unfolding deltaBytes oneBytes

@@ -4,8 +4,8 @@ use borrow.Author.Needs.{needs}
 use lib.ListN.{length}
 use Rattle.tonekit_judge.specs.Record.{judgementBytes}
 use Rattle.tonekit_judge.proofs.Parts.{record-length, whole}
-use Rattle.tonekit_judge.proofs.judgement_record.Statement.{statement}
-use Rattle.tonekit_judge.proofs.judgement_record.Tie as tie
+use Rattle.tonekit_judge.proofs.record.judgement_record.Statement.{statement}
+use Rattle.tonekit_judge.proofs.record.judgement_record.Tie as tie
 
 returns : tie.Need-returns
 returns c =

@@ -1,7 +1,7 @@
 -- `delta_count` meets its contract, by the ways through its code.
 use Rattle.tonekit_judge.specs.Record.{deltaCount}
-use Rattle.tonekit_judge.proofs.delta_count.Statement.{statement}
-use Rattle.tonekit_judge.proofs.delta_count.Tie as tie
+use Rattle.tonekit_judge.proofs.record.delta_count.Statement.{statement}
+use Rattle.tonekit_judge.proofs.record.delta_count.Tie as tie
 
 returns : tie.Need-returns
 unfolding deltaCount

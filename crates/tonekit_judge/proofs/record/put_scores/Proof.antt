@@ -1,8 +1,8 @@
 -- `put_scores` meets its contract: the calls' stores are the definition's.
 use borrow.Author.Needs.{needs}
 use Rattle.tonekit_judge.specs.Record.{scoreBytes}
-use Rattle.tonekit_judge.proofs.put_scores.Statement.{statement}
-use Rattle.tonekit_judge.proofs.put_scores.Tie as tie
+use Rattle.tonekit_judge.proofs.record.put_scores.Statement.{statement}
+use Rattle.tonekit_judge.proofs.record.put_scores.Tie as tie
 
 returns : tie.Need-returns
 unfolding scoreBytes

@@ -1,8 +1,8 @@
 -- `put_tail` meets its contract: the calls' stores are the definition's.
 use mathlib.Core.Path.{_≡_, refl, sym, _∙_, ap}
 use borrow.Author.Needs.{needs}
-use Rattle.tonekit_judge.proofs.put_tail.Statement.{statement}
-use Rattle.tonekit_judge.proofs.put_tail.Tie as tie
+use Rattle.tonekit_judge.proofs.record.put_tail.Statement.{statement}
+use Rattle.tonekit_judge.proofs.record.put_tail.Tie as tie
 
 returns : tie.Need-returns
 returns c = cc

@@ -1,8 +1,8 @@
 -- `kind_of` meets its contract, by the ways through its code.
 use borrow.Author.Needs.{needs}
 use Rattle.tonekit_judge.specs.Record.{kindOf}
-use Rattle.tonekit_judge.proofs.kind_of.Statement.{statement}
-use Rattle.tonekit_judge.proofs.kind_of.Tie as tie
+use Rattle.tonekit_judge.proofs.record.kind_of.Statement.{statement}
+use Rattle.tonekit_judge.proofs.record.kind_of.Tie as tie
 
 returns : tie.Need-returns
 unfolding kindOf

@@ -1,7 +1,7 @@
 -- `put_head` meets its contract: the calls' stores are the definition's.
 use borrow.Author.Needs.{needs}
-use Rattle.tonekit_judge.proofs.put_head.Statement.{statement}
-use Rattle.tonekit_judge.proofs.put_head.Tie as tie
+use Rattle.tonekit_judge.proofs.record.put_head.Statement.{statement}
+use Rattle.tonekit_judge.proofs.record.put_head.Tie as tie
 
 returns : tie.Need-returns
 returns c = cc

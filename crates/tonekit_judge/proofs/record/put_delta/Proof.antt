@@ -2,8 +2,8 @@
 use mathlib.Core.Path.{_≡_, refl, sym, _∙_, ap}
 use borrow.Author.Needs.{needs}
 use Rattle.tonekit_judge.proofs.Parts.{delta-parts}
-use Rattle.tonekit_judge.proofs.put_delta.Statement.{statement}
-use Rattle.tonekit_judge.proofs.put_delta.Tie as tie
+use Rattle.tonekit_judge.proofs.record.put_delta.Statement.{statement}
+use Rattle.tonekit_judge.proofs.record.put_delta.Tie as tie
 
 returns : tie.Need-returns
 returns c =

@@ -1,20 +1,10 @@
--- Laws of tonekit_core's loops: turns that are the same, a state that no turn changes, and a loop in two parts. Assumes nothing.
+-- Laws of tonekit_core's loops: a state that no turn changes, and a loop in two parts. Assumes nothing.
 use Prim.Native.Nat.{ℕ, zero, suc, _+_, _-_, _≤_, _<_}
 use mathlib.Core.Path.{_≡_, refl, sym, _∙_}
 use mathlib.Core.Bool.{Bool, true, false}
 use native.Mathlib.Omega.{arith}
 use Rattle.tonekit_core.specs.Loop.{turns, range, again}
 use Rattle.tonekit_pack.proofs.Split.{split}
-
-module _ {S : Type 0} (f g : ℕ → S → S) where
-  turns-same : (k i hi : ℕ) (s : S) → i + k ≤ hi → ((j : ℕ) (t : S) → j < hi → f j t ≡ g j t) → turns f k i s ≡ turns g k i s
-  unfolding turns
-  turns-same zero i hi s e h = refl
-  turns-same (suc k) i hi s e h = rw (h i s (omega arith)) (turns-same k (i + 1) hi (g i s) (omega arith) h)
-
-  pub range-same : (lo hi : ℕ) (s : S) → lo ≤ hi → ((j : ℕ) (t : S) → j < hi → f j t ≡ g j t) → range f lo hi s ≡ range g lo hi s
-  unfolding range
-  range-same lo hi s e h = turns-same (hi - lo) lo hi s (omega arith) h
 
 module _ {S : Type 0} (f : ℕ → S → S) where
   turns-stay : (k i : ℕ) (w : S) → ((j : ℕ) → f j w ≡ w) → turns f k i w ≡ w

@@ -4,8 +4,8 @@ use borrow.Author.Needs.{needs}
 use native.Mathlib.Omega.{arith}
 use lib.ListN.{length}
 use Rattle.tonekit_judge.proofs.Parts.{record-parts}
-use Rattle.tonekit_judge.proofs.put_judgement.Statement.{statement}
-use Rattle.tonekit_judge.proofs.put_judgement.Tie as tie
+use Rattle.tonekit_judge.proofs.record.put_judgement.Statement.{statement}
+use Rattle.tonekit_judge.proofs.record.put_judgement.Tie as tie
 
 -- the array's length, which owning the record tells
 eight : (c : tie.Start) → length (c .args .j .loglik) ≡ 8
