@@ -7,6 +7,7 @@ ghost use lib.ListN.{length, getD};
 ghost use lib.Ieee.Scale.{finite};
 ghost use Rattle.tonekit_judge.specs.Judge.{Counted, Sound, Placed, Filled, cell, distanceAt, toneMixing, loglikAt, logliks, ranked, rankingOf, heardOf, weighed, partMixing, targetMixing, llrOf, measuredOf, plainOf, distanceFrom, adviceOf, partOf, withBest, judgedOf, usable, notMeasured, judgementOf};
 ghost use Rattle.tonekit_core.specs.Words.{measuredNumber};
+
 pub mod record;
 
 use tonekit_core::MeasureIssue;

@@ -1,4 +1,3 @@
-pub mod Written
 pub mod Spans
 pub mod Tests
 pub mod Records

@@ -11,7 +11,7 @@ use Rattle.tonekit_bytes.specs.Fields.{byteAt, u16At, u32At, le16, le32}
 use Rattle.tonekit_pack.proofs.Split.{split}
 use Rattle.tonekit_sheet.specs.Agree.{Bytes}
 use Rattle.tonekit_sheet.specs.Gather.{gather, gather-done, gather-step}
-use Rattle.tonekit_sheet_inverse.proofs.Written.{le16-of, le32-of}
+use Rattle.tonekit_bytes.proofs.Back.{le16-of, le32-of}
 
 -- bs are the bytes of s from o up to e
 pub record Spans (s : List ℕ) (o e : ℕ) (bs : List ℕ) : Type 0 where

@@ -1,7 +1,6 @@
 pub mod Loops
 pub mod Numbers
 pub mod FirstUse
-pub mod Fields
 pub mod Bytes
 pub mod Placed
 pub mod Records
