@@ -1,77 +1,20 @@
 -- Lists noted once each weigh no more than any pool that they all come from. Assumes nothing.
 use Prim.Native.Nat.{ℕ, zero, suc, _+_, _*_, _≤_, _<_}
 use mathlib.Core.Path.{_≡_, refl, ap₂}
-use mathlib.Core.Bool.{true, false, cond}
+use mathlib.Core.Bool.{false, cond}
 use mathlib.Core.List.{List, [], _∷_, _++_}
 use mathlib.Core.Option.{Option, none, some}
 use mathlib.Core.Logic.{_⊎_, ⊎-elim}
 use native.Mathlib.Nat.{mul-zero, mul-suc, mul-add}
 use native.Mathlib.Omega.{arith}
 use lib.Dec.{eqb}
-use borrow.Author.Tests.{eq-eqb, eqb-true, eqb-false}
+use borrow.Author.Tests.{eqb-true, eqb-false}
 use Rattle.tonekit_expect.specs.Source.{Carried}
-use Rattle.tonekit_pack.proofs.Split.{split, absurd-bool, both}
+use Rattle.tonekit_pack.proofs.Split.{split}
 use Rattle.tonekit_core.proofs.LoopLaws.{range-keeps}
-use Rattle.tonekit_sheet.specs.Number.{sameNumbers, sameCarried, same, seenIn, noted}
+use Rattle.tonekit_sheet.specs.Number.{seenIn, noted}
 use Rattle.tonekit_sheet.specs.Sheet.{View, rowsOf, noteTurn, listsOf}
-
--- ---- lists that are the same are equal, and a list is the same as itself
-numbers-equal : (xs ys : List ℕ) → sameNumbers xs ys ≡ true → xs ≡ ys
-unfolding sameNumbers
-numbers-equal [] [] h = refl
-numbers-equal [] (y ∷ ys) h = absurd-bool h
-numbers-equal (x ∷ xs) [] h = absurd-bool h
-numbers-equal (x ∷ xs) (y ∷ ys) h = let t = both (eqb x y) (sameNumbers xs ys) h in ap₂ _∷_ (eqb-true x y (t .0)) (numbers-equal xs ys (t .1))
-
-numbers-self : (xs : List ℕ) → sameNumbers xs xs ≡ true
-unfolding sameNumbers
-numbers-self [] = refl
-numbers-self (x ∷ xs) = rw (eq-eqb x x refl) (numbers-self xs)
-
-carried-equal : (a b : Carried) → sameCarried a b ≡ true → a ≡ b
-unfolding sameCarried
-carried-equal a b h =
-    let t = both (eqb (a .owner) (b .owner)) _ h in
-    let u = both (eqb (a .form) (b .form)) _ (t .1) in
-    let v = both (eqb (a .label) (b .label)) _ (u .1) in
-    let w = both (eqb (a .part) (b .part)) _ (v .1) in
-    let x = both (eqb (a .weight) (b .weight)) _ (w .1) in
-    let owner = eqb-true (a .owner) (b .owner) (t .0) in
-    let form = eqb-true (a .form) (b .form) (u .0) in
-    let label = eqb-true (a .label) (b .label) (v .0) in
-    let part = eqb-true (a .part) (b .part) (w .0) in
-    let weight = eqb-true (a .weight) (b .weight) (x .0) in
-    let points = numbers-equal (a .points) (b .points) (x .1) in
-    λ i. record { owner = owner i; form = form i; label = label i; part = part i; weight = weight i; points = points i }
-
-carried-self : (a : Carried) → sameCarried a a ≡ true
-unfolding sameCarried
-carried-self a =
-    rw (eq-eqb (a .owner) (a .owner) refl, eq-eqb (a .form) (a .form) refl, eq-eqb (a .label) (a .label) refl, eq-eqb (a .part) (a .part) refl, eq-eqb (a .weight) (a .weight) refl)
-    (numbers-self (a .points))
-
-pub same-equal : (xs ys : List Carried) → same xs ys ≡ true → xs ≡ ys
-unfolding same
-same-equal [] [] h = refl
-same-equal [] (y ∷ ys) h = absurd-bool h
-same-equal (x ∷ xs) [] h = absurd-bool h
-same-equal (x ∷ xs) (y ∷ ys) h = let t = both (sameCarried x y) (same xs ys) h in ap₂ _∷_ (carried-equal x y (t .0)) (same-equal xs ys (t .1))
-
-pub same-self : (xs : List Carried) → same xs xs ≡ true
-unfolding same
-same-self [] = refl
-same-self (x ∷ xs) = rw (carried-self x) (same-self xs)
-
--- ---- a list behind others is seen
-seen-more : (x : List Carried) (seen : List (List Carried)) (v : List Carried) → seenIn x seen ≡ true → seenIn x (seen ++ (v ∷ [])) ≡ true
-unfolding seenIn
-seen-more x [] v h = absurd-bool h
-seen-more x (y ∷ seen) v h = split (same x y) (λ e. rw e) (λ e. rw e (seen-more x seen v (rw e at h)))
-
-seen-last : (v : List Carried) (seen : List (List Carried)) → seenIn v (seen ++ (v ∷ [])) ≡ true
-unfolding seenIn
-seen-last v [] = rw (same-self v)
-seen-last v (y ∷ seen) = split (same v y) (λ e. rw e) (λ e. rw e (seen-last v seen))
+use Rattle.tonekit_sheet.proofs.Same.{seen-more, seen-last}
 
 -- ---- weights
 -- the sum of the first n
@@ -129,7 +72,7 @@ module _ (w : List Carried → ℕ) where
     unfolding unseen
     fewer-at seen v i =
         split (seenIn (f i) seen)
-        (λ e. rw (e, seen-more (f i) seen v e) (omega arith))
+        (λ e. rw (e, seen-more (f i) seen (v ∷ []) e) (omega arith))
         (λ e. split (seenIn (f i) (seen ++ (v ∷ []))) (λ g. rw (e, g) (omega arith)) (λ g. rw (e, g) (omega arith)))
 
     pub left-fewer : (seen : List (List Carried)) (v : List Carried) → left (seen ++ (v ∷ [])) ≤ left seen

@@ -1,72 +1,22 @@
 -- What is equal in every bit, what is seen and where, and what one more lookup adds to the lists. Assumes nothing.
 use Prim.Native.Nat.{ℕ, zero, suc, _+_, _≤_, _<_}
-use mathlib.Core.Path.{_≡_, refl, sym, ap, ap₂, _∙_}
+use mathlib.Core.Path.{_≡_, refl, sym, ap, _∙_}
 use mathlib.Core.Logic.{_↔_}
 use mathlib.Core.Bool.{true, false}
 use mathlib.Core.List.{List, [], _∷_, _++_, append-assoc, append-nil}
 use mathlib.Core.Option.{Option, none, some}
 use native.Mathlib.Omega.{arith}
-use lib.Dec.{eqb, ltb}
+use lib.Dec.{ltb}
 use lib.ListN.{length, getD, length-append, List·getD-append}
 use lib.Seq.{getD-append-seam}
-use borrow.Author.Tests.{eq-eqb, eqb-true, ltb-true, ltb-false, lt-ltb, le-ltb}
-use Rattle.tonekit_pack.proofs.Split.{split, absurd-bool, both}
+use borrow.Author.Tests.{ltb-true, ltb-false, lt-ltb, le-ltb}
+use Rattle.tonekit_pack.proofs.Split.{split, absurd-bool}
 use Rattle.tonekit_expect.specs.Source.{Carried}
-use Rattle.tonekit_sheet.specs.Number.{sameNumbers, sameCarried, same, seenIn, placeIn, noted, numberIn}
+use Rattle.tonekit_sheet.specs.Number.{sameCarried, same, seenIn, placeIn, noted, numberIn}
 use Rattle.tonekit_sheet.specs.Reader.{most}
+use Rattle.tonekit_sheet.proofs.Same.{carried-is, carried-refl, same-is, same-refl, seen-more, place-more, seen-last, place-last}
 
 -- ---- equal in every bit
-numbers-is : (xs ys : List ℕ) → sameNumbers xs ys ≡ true → xs ≡ ys
-unfolding sameNumbers
-numbers-is [] [] h = refl
-numbers-is [] (y ∷ ys) h = absurd-bool h
-numbers-is (x ∷ xs) [] h = absurd-bool h
-numbers-is (x ∷ xs) (y ∷ ys) h =
-    let b = both (eqb x y) (sameNumbers xs ys) h in
-    ap₂ (λ (a : ℕ) (r : List ℕ). a ∷ r) (eqb-true x y (b .0)) (numbers-is xs ys (b .1))
-
-numbers-refl : (xs : List ℕ) → sameNumbers xs xs ≡ true
-unfolding sameNumbers
-numbers-refl [] = refl
-numbers-refl (x ∷ xs) = rw (eq-eqb x x refl) (numbers-refl xs)
-
-pub carried-is : (a b : Carried) → sameCarried a b ≡ true → a ≡ b
-unfolding sameCarried
-carried-is a b h =
-    let o = both (eqb (a .owner) (b .owner)) _ h in
-    let f = both (eqb (a .form) (b .form)) _ (o .1) in
-    let l = both (eqb (a .label) (b .label)) _ (f .1) in
-    let p = both (eqb (a .part) (b .part)) _ (l .1) in
-    let w = both (eqb (a .weight) (b .weight)) (sameNumbers (a .points) (b .points)) (p .1) in
-    λ i. record {
-      owner = eqb-true (a .owner) (b .owner) (o .0) i;
-      form = eqb-true (a .form) (b .form) (f .0) i;
-      label = eqb-true (a .label) (b .label) (l .0) i;
-      part = eqb-true (a .part) (b .part) (p .0) i;
-      weight = eqb-true (a .weight) (b .weight) (w .0) i;
-      points = numbers-is (a .points) (b .points) (w .1) i;
-    }
-
-pub carried-refl : (a : Carried) → sameCarried a a ≡ true
-unfolding sameCarried
-carried-refl a =
-    rw (eq-eqb (a .owner) (a .owner) refl, eq-eqb (a .form) (a .form) refl, eq-eqb (a .label) (a .label) refl, eq-eqb (a .part) (a .part) refl, eq-eqb (a .weight) (a .weight) refl)
-    (numbers-refl (a .points))
-
-pub same-is : (a b : List Carried) → same a b ≡ true → a ≡ b
-unfolding same
-same-is [] [] h = refl
-same-is [] (y ∷ ys) h = absurd-bool h
-same-is (x ∷ xs) [] h = absurd-bool h
-same-is (x ∷ xs) (y ∷ ys) h =
-    let b = both (sameCarried x y) (same xs ys) h in
-    ap₂ (λ (a : Carried) (r : List Carried). a ∷ r) (carried-is x y (b .0)) (same-is xs ys (b .1))
-
-pub same-refl : (a : List Carried) → same a a ≡ true
-unfolding same
-same-refl [] = refl
-same-refl (x ∷ xs) = rw (carried-refl x) (same-refl xs)
-
 pub carried-exactly : (a b : Carried) → (sameCarried a b ≡ true) ↔ (a ≡ b)
 carried-exactly a b = (carried-is a b, λ e. rw e (carried-refl b))
 
@@ -93,26 +43,6 @@ module _ (v : List Carried) where
   unfolding seenIn placeIn
   place-get [] h = absurd-bool h
   place-get (x ∷ l) h = split (same v x) (λ e. rw e (sym (same-is v x e))) (λ e. rw e (place-get l (rw e at h)))
-
-  pub seen-more : (l m : List (List Carried)) → seenIn v l ≡ true → seenIn v (l ++ m) ≡ true
-  unfolding seenIn
-  seen-more [] m h = absurd-bool h
-  seen-more (x ∷ l) m h = split (same v x) (λ e. rw e) (λ e. rw e (seen-more l m (rw e at h)))
-
-  pub place-more : (l m : List (List Carried)) → seenIn v l ≡ true → placeIn v (l ++ m) ≡ placeIn v l
-  unfolding seenIn placeIn
-  place-more [] m h = absurd-bool h
-  place-more (x ∷ l) m h = split (same v x) (λ e. rw e) (λ e. rw e (ap suc (place-more l m (rw e at h))))
-
-  pub seen-next : (l m : List (List Carried)) → seenIn v (l ++ (v ∷ m)) ≡ true
-  unfolding seenIn
-  seen-next [] m = rw (same-refl v)
-  seen-next (x ∷ l) m = split (same v x) (λ e. rw e) (λ e. rw e (seen-next l m))
-
-  pub place-next : (l m : List (List Carried)) → seenIn v l ≡ false → placeIn v (l ++ (v ∷ m)) ≡ length l
-  unfolding seenIn placeIn
-  place-next [] m h = rw (same-refl v)
-  place-next (x ∷ l) m h = split (same v x) (λ e. absurd-bool (sym (rw e at h))) (λ e. rw e (ap suc (place-next l m (rw e at h))))
 
 -- ---- lists that grow at their end
 pub record Grows (l m : List (List Carried)) : Type 0 where
@@ -143,7 +73,7 @@ noted-grows l (some v) = split (seenIn v l) (λ e. rw e (grows-refl l)) (λ e. r
 -- nothing noted is lost
 pub noted-seen : (l : List (List Carried)) (v : List Carried) → seenIn v (noted l (some v)) ≡ true
 unfolding noted
-noted-seen l v = split (seenIn v l) (λ e. rw e e) (λ e. rw e (seen-next v l []))
+noted-seen l v = split (seenIn v l) (λ e. rw e e) (λ e. rw e (seen-last v l))
 
 -- a number given once stays
 pub noted-number : (l m : List (List Carried)) (o : Option (List Carried)) → Grows (noted l o) m → numberIn m o ≡ numberIn (noted l o) o
@@ -158,7 +88,7 @@ noted-least l none = omega arith
 noted-least l (some v) =
     split (seenIn v l)
     (λ e. rw e (omega (arith, place-below v l e)))
-    (λ e. rw e (omega (arith, place-next v l [] e)))
+    (λ e. rw e (omega (arith, place-last v l e)))
 
 pub noted-most : (l : List (List Carried)) (o : Option (List Carried)) → most (length l) (numberIn (noted l o) o) ≡ length (noted l o)
 unfolding numberIn noted
@@ -166,7 +96,7 @@ noted-most l none = rw (le-ltb (length l) 0 (omega arith))
 noted-most l (some v) =
     split (seenIn v l)
     (λ e. rw (e, le-ltb (length l) (suc (placeIn v l)) (omega (arith, place-below v l e))))
-    (λ e. rw (e, place-next v l [] e, lt-ltb (length l) (suc (length l)) (omega arith)) (sym (snoc-length l v)))
+    (λ e. rw (e, place-last v l e, lt-ltb (length l) (suc (length l)) (omega arith)) (sym (snoc-length l v)))
 
 -- no list stands twice
 abbrev pub Once : List (List Carried) → Type 0

@@ -2,7 +2,7 @@
 use Prim.Native.Nat.{ℕ, zero, suc, _+_, _≤_, _<_}
 use mathlib.Core.Path.{_≡_, refl, sym, _∙_, ap}
 use mathlib.Core.Bool.{true, false}
-use mathlib.Core.List.{List, [], _∷_, _++_}
+use mathlib.Core.List.{List, []}
 use native.Mathlib.Omega.{arith}
 use native.Mathlib.Nat.{add-zero, zero-add}
 use native.Mathlib.Numerals.{add-one}
@@ -11,9 +11,8 @@ use lib.ListN.{length, getD, drop, drop-of-length-le}
 use lib.Seq.{drop-cons}
 use borrow.Author.Tests.{lt-ltb, le-ltb}
 use Rattle.tonekit_expect.specs.Source.{Carried}
-use Rattle.tonekit_pack.proofs.Split.{split, absurd-bool}
 use Rattle.tonekit_sheet.specs.Number.{same, seenIn, placeIn}
-use Rattle.tonekit_sheet_fit.proofs.Budget.{same-self}
+pub use Rattle.tonekit_sheet.proofs.Same.{place-more, seen-more, seen-last, place-last}
 
 module _ (v : List Carried) (xs : List (List Carried)) where
   -- what is left has the list where the whole has it
@@ -55,26 +54,3 @@ module _ (v : List Carried) (xs : List (List Carried)) where
     seen = p .seen ∙ rw (drop-of-length-le xs {i = i} h) (sym (le-ltb (length xs) (length xs) (omega arith)));
     few = omega arith;
   }
-
--- ---- lists behind the others
-module _ (v : List Carried) where
-  pub place-more : (xs ys : List (List Carried)) → seenIn v xs ≡ true → placeIn v (xs ++ ys) ≡ placeIn v xs
-  unfolding placeIn seenIn
-  place-more [] ys h = absurd-bool h
-  place-more (x ∷ xs) ys h = split (same v x) (λ e. rw e) (λ e. rw e (ap suc (place-more xs ys (rw e at h))))
-
-  pub seen-more : (xs ys : List (List Carried)) → seenIn v xs ≡ true → seenIn v (xs ++ ys) ≡ true
-  unfolding seenIn
-  seen-more [] ys h = absurd-bool h
-  seen-more (x ∷ xs) ys h = split (same v x) (λ e. rw e) (λ e. rw e (seen-more xs ys (rw e at h)))
-
-  -- a new one stands at the end
-  pub seen-last : (xs : List (List Carried)) → seenIn v (xs ++ (v ∷ [])) ≡ true
-  unfolding seenIn
-  seen-last [] = rw (same-self v)
-  seen-last (x ∷ xs) = split (same v x) (λ e. rw e) (λ e. rw e (seen-last xs))
-
-  pub place-last : (xs : List (List Carried)) → seenIn v xs ≡ false → placeIn v (xs ++ (v ∷ [])) ≡ length xs
-  unfolding placeIn seenIn
-  place-last [] h = rw (same-self v)
-  place-last (x ∷ xs) h = split (same v x) (λ e. absurd-bool (sym (rw e at h))) (λ e. rw e (ap suc (place-last xs (rw e at h))))
