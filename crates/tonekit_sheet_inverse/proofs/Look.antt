@@ -18,10 +18,10 @@ use Rattle.tonekit_expect.specs.declared.Found.the-variants as found
 use Rattle.tonekit_sheet.specs.Sheet.{noTone, noAccent, accentPlace, tonePlace, prevPlace, prevNumber, rowContext}
 use Rattle.tonekit_sheet.specs.Reader.{Sst, rowsDue, rowAt, prevDue}
 use Rattle.tonekit_sheet.specs.FromSheet.{toneAt, accentAt, listNumbered, prevFound, lookSheet}
-use Rattle.tonekit_sheet_laws.proofs.RowPlaces.{Places, row-places}
+use Rattle.tonekit_sheet_laws.proofs.RowPlaces.{Places, some-tone, row-places}
 use Rattle.tonekit_sheet_inverse.proofs.Loads.{Loads}
 use Rattle.tonekit_sheet_inverse.proofs.Order.{accentNumber, Ordered}
-use Rattle.tonekit_sheet_inverse.proofs.Rows.{some-tone, row-back}
+use Rattle.tonekit_sheet_inverse.proofs.Rows.{row-back}
 
 -- ---- the place of a number that no record before it has
 module _ (s os : List ℕ) (n i : ℕ) (b : i < length os) (e : numberAt s (getD os i 0) ≡ n) (new : (j : ℕ) → j < i → numberAt s (getD os j 0) ≡ n → ⊥) where

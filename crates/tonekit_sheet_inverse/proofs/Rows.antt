@@ -1,18 +1,8 @@
--- Where there is a row there is a tone, and a row's accent, tone and prev lead back to it. Assumes nothing.
-use Prim.Native.Nat.{ℕ, _+_, _*_, _/_, _≤_, _<_}
+-- A row's accent, tone and prev lead back to it. Assumes nothing.
+use Prim.Native.Nat.{ℕ, _+_, _*_, _/_}
 use mathlib.Core.Path.{_≡_, sym, ap, _∙_}
 use native.Mathlib.Nat.{mul-comm, div-add-mod', div-div-eq-div-mul}
-use native.Mathlib.Omega.{arith}
-use lib.Dec.{eqb}
-use borrow.Author.Tests.{eqb-true, eqb-false}
-use Rattle.tonekit_pack.proofs.Split.{split}
-use Rattle.tonekit_sheet.specs.Sheet.{rowCount, accentPlace, tonePlace, prevPlace}
-
-pub some-tone : (accents tones r : ℕ) → r < rowCount accents tones → 1 ≤ tones
-some-tone accents tones r h =
-    split (eqb tones 0)
-    (λ e. let g : r < accents * (0 * (0 + 1)) = rw (eqb-true tones 0 e) at h in absurd (omega arith))
-    (λ e. let g : tones ≡ 0 → ⊥ = eqb-false tones 0 e in omega arith)
+use Rattle.tonekit_sheet.specs.Sheet.{accentPlace, tonePlace, prevPlace}
 
 module _ (tones r : ℕ) where
   before-prev : accentPlace tones r * tones + tonePlace tones r ≡ r / (tones + 1)

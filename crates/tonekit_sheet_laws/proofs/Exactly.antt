@@ -6,6 +6,7 @@ use mathlib.Core.Bool.{true}
 use mathlib.Core.List.{List, []}
 use mathlib.Core.Option.{Option}
 use native.Mathlib.Omega.{arith}
+use lib.ListN.{length}
 use Rattle.tonekit_expect.specs.Source.{Tone, Accent, Carried, Source, accentIn, toneIn}
 use Rattle.tonekit_expect.specs.declared.Context.{Context}
 use Rattle.tonekit_sheet.specs.Number.{noted, numberIn}
@@ -18,60 +19,61 @@ use Rattle.tonekit_sheet.specs.Fit.{Fit}
 use Rattle.tonekit_sheet_laws.specs.Place.{stOf}
 use Rattle.tonekit_core.proofs.LoopLaws.{range-same}
 use Rattle.tonekit_sheet_laws.proofs.Bytes.{gather-same}
-use Rattle.tonekit_sheet_laws.proofs.Asked.{row-asks, row-held}
+use Rattle.tonekit_sheet_laws.proofs.RowPlaces.{some-tone}
+use Rattle.tonekit_sheet_laws.proofs.Asked.{row-held}
 use Rattle.tonekit_sheet_laws.proofs.Round.{round}
 use Rattle.tonekit_sheet_laws.proofs.Back.{readBack, settings-back, tones-back, accents-back, lookups-back}
 
--- ---- a sheet is a function of what is held
+-- ---- a sheet is a function of what is held, whether that fits or not
 asc-same : (a b : List Accent) → ((n : ℕ) → accentIn a n ≡ accentIn b n) → (k n : ℕ) → ascFrom k n a ≡ ascFrom k n b
 unfolding ascFrom
 asc-same a b h zero n = refl
 asc-same a b h (suc k) n = ap₂ orSkip (h n) (asc-same a b h k (suc n))
 
-ascending-agree : (a b : List Accent) → ((n : ℕ) → accentIn a n ≡ accentIn b n) → ascending a ≡ ascending b
-unfolding ascending
-ascending-agree a b h = asc-same a b h 255 1
+-- views that differ in their rows alone, and those give the same
+module _ (v w : View) (settings : v .settings ≡ w .settings) (tones : v .tones ≡ w .tones) (accents : v .accents ≡ w .accents)
+    (same : (r last : ℕ) → r < rowsOf v → last ≤ 1 → v .row r last ≡ w .row r last) where
+  mixed : View
+  mixed = record { settings = v .settings; tones = v .tones; accents = v .accents; row = w .row }
 
--- the same but for the lookups, which give the same in every row
-module _ (v : View) (row : ℕ → ℕ → Option (List Carried)) (first : (r : ℕ) → r < rowsOf v → v .row r 0 ≡ row r 0) (final : (r : ℕ) → r < rowsOf v → v .row r 1 ≡ row r 1) where
-  abbrev with-rows : View
-  with-rows = record { settings = v .settings; tones = v .tones; accents = v .accents; row = row }
+  mixed-is : mixed ≡ w
+  unfolding mixed
+  mixed-is = λ i. record { settings = settings i; tones = tones i; accents = accents i; row = w .row }
 
-  lists-same : listsOf v ≡ listsOf with-rows
-  unfolding listsOf
-  lists-same = range-same (noteTurn v) (noteTurn with-rows) 0 (rowsOf v) [] (omega arith) (λ r l h. ap₂ (λ (x y : Option (List Carried)). noted (noted l x) y) (first r h) (final r h))
+  lists-same : listsOf v ≡ listsOf mixed
+  unfolding mixed listsOf
+  lists-same =
+      range-same (noteTurn v) (noteTurn mixed) 0 (rowsOf v) [] (omega arith)
+      (λ r l h. ap₂ (λ (x y : Option (List Carried)). noted (noted l x) y) (same r 0 h (omega arith)) (same r 1 h (omega arith)))
 
-  pieces-same : (lists : List (List Carried)) → gather (rowPiece v lists) 0 (rowsOf v) ≡ gather (rowPiece with-rows lists) 0 (rowsOf v)
-  pieces-same lists =
-      gather-same (rowPiece v lists) (rowPiece with-rows lists) (rowsOf v)
-      (λ r h. ap₂ (λ (x y : Option (List Carried)). rowBytes (rowContext (v .tones) (v .accents) r 0) (numberIn lists x) (numberIn lists y)) (first r h) (final r h))
+  rows-same : (lists : List (List Carried)) → gather (rowPiece v lists) 0 (rowsOf v) ≡ gather (rowPiece mixed lists) 0 (rowsOf v)
+  unfolding mixed
+  rows-same lists =
+      gather-same (rowPiece v lists) (rowPiece mixed lists) (rowsOf v)
+      (λ r h. ap₂ (λ (x y : Option (List Carried)). rowBytes (rowContext (v .tones) (v .accents) r 0) (numberIn lists x) (numberIn lists y)) (same r 0 h (omega arith)) (same r 1 h (omega arith)))
 
-  bytes-same : bytesOf v ≡ bytesOf with-rows
-  unfolding bytesOf bytesWith
-  bytes-same = rw (lists-same, pieces-same (listsOf with-rows))
+  pub views-same : bytesOf v ≡ bytesOf w
+  unfolding mixed bytesOf bytesWith
+  views-same = rw (lists-same, rows-same (listsOf mixed)) (ap bytesOf mixed-is)
 
-module _ (a b : Source) (fit : Fit a) (agree : Agree a b) where
-  accents-agree : ascending (a .accents) ≡ ascending (b .accents)
-  accents-agree = ascending-agree (a .accents) (b .accents) (agree .accents)
+-- the rows only ask what is held, and there what agrees gives the same
+module _ (a b : Source) (agree : Agree a b) where
+  accents-same : ascending (a .accents) ≡ ascending (b .accents)
+  unfolding ascending
+  accents-same = asc-same (a .accents) (b .accents) (agree .accents) 255 1
 
-  -- the rows only ask what is held
-  row-agrees : (r last : ℕ) → r < rowsOf (viewOf a) → last ≤ 1 → viewOf a .row r last ≡ viewOf b .row r last
-  row-agrees r last h f =
-      row-asks a r last
-      ∙ agree .lookups (rowContext (a .tones) (ascending (a .accents)) r last) (row-held a (fit .some-tones) r last h f)
-      ∙ ap₂ (λ (x : List Tone) (y : List Accent). b .look (rowContext x y r last)) (agree .tones) accents-agree
-      ∙ sym (row-asks b r last)
-
-  with-rows-is : with-rows (viewOf a) (viewOf b .row) (λ r h. row-agrees r 0 h (omega arith)) (λ r h. row-agrees r 1 h (omega arith)) ≡ viewOf b
+  row-same : (r last : ℕ) → r < rowsOf (viewOf a) → last ≤ 1 → viewOf a .row r last ≡ viewOf b .row r last
   unfolding viewOf
-  with-rows-is = λ i. record { settings = agree .settings i; tones = agree .tones i; accents = accents-agree i; row = viewOf b .row }
+  row-same r last h f =
+      agree .lookups (rowContext (a .tones) (ascending (a .accents)) r last) (row-held a (some-tone (length (ascending (a .accents))) (length (a .tones)) r h) r last h f)
+      ∙ ap₂ (λ (x : List Tone) (y : List Accent). b .look (rowContext x y r last)) (agree .tones) accents-same
 
-  sheets-same : sheet a ≡ sheet b
-  unfolding sheet
-  sheets-same = bytes-same (viewOf a) (viewOf b .row) (λ r h. row-agrees r 0 h (omega arith)) (λ r h. row-agrees r 1 h (omega arith)) ∙ ap bytesOf with-rows-is
+  pub agree-same : sheet a ≡ sheet b
+  unfolding sheet viewOf
+  agree-same = views-same (viewOf a) (viewOf b) (agree .settings) (agree .tones) accents-same row-same
 
 -- ---- and what is held can be read from it
-loaded-same : (x y : Sst) (m n : ℕ) → loaded x m ≡ loaded y n → x ≡ y
+pub loaded-same : (x y : Sst) (m n : ℕ) → loaded x m ≡ loaded y n → x ≡ y
 loaded-same x y m n h = cc
 
 module _ (a b : Source) (fa : Fit a) (fb : Fit b) (e : sheet a ≡ sheet b) where
@@ -101,4 +103,4 @@ module _ (a b : Source) (fa : Fit a) (fb : Fit b) (e : sheet a ≡ sheet b) wher
   }
 
 pub exactly : (a b : Source) → Fit a → Fit b → (sheet a ≡ sheet b) ↔ Agree a b
-exactly a b fa fb = (agrees a b fa fb, sheets-same a b fa)
+exactly a b fa fb = (agrees a b fa fb, agree-same a b)

@@ -1,9 +1,13 @@
--- Which accent, tone and prev a row has, by its place, and which row they have. Assumes nothing.
-use Prim.Native.Nat.{ℕ, _+_, _*_, _/_, _%_, _≤_, _<_}
+-- Where there is a row there is a tone; which accent, tone and prev a row has, by its place, and which row they have. Assumes nothing.
+use Prim.Native.Nat.{ℕ, zero, suc, _+_, _*_, _/_, _%_, _≤_, _<_}
 use mathlib.Core.Path.{_≡_, sym, ap, _∙_}
-use native.Mathlib.Nat.{mul-comm, mul-assoc, mul-pos, mul-le-mul-right, mod-lt, mod-eq-of-lt, div-eq-of-lt, div-lt-iff-lt-mul, div-div-eq-div-mul, mul-add-div-right, mul-add-mod-self-right}
+use native.Mathlib.Nat.{mul-comm, mul-assoc, mul-zero, mul-pos, mul-le-mul-right, mod-lt, mod-eq-of-lt, div-eq-of-lt, div-lt-iff-lt-mul, div-div-eq-div-mul, mul-add-div-right, mul-add-mod-self-right}
 use native.Mathlib.Omega.{arith}
 use Rattle.tonekit_sheet.specs.Sheet.{rowCount, accentPlace, tonePlace, prevPlace}
+
+pub some-tone : (accents tones r : ℕ) → r < rowCount accents tones → 1 ≤ tones
+some-tone accents zero r h = absurd (omega (arith, mul-zero accents))
+some-tone accents (suc t) r h = omega arith
 
 pub record Places (accents tones r : ℕ) : Type 0 where
   pub accent : accentPlace tones r < accents
