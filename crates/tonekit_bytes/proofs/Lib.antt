@@ -2,3 +2,4 @@ pub mod Fields
 pub mod Back
 pub mod Write
 pub mod Examples
+pub mod Agreeing

@@ -5,14 +5,14 @@ use mathlib.Core.Bool.{Bool, true, _&&_}
 use mathlib.Core.List.{List, [], _∷_}
 use native.Mathlib.Omega.{arith}
 use lib.ListN.{length, getD, take, length-append, List·getD-eq-default}
-use lib.Seq.{take-all, length-take-le, getD-take}
-use lib.Dec.{eqb, leb, ltb}
-use lib.Ieee.{binary32, ofBits}
-use borrow.Author.Tests.{eqb-true, eqb-false, leb-true, leb-false, lt-leb, lt-ltb, le-ltb}
-use Rattle.tonekit_core.specs.Loop.{range, turns, loopTo, loopOn}
+use lib.Dec.{eqb}
+use borrow.Author.Tests.{eqb-true, eqb-false}
+use Rattle.tonekit_core.specs.Loop.{loopTo, loopOn}
 use Rattle.tonekit_core.specs.declared.Refusal.the-variants.{CutShort}
 use Rattle.tonekit_core.specs.declared.Verdict.the-variants as verdict
-use Rattle.tonekit_bytes.specs.Fields.{byteAt, u32At, f32At}
+use Rattle.tonekit_core.proofs.LoopLaws.{range-same}
+use Rattle.tonekit_bytes.specs.Fields.{byteAt}
+use Rattle.tonekit_bytes.proofs.Agreeing.{Agree, taken-agrees, four, float}
 use Rattle.tonekit_pack.specs.Ranges.{slotFine, slotTurn, knotsFine, regionFine, tolerancesFine}
 use Rattle.tonekit_pack.specs.Pack.{Pst, Out, loaded, refused, sizeOf, holds, zeroOrHeld, numberAt, lastRule, settingsVerdict, toneVerdict, accentVerdict, ruleVerdict, partVerdict, bodyVerdict, dueAfter, recordVerdict, added, start, readPack, singly, loadPack}
 use Rattle.tonekit_pack.proofs.Split.{split}
@@ -22,61 +22,30 @@ use Rattle.tonekit_pack.proofs.Reading.{Near, near-next}
 use Rattle.tonekit_pack.proofs.Turns.{run, by-verdict, run-refused, run-end, run-on, limit-idle}
 use Rattle.tonekit_pack.proofs.Loads.{loads, near-end}
 
--- two inputs with the same first n bytes
-pub record Agree (n : ℕ) (t s : List ℕ) : Type 0 where
-  pub bytes : (i : ℕ) → i < n → byteAt t i ≡ byteAt s i
-  pub ends : (m : ℕ) → m < n → leb (length t) m ≡ leb (length s) m
-  pub cuts : (m : ℕ) → m ≤ n → ltb (length t) m ≡ ltb (length s) m
-  pub goes : (m : ℕ) → m < n → ltb m (length t) ≡ ltb m (length s)
-
-taken-agrees : (n : ℕ) (s : List ℕ) → Agree n (take n s) s
-taken-agrees n s =
-    split (leb n (length s))
-    (λ a. let b : n ≤ length s = leb-true n (length s) a in
-    let l = length-take-le n s b in
-    record {
-      bytes = λ i h. getD-take n s i 0 h;
-      ends = λ m h. lt-leb (length (take n s)) m (omega (arith, l)) ∙ sym (lt-leb (length s) m (omega arith));
-      cuts = λ m h. le-ltb (length (take n s)) m (omega (arith, l)) ∙ sym (le-ltb (length s) m (omega arith));
-      goes = λ m h. lt-ltb m (length (take n s)) (omega (arith, l)) ∙ sym (lt-ltb m (length s) (omega arith));
-    })
-    (λ a. let q : take n s ≡ s = take-all n s (omega (arith, leb-false n (length s) a)) in
-    record { bytes = λ i h. rw q; ends = λ m h. rw q; cuts = λ m h. rw q; goes = λ m h. rw q })
-
-turns-same : {S : Type 0} (f g : ℕ → S → S) (k i : ℕ) → ((j : ℕ) → j < i + k → (y : S) → f j y ≡ g j y) → (x : S) → turns f k i x ≡ turns g k i x
-unfolding turns
-turns-same f g zero i h x = refl
-turns-same f g (suc k) i h x = rw (h i (omega arith) x) (turns-same f g k (i + 1) (λ j l. h j (omega arith)) (g i x))
-
+-- what a record says, in two inputs that agree up to its end
 module _ (n : ℕ) (t s : List ℕ) (a : Agree n t s) where
-  four : (i : ℕ) → i + 4 ≤ n → u32At t i ≡ u32At s i
-  four i h = rw (a .bytes i (omega arith), a .bytes (i + 1) (omega arith), a .bytes (i + 2) (omega arith), a .bytes (i + 2 + 1) (omega arith))
-
-  float : (i : ℕ) → i + 4 ≤ n → f32At t i ≡ f32At s i
-  float i h = ap (ofBits binary32) (four i h)
-
   slot-same : (o m k : ℕ) → k < 10 → o + 40 ≤ n → slotFine t o m k ≡ slotFine s o m k
   unfolding slotFine
-  slot-same o m k l h = rw (float (o + 4 * k) (omega arith), four (o + 4 * k) (omega arith))
+  slot-same o m k l h = rw (float n t s a (o + 4 * k) (omega arith), four n t s a (o + 4 * k) (omega arith))
 
   knots-same : (o m : ℕ) → o + 40 ≤ n → knotsFine t o m ≡ knotsFine s o m
-  unfolding knotsFine range
-  knots-same o m h = turns-same (slotTurn t o m) (slotTurn s o m) 10 0 (λ j l y. ap (λ (b : Bool). y && b) (slot-same o m j (omega arith) h)) true
+  unfolding knotsFine
+  knots-same o m h = range-same (slotTurn t o m) (slotTurn s o m) 0 10 true (omega arith) (λ j y l. ap (λ (b : Bool). y && b) (slot-same o m j l h))
 
-  region-same : (o : ℕ) → o + 9 ≤ n → regionFine t o ≡ regionFine s o
+  pub region-same : (o : ℕ) → o + 9 ≤ n → regionFine t o ≡ regionFine s o
   unfolding regionFine
-  region-same o h = rw (a .bytes o (omega arith), four (o + 1) (omega arith), four (o + 5) (omega arith))
+  region-same o h = rw (a .bytes o (omega arith), four n t s a (o + 1) (omega arith), four n t s a (o + 5) (omega arith))
 
-  tolerances-same : (o : ℕ) → o + 16 ≤ n → tolerancesFine t o ≡ tolerancesFine s o
+  pub tolerances-same : (o : ℕ) → o + 16 ≤ n → tolerancesFine t o ≡ tolerancesFine s o
   unfolding tolerancesFine
-  tolerances-same o h = rw (float o (omega arith), float (o + 4) (omega arith), float (o + 8) (omega arith), float (o + 12) (omega arith))
+  tolerances-same o h = rw (float n t s a o (omega arith), float n t s a (o + 4) (omega arith), float n t s a (o + 8) (omega arith), float n t s a (o + 12) (omega arith))
 
-  holds-same : (os : List ℕ) (x : ℕ) → ((i : ℕ) → i < length os → getD os i 0 + 7 ≤ n) → holds t os x ≡ holds s os x
+  pub holds-same : (os : List ℕ) (x : ℕ) → ((i : ℕ) → i < length os → getD os i 0 + 7 ≤ n) → holds t os x ≡ holds s os x
   unfolding holds
   holds-same [] x h = refl
   holds-same (o ∷ os) x h = rw (a .bytes (o + 1) (omega (arith, h 0 (omega arith))), holds-same os x (λ i l. h (suc i) (omega arith)))
 
-  zero-or-same : (os : List ℕ) (x : ℕ) → ((i : ℕ) → i < length os → getD os i 0 + 7 ≤ n) → zeroOrHeld t os x ≡ zeroOrHeld s os x
+  pub zero-or-same : (os : List ℕ) (x : ℕ) → ((i : ℕ) → i < length os → getD os i 0 + 7 ≤ n) → zeroOrHeld t os x ≡ zeroOrHeld s os x
   unfolding zeroOrHeld
   zero-or-same os x h = rw (holds-same os x h)
 

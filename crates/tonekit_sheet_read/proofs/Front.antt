@@ -2,90 +2,35 @@
 use Prim.Native.Nat.{ℕ, zero, suc, _+_, _-_, _*_, _≤_, _<_}
 use mathlib.Core.Path.{_≡_, refl, sym, ap, _∙_}
 use mathlib.Core.Bool.{Bool, true, false, _&&_, _||_}
-use mathlib.Core.List.{List, [], _∷_}
+use mathlib.Core.List.{List}
 use native.Mathlib.Omega.{arith}
 use lib.ListN.{length, getD, take}
-use lib.Seq.{take-all, length-take-le, getD-take}
 use lib.Dec.{eqb, leb, ltb}
-use lib.Ieee.{Float, binary32, ofBits}
-use borrow.Author.Tests.{eqb-true, eqb-false, leb-true, leb-false, ltb-true, ltb-false, lt-leb, lt-ltb, le-ltb}
-use Rattle.tonekit_core.specs.Loop.{Turn, next, stop, turnsTo, rangeTo, loopTo, loopOn}
+use lib.Ieee.{Float}
+use borrow.Author.Tests.{eqb-true, eqb-false, leb-true, leb-false, ltb-true, ltb-false}
+use Rattle.tonekit_core.specs.Loop.{loopTo, loopOn}
+use Rattle.tonekit_core.proofs.LoopLaws.{range-same, to-same}
 use Rattle.tonekit_core.specs.declared.Refusal.the-variants.{CutShort, Loose, Unordered}
-use Rattle.tonekit_bytes.specs.Fields.{byteAt, u16At, u32At, f32At}
+use Rattle.tonekit_bytes.specs.Fields.{byteAt}
+use Rattle.tonekit_bytes.proofs.Agreeing.{Agree, taken-agrees, two, four, float}
 use Rattle.tonekit_expect.specs.declared.Found.{Found}
 use Rattle.tonekit_expect.specs.declared.Found.the-variants as found
-use Rattle.tonekit_pack.specs.Ranges.{regionFine, tolerancesFine}
-use Rattle.tonekit_pack.specs.Pack.{numberAt, holds, zeroOrHeld, settingsVerdict}
+use Rattle.tonekit_pack.specs.Pack.{numberAt, settingsVerdict}
 use Rattle.tonekit_pack.proofs.Split.{split}
 use Rattle.tonekit_pack.proofs.Turns.{by-verdict}
-use Rattle.tonekit_pack.proofs.Front.{Agree}
+use Rattle.tonekit_pack.proofs.Front.{region-same, tolerances-same, holds-same, zero-or-same}
 use Rattle.tonekit_sheet.specs.Sheet.{accentPlace, tonePlace, prevPlace}
 use Rattle.tonekit_sheet.specs.Reader.{Sst, Out, loaded, refused, rowsDue, dueNext, sizeOf, toneVerdict, accentVerdict, rowVerdict, listVerdict, pointFine, pointTurn, pointsFine, lastList, componentVerdict, bodyVerdict, recordVerdict, added, rowAt, looseTurn, looseRow, accentTurn, accentDown, prevDue, rowDue, rowNames, rowTurn, rowWrong, namesTurn, named, listSize, sameTurn, sameLists, equalTurn, repeated, listTurn, listWrong, orElse, refusedAt, finished, start, readSheet, singly, loadSheet, said, checkSheet}
 use Rattle.tonekit_sheet_read.proofs.Places.{rows-few, accent-inside, tone-inside, prev-inside}
-use Rattle.tonekit_core.proofs.LoopLaws.{range-same}
 use Rattle.tonekit_sheet_read.proofs.Records.{Closed, rows, Due, due-is, settings, tone, accent, row, list, component, finish, sound}
 use Rattle.tonekit_sheet_read.proofs.Reading.{after-list}
 use Rattle.tonekit_sheet_read.proofs.Turns.{run, run-refused, run-end, run-on, limit-idle, accepted, no-turns, not-loaded, same-loaded}
 use Rattle.tonekit_sheet_read.proofs.Kept.{ListRead, Kept, kept-start, no-due, keep}
 
-taken-agrees : (n : ℕ) (s : List ℕ) → Agree n (take n s) s
-taken-agrees n s =
-    split (leb n (length s))
-    (λ a. let b : n ≤ length s = leb-true n (length s) a in
-    let l = length-take-le n s b in
-    record {
-      bytes = λ i h. getD-take n s i 0 h;
-      ends = λ m h. lt-leb (length (take n s)) m (omega (arith, l)) ∙ sym (lt-leb (length s) m (omega arith));
-      cuts = λ m h. le-ltb (length (take n s)) m (omega (arith, l)) ∙ sym (le-ltb (length s) m (omega arith));
-      goes = λ m h. lt-ltb m (length (take n s)) (omega (arith, l)) ∙ sym (lt-ltb m (length s) (omega arith));
-    })
-    (λ a. let q : take n s ≡ s = take-all n s (omega (arith, leb-false n (length s) a)) in
-    record { bytes = λ i h. rw q; ends = λ m h. rw q; cuts = λ m h. rw q; goes = λ m h. rw q })
-
--- two searches whose turns are the same find the same
-module _ {S R : Type 0} (f g : ℕ → S → Turn S R) (out : S → R) where
-  turns-to-same : (k i hi : ℕ) (x : Turn S R) → i + k ≤ hi → ((j : ℕ) (y : S) → j < hi → f j y ≡ g j y) → turnsTo f out k i x ≡ turnsTo g out k i x
-  unfolding turnsTo
-  turns-to-same zero i hi (next y) e h = refl
-  turns-to-same zero i hi (stop r) e h = refl
-  turns-to-same (suc k) i hi (next y) e h = rw (h i y (omega arith)) (turns-to-same k (i + 1) hi (g i y) (omega arith) h)
-  turns-to-same (suc k) i hi (stop r) e h = refl
-
-  search-same : (hi : ℕ) (y : S) → ((j : ℕ) (y : S) → j < hi → f j y ≡ g j y) → rangeTo f out 0 hi y ≡ rangeTo g out 0 hi y
-  unfolding rangeTo
-  search-same hi y h = turns-to-same (hi - 0) 0 hi (next y) (omega arith) h
-
--- the fields of a record in both
-module _ (n : ℕ) (t s : List ℕ) (a : Agree n t s) where
-  two : (i : ℕ) → i + 2 ≤ n → u16At t i ≡ u16At s i
-  two i h = rw (a .bytes i (omega arith), a .bytes (i + 1) (omega arith))
-
-  four : (i : ℕ) → i + 4 ≤ n → u32At t i ≡ u32At s i
-  four i h = rw (a .bytes i (omega arith), a .bytes (i + 1) (omega arith), a .bytes (i + 2) (omega arith), a .bytes (i + 2 + 1) (omega arith))
-
-  float : (i : ℕ) → i + 4 ≤ n → f32At t i ≡ f32At s i
-  float i h = ap (ofBits binary32) (four i h)
-
-  points-same : (o : ℕ) → o + 40 ≤ n → pointsFine t o ≡ pointsFine s o
-  unfolding pointsFine
-  points-same o h = range-same (pointTurn t o) (pointTurn s o) 0 10 true (omega arith) (λ j y l. ap (λ (x : Float). y && pointFine x) (float (o + 4 * j) (omega arith)))
-
-  region-same : (o : ℕ) → o + 9 ≤ n → regionFine t o ≡ regionFine s o
-  unfolding regionFine
-  region-same o h = rw (a .bytes o (omega arith), four (o + 1) (omega arith), four (o + 5) (omega arith))
-
-  tolerances-same : (o : ℕ) → o + 16 ≤ n → tolerancesFine t o ≡ tolerancesFine s o
-  unfolding tolerancesFine
-  tolerances-same o h = rw (float o (omega arith), float (o + 4) (omega arith), float (o + 8) (omega arith), float (o + 12) (omega arith))
-
-  holds-same : (os : List ℕ) (x : ℕ) → ((i : ℕ) → i < length os → getD os i 0 + 7 ≤ n) → holds t os x ≡ holds s os x
-  unfolding holds
-  holds-same [] x h = refl
-  holds-same (o ∷ os) x h = rw (a .bytes (o + 1) (omega (arith, h 0 (omega arith))), holds-same os x (λ i l. h (suc i) (omega arith)))
-
-  zero-or-same : (os : List ℕ) (x : ℕ) → ((i : ℕ) → i < length os → getD os i 0 + 7 ≤ n) → zeroOrHeld t os x ≡ zeroOrHeld s os x
-  unfolding zeroOrHeld
-  zero-or-same os x h = rw (holds-same os x h)
+-- the points of a component in both
+points-same : (n : ℕ) (t s : List ℕ) (a : Agree n t s) (o : ℕ) → o + 40 ≤ n → pointsFine t o ≡ pointsFine s o
+unfolding pointsFine
+points-same n t s a o h = range-same (pointTurn t o) (pointTurn s o) 0 10 true (omega arith) (λ j y l. ap (λ (x : Float). y && pointFine x) (float n t s a (o + 4 * j) (omega arith)))
 
 -- no place is past the one that the limits of the counts give
 near : (s : List ℕ) (at : ℕ) (st : Sst) → Kept s at st → at ≤ 13265
@@ -158,7 +103,7 @@ module _ (n : ℕ) (t s : List ℕ) (a : Agree n t s) (at : ℕ) (st : Sst) (p :
   loose-same : looseRow t st ≡ looseRow s st
   unfolding looseRow
   loose-same =
-      search-same (looseTurn t st) (looseTurn s st) (λ u. found.Nothing) (st .rows) 0
+      to-same (looseTurn t st) (looseTurn s st) (λ u. found.Nothing) (st .rows) 0
       (λ r u l. rw (row-byte r 4 l (omega arith), row-byte r 5 l (omega arith), zero-or-same n t s a (st .lists) (byteAt s (rowAt st r + 4)) lists-seen, zero-or-same n t s a (st .lists) (byteAt s (rowAt st r + 5)) lists-seen))
 
   tone-number : (i : ℕ) → i < length (st .tones) → numberAt t (getD (st .tones) i 0) ≡ numberAt s (getD (st .tones) i 0)
@@ -169,7 +114,7 @@ module _ (n : ℕ) (t s : List ℕ) (a : Agree n t s) (at : ℕ) (st : Sst) (p :
 
   down-same : accentDown t st ≡ accentDown s st
   unfolding accentDown
-  down-same = search-same (accentTurn t st) (accentTurn s st) (λ u. found.Nothing) (length (st .accents)) 0 (λ i b l. rw (accent-number i l))
+  down-same = to-same (accentTurn t st) (accentTurn s st) (λ u. found.Nothing) (length (st .accents)) 0 (λ i b l. rw (accent-number i l))
 
   prev-same : (q : ℕ) → q ≤ length (st .tones) → prevDue t st q ≡ prevDue s st q
   prev-same zero l = refl
@@ -190,7 +135,7 @@ module _ (n : ℕ) (t s : List ℕ) (a : Agree n t s) (at : ℕ) (st : Sst) (p :
   wrong-same : rowWrong t st ≡ rowWrong s st
   unfolding rowWrong
   wrong-same =
-      search-same (rowTurn t st) (rowTurn s st) (λ u. found.Nothing) (st .rows) 0
+      to-same (rowTurn t st) (rowTurn s st) (λ u. found.Nothing) (st .rows) 0
       (λ r m l. rw (due-same r l, names-same r m l, row-byte r 4 l (omega arith), row-byte r 5 l (omega arith)))
 
   named-same : (x : ℕ) → named t st x ≡ named s st x
@@ -228,7 +173,7 @@ module _ (n : ℕ) (t s : List ℕ) (a : Agree n t s) (at : ℕ) (st : Sst) (p :
     lists-same : listWrong t st ≡ listWrong s st
     unfolding listWrong
     lists-same =
-        search-same (listTurn t st) (listTurn s st) (λ u. found.Nothing) (length (st .lists)) 0
+        to-same (listTurn t st) (listTurn s st) (λ u. found.Nothing) (length (st .lists)) 0
         (λ i u l. rw (list-byte i 1 l (omega arith), named-same (i + 1), repeated-same i l))
 
     finished-same : (e : ℕ) → finished t st e ≡ finished s st e
