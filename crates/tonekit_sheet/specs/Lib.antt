@@ -7,3 +7,4 @@ pub mod Agree
 pub mod Fit
 pub mod Bench
 pub mod Written
+pub mod Marks

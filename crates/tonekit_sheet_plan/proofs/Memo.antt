@@ -14,10 +14,12 @@ use Rattle.tonekit_pack.proofs.Split.{split}
 use Rattle.tonekit_expect.specs.Source.{Carried}
 use Rattle.tonekit_expect.specs.declared.Listing.{Listing}
 use Rattle.tonekit_sheet.specs.Number.{same, seenIn, placeIn, noted, numberIn}
+use Rattle.tonekit_sheet.proofs.Same.{place-more, seen-more, seen-last, place-last}
 use Rattle.tonekit_sheet_plan.specs.declared.Counts.{Counts}
 use Rattle.tonekit_sheet_plan.specs.Listings.{carriedBy, recordOf, listingFrom, Kept}
+use Rattle.tonekit_sheet_plan.specs.Marks.{markOf}
 use Rattle.tonekit_sheet_plan.specs.Plans.{keyOf, entryOf, keyListing, listAt, planned, ListsFine, MemoFine, Sane, knownAfter, memoAfter}
-use Rattle.tonekit_sheet_plan.proofs.Placing.{Placing, Placed, placing-out, place-more, seen-more, seen-last, place-last}
+use Rattle.tonekit_sheet_plan.proofs.Placing.{Placing, Placed, placing-out}
 
 -- ---- a listing and its number
 module _ (s : List ℕ) (l : Listing) (k : Kept s l) (byte : l .owner < 256) where
@@ -125,14 +127,18 @@ module _ (s lists : List ℕ) (n : ℕ) (g : ListsFine s lists n) (e : ℕ) (roo
   planned-more : planned s (set lists n e) (n + 1) ≡ planned s lists n ++ (carriedBy s (keyListing s e) ∷ [])
   planned-more = planned-set s lists n e (omega (arith, g .slots))
 
-  lists-more : Kept s (keyListing s e) → ListsFine s (set lists n e) (n + 1)
-  lists-more k = record {
+  lists-more : Kept s (keyListing s e) → e / 16777216 ≡ markOf (carriedBy s (keyListing s e)) → ListsFine s (set lists n e) (n + 1)
+  lists-more k m = record {
     few = omega arith;
     slots = length-set lists n e ∙ g .slots;
     each = λ i h.
         split (eqb i n)
         (λ q. let z : i ≡ n = eqb-true i n q in rw (z, getD-set-same lists n e 0 (omega (arith, g .slots))) k)
         (λ q. let z : i ≡ n → ⊥ = eqb-false i n q in rw (getD-set-other lists n i e 0 z) (g .each i (omega (arith, z))));
+    marked = λ i h.
+        split (eqb i n)
+        (λ q. let z : i ≡ n = eqb-true i n q in rw (z, getD-set-same lists n e 0 (omega (arith, g .slots))) m)
+        (λ q. let z : i ≡ n → ⊥ = eqb-false i n q in rw (getD-set-other lists n i e 0 z) (g .marked i (omega (arith, z))));
   }
 
   memo-kept : (memo : List ℕ) (k : ℕ) → MemoFine s lists n memo k → MemoFine s (set lists n e) (n + 1) memo k
@@ -196,28 +202,32 @@ module _ (s lists memo : List ℕ) (n : Counts) (l : Listing) (g : Sane s lists 
           let m : length (before ++ (its ∷ [])) ≤ 128 = rw (noted-new before its fresh) at room in
           omega (arith, length-append before (its ∷ []), planned-length s lists (n .lists), at-end)
 
-      pub way-new : (planned s (set lists j (keyOf l)) (j + 1) ≡ noted before (some its)) × Sane s (set lists j (keyOf l)) memo' (record { lists = j + 1; known = knownAfter (n .known) })
-      way-new =
-          let key = keyOf l in
-          let small = key-small s l k byte in
-          let same : keyListing s key ≡ l = again s l k byte key (omega (arith, small)) in
-          let lf : ListsFine s lists j = subst (ListsFine s lists) (sym at-end) (g .lists-fine) in
-          let mf : MemoFine s lists j memo (n .known) = subst (λ (m : ℕ). MemoFine s lists m memo (n .known)) (sym at-end) (g .memo-fine) in
-          let p : planned s (set lists j key) (j + 1) ≡ before ++ (its ∷ []) =
-          planned-more s lists j lf key way-room ∙ ap₂ (λ (a : List (List Carried)) (v : Listing). a ++ (carriedBy s v ∷ [])) (ap (planned s lists) at-end) same in (
-            p ∙ sym (noted-new before its fresh),
-            record {
-              lists-fine = lists-more s lists j lf key way-room (rw same k);
-              memo-fine =
-                  memo-more s (set lists j key) (j + 1) memo (n .known) (memo-kept s lists j lf key way-room memo (n .known) mf) l key (j + 1) small (again s l k byte)
-                  (rw p (seen-last its before)) (rw p (add-one j ∙ ap suc (at-end ∙ sym (planned-length s lists (n .lists)) ∙ sym (place-last its before fresh))));
-            },
-          )
+      -- its entry has its mark
+      module _ (mark : ℕ) (marked : mark ≡ markOf its) where
+        abbrev entered : ℕ
+        entered = entryOf (keyOf l) mark
+
+        pub way-new : (planned s (set lists j entered) (j + 1) ≡ noted before (some its)) × Sane s (set lists j entered) memo' (record { lists = j + 1; known = knownAfter (n .known) })
+        way-new =
+            let small = key-small s l k byte in
+            let same : keyListing s entered ≡ l = again s l k byte entered (entry-key (keyOf l) mark small) in
+            let lf : ListsFine s lists j = subst (ListsFine s lists) (sym at-end) (g .lists-fine) in
+            let mf : MemoFine s lists j memo (n .known) = subst (λ (m : ℕ). MemoFine s lists m memo (n .known)) (sym at-end) (g .memo-fine) in
+            let p : planned s (set lists j entered) (j + 1) ≡ before ++ (its ∷ []) =
+            planned-more s lists j lf entered way-room ∙ ap₂ (λ (a : List (List Carried)) (v : Listing). a ++ (carriedBy s v ∷ [])) (ap (planned s lists) at-end) same in (
+              p ∙ sym (noted-new before its fresh),
+              record {
+                lists-fine = lists-more s lists j lf entered way-room (rw same k) (entry-number (keyOf l) mark small ∙ marked ∙ ap (λ (v : Listing). markOf (carriedBy s v)) (sym same));
+                memo-fine =
+                    memo-more s (set lists j entered) (j + 1) memo (n .known) (memo-kept s lists j lf entered way-room memo (n .known) mf) l (keyOf l) (j + 1) small (again s l k byte)
+                    (rw p (seen-last its before)) (rw p (add-one j ∙ ap suc (at-end ∙ sym (planned-length s lists (n .lists)) ∙ sym (place-last its before fresh))));
+              },
+            )
 
 -- ---- a turn of the search for a place
 module _ (s lists : List ℕ) (n : ℕ) (v : List Carried) where
-  pub compared : {i : ℕ} {x : Listing} {b : Bool} → i < n → x ≡ listAt s lists i → b ≡ same v (carriedBy s x) → same v (getD (planned s lists n) i []) ≡ b
-  compared {i} {x} {b} h e q = ap (same v) (planned-get s lists n i h ∙ ap (carriedBy s) (sym e)) ∙ sym q
+  pub compared : {i : ℕ} {b : Bool} → i < n → b ≡ same v (carriedBy s (listAt s lists i)) → same v (getD (planned s lists n) i []) ≡ b
+  compared {i} h q = ap (same v) (planned-get s lists n i h) ∙ sym q
 
   pub below : {i : ℕ} → i < n → i < length (planned s lists n)
   below h = omega (arith, h, planned-length s lists n)
@@ -237,6 +247,6 @@ none-planned s lists = refl
 
 pub sane-none : (s lists memo : List ℕ) → length lists ≡ 128 → length memo ≡ 128 → Sane s lists memo (record { lists = 0; known = 0 })
 sane-none s lists memo a b = record {
-  lists-fine = record { few = omega arith; slots = a; each = λ i h. absurd (omega arith) };
+  lists-fine = record { few = omega arith; slots = a; each = λ i h. absurd (omega arith); marked = λ i h. absurd (omega arith) };
   memo-fine = record { few = omega arith; slots = b; right = λ i h. absurd (omega arith) };
 }

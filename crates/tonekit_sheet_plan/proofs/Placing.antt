@@ -12,7 +12,6 @@ use lib.Seq.{drop-cons}
 use borrow.Author.Tests.{lt-ltb, le-ltb}
 use Rattle.tonekit_expect.specs.Source.{Carried}
 use Rattle.tonekit_sheet.specs.Number.{same, seenIn, placeIn}
-pub use Rattle.tonekit_sheet.proofs.Same.{place-more, seen-more, seen-last, place-last}
 
 module _ (v : List Carried) (xs : List (List Carried)) where
   -- what is left has the list where the whole has it

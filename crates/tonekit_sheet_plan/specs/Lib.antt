@@ -1,3 +1,4 @@
 pub mod Rows
 pub mod Listings
+pub mod Marks
 pub mod Plans

@@ -10,15 +10,16 @@ use Rattle.tonekit_expect.specs.declared.Listing.{Listing}
 use Rattle.tonekit_sheet.specs.Number.{seenIn, placeIn}
 use Rattle.tonekit_sheet_plan.specs.declared.Counts.{Counts}
 use Rattle.tonekit_sheet_plan.specs.Listings.{carriedBy, recordOf, listingFrom, Kept}
+use Rattle.tonekit_sheet_plan.specs.Marks.{markOf}
 
--- a listing in one number: its record's offset, and its owner above that. An entry of the memo has the list's number above both
+-- a listing in one number: its record's offset, and its owner above that. An entry of the lists has its mark above both, one of the memo the list's number
 abbrev pub keyOf : Listing → ℕ
 keyOf l = recordOf l + 65536 * l .owner
 
 abbrev pub entryOf : ℕ → ℕ → ℕ
-entryOf key number = key + 16777216 * number
+entryOf key above = key + 16777216 * above
 
--- the listing of a number, with or without a list's number
+-- the listing of a number, whatever stands above its owner
 abbrev pub keyListing : List ℕ → ℕ → Listing
 keyListing s e = listingFrom s (e / 65536 % 256) (e % 65536)
 
@@ -30,11 +31,12 @@ unfoldable pub planned : List ℕ → List ℕ → ℕ → List (List Carried)
 planned s lists zero = []
 planned s lists (suc n) = planned s lists n ++ (carriedBy s (listAt s lists n) ∷ [])
 
--- n lists are in their array, and can be read
+-- n lists are in their array with their marks, and can be read
 pub record ListsFine (s lists : List ℕ) (n : ℕ) : Type 0 where
   pub few : n ≤ 128
   pub slots : length lists ≡ 128
   pub each : (i : ℕ) → i < n → Kept s (listAt s lists i)
+  pub marked : (i : ℕ) → i < n → getD lists i 0 / 16777216 ≡ markOf (carriedBy s (listAt s lists i))
 
 -- what the memo's first k entries say of n lists is right
 pub record MemoFine (s lists : List ℕ) (n : ℕ) (memo : List ℕ) (k : ℕ) : Type 0 where

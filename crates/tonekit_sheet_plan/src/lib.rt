@@ -8,18 +8,21 @@ ghost use lib.ListN.{length, getD};
 ghost use Rattle.tonekit_pack.specs.Held.{shown, Roomy};
 ghost use Rattle.tonekit_expect.specs.Lookup.{lookUp};
 ghost use Rattle.tonekit_expect.specs.Source.{given};
-ghost use Rattle.tonekit_sheet.specs.Number.{seenIn, placeIn, noted, numberIn};
+ghost use Rattle.tonekit_sheet.specs.Number.{same, seenIn, placeIn, noted, numberIn};
 ghost use Rattle.tonekit_sheet.specs.Sheet.{rowContext, noteTurn, listsOf};
 ghost use Rattle.tonekit_sheet_plan.specs.Rows.{packView, tonesOf, accentsOf, Ordered};
 ghost use Rattle.tonekit_sheet_plan.specs.Listings.{carriedBy, recordOf, Kept, LookKept, Reads};
+ghost use Rattle.tonekit_sheet_plan.specs.Marks.{markOf};
 ghost use Rattle.tonekit_sheet_plan.specs.Plans.{keyOf, entryOf, keyListing, listAt, planned, ListsFine, Sane, knownAfter, memoAfter};
 
 mod listing;
+mod mark;
 pub mod rows;
 mod same;
 
 use crate::listing::listing_at;
 use crate::listing::record_of;
+use crate::mark::mark_of;
 use crate::rows::row_context;
 use crate::rows::row_count;
 use crate::same::same_listing;
@@ -85,13 +88,24 @@ fn known_at(memo: &[u32; 128], n: usize, key: u32) -> usize
     n
 }
 
+// Whether a listing of this mark is list i of n. One of another mark is not compared.
+fn is_list(s: &[u8], lists: &[u32; 128], n: usize, i: usize, l: Listing, mark: u32) -> bool
+    requires { ⌜ ListsFine (now s) (now lists) n × (i < n) × Kept (now s) l × (mark ≡ markOf (carriedBy (now s) l)) ⌝ }
+    ensures { λ r. ⌜ r ≡ same (carriedBy (now (s .entry)) l) (carriedBy (now (s .entry)) (listAt (now (s .entry)) (now (lists .entry)) i)) ⌝ }
+{
+    if lists[i] / 16777216 != mark {
+        return false;
+    }
+    same_listing(s, l, list_at(s, lists, i))
+}
+
 // The place of a listing's list among n, or n.
-fn place_of(s: &[u8], lists: &[u32; 128], n: usize, l: Listing) -> usize
-    requires { ⌜ ListsFine (now s) (now lists) n × Kept (now s) l ⌝ }
+fn place_of(s: &[u8], lists: &[u32; 128], n: usize, l: Listing, mark: u32) -> usize
+    requires { ⌜ ListsFine (now s) (now lists) n × Kept (now s) l × (mark ≡ markOf (carriedBy (now s) l)) ⌝ }
     ensures { λ r. ⌜ (r ≡ placeIn (carriedBy (now (s .entry)) l) (planned (now (s .entry)) (now (lists .entry)) n)) × (seenIn (carriedBy (now (s .entry)) l) (planned (now (s .entry)) (now (lists .entry)) n) ≡ ltb r n) × (r ≤ n) ⌝ }
 {
     for i in 0..n {
-        if same_listing(s, l, list_at(s, lists, i)) {
+        if is_list(s, lists, n, i, l, mark) {
             return i;
         }
     }
@@ -126,7 +140,8 @@ fn note_listing(
     if known_at(memo, n.known, key) < n.known {
         return n;
     }
-    let j = place_of(s, lists, count, l);
+    let mark = mark_of(s, l);
+    let j = place_of(s, lists, count, l, mark);
     let known = remember(memo, n.known, key, j + 1);
     if j < count {
         return Counts {
@@ -134,7 +149,7 @@ fn note_listing(
             known: known,
         };
     }
-    lists[j] = key;
+    lists[j] = key + 16777216 * mark;
     Counts {
         lists: j + 1,
         known: known,
@@ -207,7 +222,8 @@ fn number_listing(s: &[u8], lists: &[u32; 128], memo: &[u32; 128], n: Counts, l:
     if k < n.known {
         return number_in(memo[k]);
     }
-    (place_of(s, lists, n.lists, l) + 1) as u8
+    let mark = mark_of(s, l);
+    (place_of(s, lists, n.lists, l, mark) + 1) as u8
 }
 
 // The number of what a lookup gives, 0 for nothing.

@@ -13,10 +13,15 @@ returns c =
     let a = start .args in
     c .number-in .ensures ∙ number-known (a .s .now) (a .lists .now) (a .memo .now) (a .n) (a .l) (start .pre .0) (start .pre .1) (key .ensures .2) (k .result) t (k .ensures .1 t ∙ key .ensures .0)
 
+place-of-requires : tie.Need-place-of-requires
+place-of-requires c κs =
+    let start = c .before .before .before .before .before .before in
+    (start .pre .0 .lists-fine, start .pre .1, c .mark-of .ensures .0)
+
 returns-2 : tie.Need-returns-2
 returns-2 c =
-    let key = c .before .before .before .before .key-of in
-    let start = c .before .before .before .before .before .before in
+    let key = c .before .before .before .before .before .key-of in
+    let start = c .before .before .before .before .before .before .before in
     let a = start .args in
     number-place (a .s .now) (a .lists .now) (a .memo .now) (a .n) (a .l) (start .pre .0) (start .pre .1) (key .ensures .2) (c .place-of .result) (c .place-of .ensures .0) (c .place-of .ensures .1)
 
@@ -31,6 +36,7 @@ number-listing-spec =
     (λ c κs. search needs)
     returns
     (λ c κs. search needs)
+    place-of-requires
     (λ c. search needs)
     (λ c. search needs)
     returns-2)

@@ -10,39 +10,34 @@ use Rattle.tonekit_sheet_plan.proofs.place_of.Statement.{statement}
 use Rattle.tonekit_sheet_plan.proofs.place_of.Tie as tie
 
 abbrev Inv-loop : tie.InvT-loop
-Inv-loop s lists n l i₀ i = (i ≤ n) × Placing (carriedBy s l) (planned s lists n) i
+Inv-loop s lists n l mark i₀ i = (i ≤ n) × Placing (carriedBy s l) (planned s lists n) i
 
 abbrev μ-loop : tie.MeasureT-loop
-μ-loop s lists n l i₀ i = n - i
+μ-loop s lists n l mark i₀ i = n - i
 
 loop-holds : tie.Need-loop-holds Inv-loop μ-loop
 loop-holds c = let a = c .before .args in (search needs, placing-begun (carriedBy (a .s .now) (a .l)) (planned (a .s .now) (a .lists .now) (a .n)))
 
-list-at-requires : tie.Need-list-at-requires Inv-loop μ-loop
-list-at-requires c κs = omega (arith, c .before .before .before .pre .0 .few, c .loop-test .taken)
-
-same-listing-requires : tie.Need-same-listing-requires Inv-loop μ-loop
-same-listing-requires c κs =
-    let start = c .before .before .before .before in
-    (start .pre .1, rw (c .list-at .ensures) (start .pre .0 .each (c .before .before .loop .i) (c .before .loop-test .taken)))
+is-list-requires : tie.Need-is-list-requires Inv-loop μ-loop
+is-list-requires c κs = let start = c .before .before .before in (start .pre .0, c .loop-test .taken, start .pre .1, start .pre .2)
 
 returns : tie.Need-returns Inv-loop μ-loop
 returns c =
-    let t = c .before .before .before .loop-test .taken in
-    let l = c .before .before .before .before in
+    let t = c .before .before .loop-test .taken in
+    let l = c .before .before .before in
     let a = l .before .before .args in
     let v = carriedBy (a .s .now) (a .l) in
     placed (a .s .now) (a .lists .now) (a .n) v (l .loop .i)
-    (placing-hit v (planned (a .s .now) (a .lists .now) (a .n)) (l .loop .inv .1) (below (a .s .now) (a .lists .now) (a .n) v t) (compared (a .s .now) (a .lists .now) (a .n) v t (c .before .before .list-at .ensures) (c .before .same-listing .ensures) ∙ c .if1 .taken))
+    (placing-hit v (planned (a .s .now) (a .lists .now) (a .n)) (l .loop .inv .1) (below (a .s .now) (a .lists .now) (a .n) v t) (compared (a .s .now) (a .lists .now) (a .n) v t (c .before .is-list .ensures) ∙ c .if1 .taken))
 
 loop-again : tie.Need-loop-again Inv-loop μ-loop
 loop-again c =
-    let t = c .before .before .before .loop-test .taken in
-    let l = c .before .before .before .before in
+    let t = c .before .before .loop-test .taken in
+    let l = c .before .before .before in
     let a = l .before .before .args in
     let v = carriedBy (a .s .now) (a .l) in (
       omega (arith, t),
-      placing-on v (planned (a .s .now) (a .lists .now) (a .n)) (l .loop .inv .1) (below (a .s .now) (a .lists .now) (a .n) v t) (compared (a .s .now) (a .lists .now) (a .n) v t (c .before .before .list-at .ensures) (c .before .same-listing .ensures) ∙ c .if1 .left),
+      placing-on v (planned (a .s .now) (a .lists .now) (a .n)) (l .loop .inv .1) (below (a .s .now) (a .lists .now) (a .n) v t) (compared (a .s .now) (a .lists .now) (a .n) v t (c .before .is-list .ensures) ∙ c .if1 .left),
     )
 
 returns-2 : tie.Need-returns-2 Inv-loop μ-loop
@@ -58,8 +53,7 @@ place-of-spec =
     Inv-loop
     μ-loop
     loop-holds
-    list-at-requires
-    same-listing-requires
+    is-list-requires
     returns
     (λ c. search needs)
     (λ c. search needs)
