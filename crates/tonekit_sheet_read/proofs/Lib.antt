@@ -3,6 +3,7 @@ pub mod Places
 pub mod Rows
 pub mod Loops
 pub mod Lists
+pub mod Marks
 pub mod Records
 pub mod Reading
 pub mod AtEnd

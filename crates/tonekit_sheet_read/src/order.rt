@@ -8,9 +8,12 @@ ghost use Rattle.tonekit_pack.specs.Pack.{zeroOrHeld};
 ghost use Rattle.tonekit_pack.specs.Held.{inOrder};
 ghost use Rattle.tonekit_sheet.specs.Reader.{rowsDue, rowAt, looseRow, accentDown, prevDue, rowDue, most, rowNames, rowWrong, namesTurn, named, sameLists, repeated, listWrong};
 ghost use Rattle.tonekit_sheet_read.specs.Held.{shown, Roomy};
+ghost use Rattle.tonekit_sheet_read.specs.Marks.{markAt, Marked};
 use crate::Sheet;
 use tonekit_bytes::byte_at;
+use tonekit_bytes::u32_at;
 use tonekit_expect::Found;
+use tonekit_sheet::mix;
 
 // The offset of row r, of at most 576.
 fn row_at(st: Sheet, r: usize) -> usize
@@ -173,17 +176,23 @@ fn use_of(s: &[u8], st: Sheet, n: usize, from: usize) -> usize
     use_from(s, st, n, 0)
 }
 
-// Whether the lists at two offsets are equal but for their numbers. Byte 50, of the first curve's
-// last point, tells most apart.
+// A mark of the list at o, from its weights and points.
+fn mark_at(s: &[u8], o: usize) -> u32
+    ensures { λ r. ⌜ r ≡ markAt (now (s .entry)) o ⌝ }
+{
+    let words = 11 * (byte_at(s, o, 6) as usize);
+    let mut m: u32 = 0;
+    for k in 0..words {
+        m = mix(m, u32_at(s, o, 8 + 4 * k));
+    }
+    m
+}
+
+// Whether the lists at two offsets are equal but for their numbers.
 fn same_lists(s: &[u8], a: usize, b: usize) -> bool
     ensures { λ r. ⌜ r ≡ sameLists (now (s .entry)) a b ⌝ }
 {
     let size = 7 + 45 * (byte_at(s, a, 6) as usize);
-    if 50 < size {
-        if byte_at(s, a, 50) != byte_at(s, b, 50) {
-            return false;
-        }
-    }
     for k in 2..size {
         if byte_at(s, a, k) != byte_at(s, b, k) {
             return false;
@@ -192,13 +201,24 @@ fn same_lists(s: &[u8], a: usize, b: usize) -> bool
     true
 }
 
-// Whether one of the first n lists is equal to the one at o.
-fn repeated(s: &[u8], at: &[u16; 128], n: usize, o: usize) -> bool
-    requires { ⌜ n ≤ 128 ⌝ }
+// The same, of lists with these marks: those of different marks are not compared.
+fn same_marked(s: &[u8], a: usize, b: usize, m: u32, n: u32) -> bool
+    requires { ⌜ (m ≡ markAt (now s) a) × (n ≡ markAt (now s) b) ⌝ }
+    ensures { λ r. ⌜ r ≡ sameLists (now (s .entry)) a b ⌝ }
+{
+    if m != n {
+        return false;
+    }
+    same_lists(s, a, b)
+}
+
+// Whether one of the first n lists is equal to the one at o, which has this mark.
+fn repeated(s: &[u8], at: &[u16; 128], marks: &[u32; 128], n: usize, o: usize, mark: u32) -> bool
+    requires { ⌜ (n ≤ 128) × Marked (now s) (now at) (now marks) n × (mark ≡ markAt (now s) o) ⌝ }
     ensures { λ r. ⌜ r ≡ repeated (now (s .entry)) (now (at .entry)) n o ⌝ }
 {
     for i in 0..n {
-        if same_lists(s, o, wide(at[i])) {
+        if same_marked(s, o, wide(at[i]), mark, marks[i]) {
             return true;
         }
     }
@@ -212,15 +232,18 @@ pub fn list_wrong(s: &[u8], st: Sheet) -> Found
     ensures { λ r. ⌜ r ≡ listWrong (now (s .entry)) (shown st) ⌝ }
 {
     let at = st.listat;
+    let mut marks = [0u32; 128];
     let mut from = 0;
     for i in 0..st.lists {
         let o = at[i] as usize;
         let numbered = byte_at(s, o, 1) as usize == i + 1;
         from = use_of(s, st, i + 1, from);
-        let fine = numbered & ((from < st.rows) & !repeated(s, &at, i, o));
+        let mark = mark_at(s, o);
+        let fine = numbered & ((from < st.rows) & !repeated(s, &at, &marks, i, o, mark));
         if !fine {
             return Found::At(o);
         }
+        marks[i] = mark;
     }
     Found::Nothing
 }

@@ -1,14 +1,12 @@
--- `same_lists` meets its contract: a byte that differs decides, and from each byte on those left give what all give. Assumes nothing.
+-- `same_lists` meets its contract: from each byte on, those left give what all give, and one that differs decides. Assumes nothing.
 use mathlib.Core.Path.{_≡_, refl}
 use mathlib.Core.Bool.{true}
 use borrow.Author.Needs.{needs}
 use borrow.Author.Tests.{eq-eqb, ne-eqb}
-use Prim.Native.Nat.{_-_, _<_}
-use native.Mathlib.Omega.{arith}
+use Prim.Native.Nat.{_-_}
 use Rattle.tonekit_core.specs.Loop.{range, again, ended}
-use Rattle.tonekit_sheet.specs.Reader.{listSize, sameTurn, sameLists}
+use Rattle.tonekit_sheet.specs.Reader.{sameTurn, sameLists}
 use Rattle.tonekit_sheet_read.proofs.Loops.{settled}
-use Rattle.tonekit_sheet_read.proofs.Lists.{differ}
 use Rattle.tonekit_sheet_read.proofs.order.same_lists.Statement.{statement}
 use Rattle.tonekit_sheet_read.proofs.order.same_lists.Tie as tie
 
@@ -18,24 +16,18 @@ Inv-loop s a b size k₀ k = range (sameTurn s a b) k size true ≡ sameLists s 
 abbrev μ-loop : tie.MeasureT-loop
 μ-loop s a b size k₀ k = size - k
 
-returns : tie.Need-returns Inv-loop μ-loop
-returns c =
-    let a = c .before .before .before .before .before .before .args in
-    let h : 50 < listSize (a .s .now) (a .a) = rw (← (c .before .before .before .before .byte-at .ensures)) (c .before .before .before .if1 .taken) in
-    differ (a .s .now) (a .a) (a .b) 50 (omega arith) h (rw (← (c .before .before .byte-at2 .ensures), ← (c .before .byte-at3 .ensures)) (c .if2 .taken))
-
-returns-2 : tie.Need-returns-2 Inv-loop μ-loop
-returns-2 c = settled _ (c .before .before .before .before .loop .inv) (c .before .before .before .loop-test .taken) (rw (← (c .before .before .byte-at4 .ensures), ← (c .before .byte-at5 .ensures)) (ne-eqb _ _ (c .if3 .taken))) (λ i. refl)
-
-loop-again : tie.Need-loop-again Inv-loop μ-loop
-loop-again c = again _ (c .before .before .before .before .loop .inv) (c .before .before .before .loop-test .taken) (rw (← (c .before .before .byte-at4 .ensures), ← (c .before .byte-at5 .ensures)) (eq-eqb _ _ (c .if3 .left)))
-
-returns-3 : tie.Need-returns-3 Inv-loop μ-loop
-returns-3 c = ended _ (c .before .loop .inv) (c .loop-test .left)
-
 loop-holds : tie.Need-loop-holds Inv-loop μ-loop
 unfolding sameLists
-loop-holds c = rw (c .before .byte-at .ensures)
+loop-holds c = rw (c .byte-at .ensures)
+
+returns : tie.Need-returns Inv-loop μ-loop
+returns c = settled _ (c .before .before .before .before .loop .inv) (c .before .before .before .loop-test .taken) (rw (← (c .before .before .byte-at2 .ensures), ← (c .before .byte-at3 .ensures)) (ne-eqb _ _ (c .if1 .taken))) (λ i. refl)
+
+loop-again : tie.Need-loop-again Inv-loop μ-loop
+loop-again c = again _ (c .before .before .before .before .loop .inv) (c .before .before .before .loop-test .taken) (rw (← (c .before .before .byte-at2 .ensures), ← (c .before .byte-at3 .ensures)) (eq-eqb _ _ (c .if1 .left)))
+
+returns-2 : tie.Need-returns-2 Inv-loop μ-loop
+returns-2 c = ended _ (c .before .loop .inv) (c .loop-test .left)
 
 pub same-lists-spec : {M : Type 1} → statement M
 same-lists-spec =
@@ -47,14 +39,11 @@ same-lists-spec =
     (λ c. search needs)
     (λ c. search needs)
     (λ c. search needs)
-    (λ c κs. search needs)
-    (λ c κs. search needs)
-    returns
     loop-holds
     (λ c κs. search needs)
     (λ c κs. search needs)
-    returns-2
+    returns
     (λ c. search needs)
     (λ c. search needs)
     loop-again
-    returns-3)
+    returns-2)
