@@ -1,3 +1,4 @@
 pub mod Loop
 pub mod Words
 pub mod Calls
+pub mod Bench
