@@ -74,11 +74,19 @@ def largest_pack(r):
     return bytes([1]) + f32(1.0, 0.25) + b''.join(tones + accents) + bytes([6])
 
 
-def alike_pack():
-    """A largest pack whose 64 rules are lists of one owner and label that differ in the last point alone, so that comparing lists
-    takes longest; eight accents, each the parent of the next, share them."""
+def of_one_mark(n):
+    """Two points for list n: with them lists differ, and have one mark all the same (crates/tonekit_sheet/specs/Marks.antt)."""
+    return struct.pack('<II', 0x40000000 + 256 * n, 0x40400000 - 33 * 256 * n)
+
+
+def alike_pack(one_mark=False):
+    """A largest pack whose 64 rules are lists of one owner and label that differ in the last point alone, or in the last two and
+    have one mark, so that comparing lists takes longest; eight accents, each the parent of the next, share them."""
+    def knots(t, prev):
+        end = struct.unpack('<2f', of_one_mark(8 * t + prev)) if one_mark else (2.0, t + prev / 16)
+        return [2.0] * 8 + list(end)
     tones = [tone(t, 0.125, [3.0] * 10) for t in range(1, 9)]
-    rules = [rule(7, t, prev, 0, (0.25, [2.0] * 10), (0.75, [2.0] * 9 + [t + prev / 16])) for t in range(1, 9) for prev in range(1, 9)]
+    rules = [rule(7, t, prev, 0, (0.25, [2.0] * 10), (0.75, knots(t, prev))) for t in range(1, 9) for prev in range(1, 9)]
     accents = [accent(a, a - 1, 0.5, 0.75, 1.0, 0.25) + (b''.join(rules) if a == 1 else b'') for a in range(1, 9)]
     return bytes([1]) + f32(1.0, 0.25) + b''.join(tones + accents) + bytes([6])
 
@@ -125,7 +133,7 @@ def damaged(r, data):
 
 def made(r, host):
     """Calls on packs, sheets and queries made here, in the form of `recorded`."""
-    packs = [largest_pack(r), alike_pack(), heavy_pack(), PACK] + [some_pack(r) for _ in range(36)]
+    packs = [largest_pack(r), alike_pack(), alike_pack(True), heavy_pack(), PACK] + [some_pack(r) for _ in range(36)]
     queries = [some_query(r, n) for n in [1024, 1024, 1023, 0, 1, 2, 3, 7, 8, 9, 30, 200]] + [QUERY]
     queries += [some_query(r, r.randint(0, 1024)) for _ in range(30)]
     sheets = [out[:place] for number, place, out in answers(host, [case(WRITE_SHEET, p, room=SHEET_MAX) for p in packs]) if number == 0]

@@ -9,7 +9,7 @@ import subprocess
 import sys
 
 from cases import (CHECK_PACK, CHECK_QUERY, CHECK_SHEET, JUDGE, JUDGE_SHEET, RECORD, SHAPE, SHEET_MAX, WRITE_SHAPE, WRITE_SHEET,
-                   accent, alike_pack, answers, case, f32, heavy_pack, largest_pack, tone)
+                   accent, alike_pack, answers, case, f32, heavy_pack, largest_pack, of_one_mark, tone)
 
 MEGAHERTZ = 48
 
@@ -30,14 +30,15 @@ FIVE = bytes([1]) + f32(1.0, 0.5) + b''.join(tone(t, 0.2, [1 + k * t / 4 for k i
 FIVE += accent(1, 0, 1.0, 1.0, 1.0, 1.0) + bytes([6])
 
 
-def alike_sheet():
-    """A sheet of no pack that is long to read: 128 lists of one component, alike but for the last bits of the ninth point."""
+def alike_sheet(one_mark=False):
+    """A sheet of no pack that is long to read: 128 lists of one component, alike but for the last bits of the ninth point; or for
+    the last two points, and of one mark."""
     head = bytes([17]) + f32(1.0, 0.25) + b''.join(bytes([18, t]) + f32(0.125) + bytes(9) for t in range(1, 9))
     head += b''.join(bytes([19, a]) + f32(0.5, 0.75, 1.0, 0.25) for a in range(1, 9))
     places = [(a, t, prev) for a in range(1, 9) for t in range(1, 9) for prev in range(9)]
     rows = b''.join(bytes([20, *place, *((2 * i + 1, 2 * i + 2) if i < 64 else (1, 2))]) for i, place in enumerate(places))
-    ninth = [struct.pack('<I', 0x40000000 + n) for n in range(1, 129)]
-    lists = b''.join(bytes([21, n, 1, 2, 7, 0, 1, 22]) + f32(1.0, *[2.0] * 8) + ninth[n - 1] + f32(2.0) for n in range(1, 129))
+    ends = [of_one_mark(n) if one_mark else struct.pack('<If', 0x40000000 + n, 2.0) for n in range(1, 129)]
+    lists = b''.join(bytes([21, n, 1, 2, 7, 0, 1, 22]) + f32(1.0, *[2.0] * 8) + ends[n - 1] for n in range(1, 129))
     return head + rows + lists + bytes([23])
 
 
@@ -60,15 +61,18 @@ def figures(host=None):
         ('judge_sheet, the same, largest sheet', case(JUDGE_SHEET, sheets[1], hard, RECORD)),
         ('judge_sheet, the same, alike pack\'s sheet', case(JUDGE_SHEET, sheets[2], hard, RECORD)),
         ('judge_sheet, the same, sheet of 128 lists alike', case(JUDGE_SHEET, alike_sheet(), hard, RECORD)),
+        ('judge_sheet, the same, 128 lists of one mark', case(JUDGE_SHEET, alike_sheet(True), hard, RECORD)),
         ('write_shape, 30 frames', case(WRITE_SHAPE, query(30), room=SHAPE)),
         ('write_shape, 1024 frames', case(WRITE_SHAPE, query(1024), room=SHAPE)),
         ('check_pack, largest', case(CHECK_PACK, largest)),
         ('check_query, 1024 frames', case(CHECK_QUERY, query(1024))),
         ('write_sheet, largest pack and sheet', case(WRITE_SHEET, largest, room=SHEET_MAX)),
         ('write_sheet, alike pack', case(WRITE_SHEET, alike, room=SHEET_MAX)),
+        ('write_sheet, alike pack of one mark', case(WRITE_SHEET, alike_pack(True), room=SHEET_MAX)),
         ('check_sheet, largest', case(CHECK_SHEET, sheets[1])),
         ('check_sheet, alike pack\'s sheet', case(CHECK_SHEET, sheets[2])),
         ('check_sheet, 128 lists alike', case(CHECK_SHEET, alike_sheet())),
+        ('check_sheet, 128 lists of one mark', case(CHECK_SHEET, alike_sheet(True))),
     ]
 
 
