@@ -3,7 +3,7 @@
 ghost use mathlib.Core.Path.{_≡_};
 ghost use Prim.Native.Nat.{min};
 ghost use lib.ListN.{length};
-ghost use Rattle.tonekit_core.specs.Calls.{answerIn, bufferAfter};
+ghost use Rattle.tonekit_core.specs.Calls.{Delivers};
 ghost use Rattle.station_sheet.specs.StationSheet.{stationSheetOutcome};
 use libc::STDIN_FILENO;
 use libc::STDOUT_FILENO;
@@ -18,7 +18,7 @@ fn lesser(a: usize, b: usize) -> usize
 
 // Judges an input: missing length bytes are 0, and a length past the input's end takes what is there.
 fn judge_input(input: &[u8], out: &mut [u8]) -> Answer
-    ensures { λ r. ⌜ (r ≡ answerIn (length (now (out .entry))) (stationSheetOutcome (now (input .entry)))) × (now (out .exit) ≡ bufferAfter (now (out .entry)) (stationSheetOutcome (now (input .entry)))) ⌝ }
+    ensures { λ r. ⌜ Delivers (stationSheetOutcome (now (input .entry))) (now (out .entry)) r (now (out .exit)) ⌝ }
 {
     let sized = tonekit_bytes::u16_at(input, 0, 0) as usize;
     let from = lesser(2, input.len());

@@ -11,7 +11,7 @@ use lib.Seq.{sets, sets-eq, take-all, drop-drop, take-suc, length-take-le}
 use borrow.Author.Tests.{le-leb, lt-leb}
 use Rattle.tonekit_core.specs.declared.Refusal.the-variants.{ShortBuffer}
 use Rattle.tonekit_core.specs.declared.Answer.the-variants.{Written, Refused}
-use Rattle.tonekit_core.specs.Calls.{answerIn, bufferAfter, written}
+use Rattle.tonekit_core.specs.Calls.{answerIn, bufferAfter, written, Delivers}
 use Rattle.tonekit_bytes.specs.Fields.{f32Bytes, f32sBytes}
 
 -- stores from index 0 on replace the list's start
@@ -20,18 +20,18 @@ front bs l h = sets-eq bs l 0 (rw zero-add h) ∙ ap (λ (n : ℕ). bs ++ drop n
 
 -- a record of n bytes that stands at the front of a buffer, and one that is longer than the buffer
 pub wrote : (bs l out : List ℕ) (n : ℕ) → length bs ≡ n → n ≤ length l → out ≡ sets l 0 bs
-    → (Written n ≡ answerIn (length l) (written bs)) × (out ≡ bufferAfter l (written bs))
+    → Delivers (written bs) l (Written n) out
 unfolding answerIn bufferAfter
 wrote bs l out n e h o =
     let k : length bs ≤ length l = omega arith in
-    simp (le-leb _ _ k) (ap Written (sym e), o ∙ front bs l k)
+    record { answer = simp (le-leb _ _ k) (ap Written (sym e)); buffer = simp (le-leb _ _ k) (o ∙ front bs l k) }
 
 pub refused-short : (bs l : List ℕ) (n : ℕ) → length bs ≡ n → length l < n
-    → (Refused ShortBuffer n ≡ answerIn (length l) (written bs)) × (l ≡ bufferAfter l (written bs))
+    → Delivers (written bs) l (Refused ShortBuffer n) l
 unfolding answerIn bufferAfter
 refused-short bs l n e h =
     let k : length l < length bs = omega arith in
-    simp (lt-leb _ _ k) (ap (Refused ShortBuffer) (sym e), refl)
+    record { answer = simp (lt-leb _ _ k) (ap (Refused ShortBuffer) (sym e)); buffer = simp (lt-leb _ _ k) refl }
 
 -- stores from the start of a part that reaches to the end are stores from its place on in the whole
 pub part-put : (bs l ys : List ℕ) (a : ℕ) → a + length bs ≤ length l → ys ≡ sets (take (length l - a) (drop a l)) 0 bs

@@ -5,7 +5,7 @@ ghost use mathlib.Core.List.{[], _∷_};
 ghost use Prim.Native.Nat.{_+_, _-_, _*_, _≤_, _<_};
 ghost use lib.ListN.{length};
 ghost use lib.Seq.{sets};
-ghost use Rattle.tonekit_core.specs.Calls.{answerIn, bufferAfter, written};
+ghost use Rattle.tonekit_core.specs.Calls.{Delivers, written};
 ghost use Rattle.tonekit_bytes.specs.Fields.{byteAt, u16At, u32At, f32At, le16, le32, f32Bytes, f32sBytes};
 use tonekit_core::Answer;
 use tonekit_core::Refusal;
@@ -147,7 +147,7 @@ pub fn put_bytes(out: &mut [u8], at: usize, src: &[u8])
 // Writes a record to the front of a lent buffer, or refuses with the length it needs and leaves
 // the buffer as it was.
 pub fn write_record(out: &mut [u8], bytes: &[u8]) -> Answer
-    ensures { λ r. ⌜ (r ≡ answerIn (length (now (out .entry))) (written (now (bytes .entry)))) × (now (out .exit) ≡ bufferAfter (now (out .entry)) (written (now (bytes .entry)))) ⌝ }
+    ensures { λ r. ⌜ Delivers (written (now (bytes .entry))) (now (out .entry)) r (now (out .exit)) ⌝ }
 {
     if out.len() < bytes.len() {
         return Answer::Refused(Refusal::ShortBuffer, bytes.len());

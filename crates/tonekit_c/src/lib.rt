@@ -3,7 +3,6 @@
 ghost use mathlib.Core.Path.{_≡_};
 ghost use lib.ListN.{length};
 ghost use lib.Ieee.{binary32, binary64, ofBits, toBits};
-ghost use Rattle.tonekit_core.specs.Calls.{answerIn, bufferAfter};
 ghost use Rattle.tonekit_float.specs.Narrow.{narrowed};
 ghost use Rattle.tonekit_root.specs.Root.{rootOf};
 ghost use Rattle.tonekit_log.specs.Log.{lnOf, log2Of};
@@ -14,7 +13,7 @@ ghost use Rattle.tonekit_sheet.specs.Reader.{checkSheet};
 ghost use Rattle.tonekit_sheet_write.specs.Outcome.{sheetOutcome};
 ghost use Rattle.tonekit_shape.specs.Record.{shapeOutcome};
 ghost use Rattle.tonekit_station.specs.Judgement.{judgeOutcome, judgeSheetOutcome};
-ghost use Rattle.tonekit_c.specs.Export.{checkedNumber, checkedPlace, answerNumber, answerPlace};
+ghost use Rattle.tonekit_c.specs.Export.{checkedNumber, checkedPlace, answerNumber, answerPlace, Hands};
 use tonekit_core::Answer;
 use tonekit_core::Checked;
 
@@ -77,7 +76,7 @@ pub extern "C" fn tonekit_check_sheet(sheet: &[u8], place: &mut u64) -> u32
 // Writes the sheet of a pack: 0 and its bytes, or the refusal's number and nothing.
 #[no_mangle]
 pub extern "C" fn tonekit_write_sheet(pack: &[u8], out: &mut [u8], place: &mut u64) -> u32
-    ensures { λ r. ⌜ (r ≡ answerNumber (answerIn (length (now (out .entry))) (sheetOutcome (now (pack .entry))))) × (now (place .exit) ≡ answerPlace (answerIn (length (now (out .entry))) (sheetOutcome (now (pack .entry))))) × (now (out .exit) ≡ bufferAfter (now (out .entry)) (sheetOutcome (now (pack .entry)))) ⌝ }
+    ensures { λ r. ⌜ Hands (sheetOutcome (now (pack .entry))) (now (out .entry)) r (now (place .exit)) (now (out .exit)) ⌝ }
 {
     hand_answer(tonekit_sheet_write::write_sheet(pack, out), place)
 }
@@ -85,7 +84,7 @@ pub extern "C" fn tonekit_write_sheet(pack: &[u8], out: &mut [u8], place: &mut u
 // Writes the shape record of a query: 0 and 124 bytes, or the refusal's number and nothing.
 #[no_mangle]
 pub extern "C" fn tonekit_write_shape(query: &[u8], out: &mut [u8], place: &mut u64) -> u32
-    ensures { λ r. ⌜ (r ≡ answerNumber (answerIn (length (now (out .entry))) (shapeOutcome (now (query .entry))))) × (now (place .exit) ≡ answerPlace (answerIn (length (now (out .entry))) (shapeOutcome (now (query .entry))))) × (now (out .exit) ≡ bufferAfter (now (out .entry)) (shapeOutcome (now (query .entry)))) ⌝ }
+    ensures { λ r. ⌜ Hands (shapeOutcome (now (query .entry))) (now (out .entry)) r (now (place .exit)) (now (out .exit)) ⌝ }
 {
     hand_answer(tonekit_shape::write_shape(query, out), place)
 }
@@ -93,7 +92,7 @@ pub extern "C" fn tonekit_write_shape(query: &[u8], out: &mut [u8], place: &mut 
 // Judges a query against a pack: 0 and the record of 64 bytes, or the refusal's number and nothing.
 #[no_mangle]
 pub extern "C" fn tonekit_judge(pack: &[u8], query: &[u8], out: &mut [u8], place: &mut u64) -> u32
-    ensures { λ r. ⌜ (r ≡ answerNumber (answerIn (length (now (out .entry))) (judgeOutcome (now (pack .entry)) (now (query .entry))))) × (now (place .exit) ≡ answerPlace (answerIn (length (now (out .entry))) (judgeOutcome (now (pack .entry)) (now (query .entry))))) × (now (out .exit) ≡ bufferAfter (now (out .entry)) (judgeOutcome (now (pack .entry)) (now (query .entry)))) ⌝ }
+    ensures { λ r. ⌜ Hands (judgeOutcome (now (pack .entry)) (now (query .entry))) (now (out .entry)) r (now (place .exit)) (now (out .exit)) ⌝ }
 {
     hand_answer(tonekit_station::judge(pack, query, out), place)
 }
@@ -106,7 +105,7 @@ pub extern "C" fn tonekit_judge_sheet(
     out: &mut [u8],
     place: &mut u64,
 ) -> u32
-    ensures { λ r. ⌜ (r ≡ answerNumber (answerIn (length (now (out .entry))) (judgeSheetOutcome (now (sheet .entry)) (now (query .entry))))) × (now (place .exit) ≡ answerPlace (answerIn (length (now (out .entry))) (judgeSheetOutcome (now (sheet .entry)) (now (query .entry))))) × (now (out .exit) ≡ bufferAfter (now (out .entry)) (judgeSheetOutcome (now (sheet .entry)) (now (query .entry)))) ⌝ }
+    ensures { λ r. ⌜ Hands (judgeSheetOutcome (now (sheet .entry)) (now (query .entry))) (now (out .entry)) r (now (place .exit)) (now (out .exit)) ⌝ }
 {
     hand_answer(tonekit_station::judge_sheet(sheet, query, out), place)
 }

@@ -1,6 +1,7 @@
 -- What a call makes of its inputs, and what that means for a lent buffer ("Turned back").
 use Prim.Native.Nat.{ℕ}
 use mathlib.Core.Bool.{cond}
+use mathlib.Core.Path.{_≡_}
 use mathlib.Core.List.{List, _++_}
 use lib.Dec.{leb}
 use lib.ListN.{length, drop}
@@ -23,3 +24,8 @@ answerIn room (written bs) = cond (leb (length bs) room) (Written (length bs)) (
 unfoldable pub bufferAfter : List ℕ → Outcome → List ℕ
 bufferAfter held (refused r place) = held
 bufferAfter held (written bs) = cond (leb (length bs) (length held)) (bs ++ drop (length bs) held) held
+
+-- what a call that is lent a buffer owes of an outcome: its answer, and what the buffer holds after
+pub record Delivers (o : Outcome) (held : List ℕ) (a : Answer) (out : List ℕ) : Type 0 where
+  pub answer : a ≡ answerIn (length held) o
+  pub buffer : out ≡ bufferAfter held o

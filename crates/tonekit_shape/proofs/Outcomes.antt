@@ -1,14 +1,11 @@
--- What the call `write_shape` makes of a query, way by way; and what that means for its answer and its buffer. Assumes nothing.
+-- What the call `write_shape` makes of a query, way by way. Assumes nothing.
 use Prim.Native.Nat.{ℕ, _≤_, _<_}
-use mathlib.Core.Path.{_≡_, refl, sym, _∙_, ap, subst}
+use mathlib.Core.Path.{_≡_, sym, _∙_, ap}
 use mathlib.Core.List.{List}
 use borrow.Author.Tests.{lt-ltb, le-ltb}
-use lib.ListN.{length}
-use Rattle.tonekit_core.specs.Calls.{Outcome, refused, written, answerIn, bufferAfter}
+use Rattle.tonekit_core.specs.Calls.{refused, written}
 use Rattle.tonekit_core.specs.declared.Refusal.{Refusal}
 use Rattle.tonekit_core.specs.declared.Refusal.the-variants.{Unvoiced}
-use Rattle.tonekit_core.specs.declared.Answer.{Answer}
-use Rattle.tonekit_core.specs.declared.Answer.the-variants as answer
 use Rattle.tonekit_query.specs.Query.{loadQuery, framesOf}
 use Rattle.tonekit_query.specs.declared.Query.{Query}
 use Rattle.tonekit_query.specs.declared.QueryRead.the-variants as read
@@ -16,17 +13,6 @@ use Rattle.tonekit_shape.specs.declared.Extent.{Extent}
 use Rattle.tonekit_shape.specs.declared.ToneShape.{ToneShape}
 use Rattle.tonekit_shape.specs.Extract.{extentOf, shapeOf}
 use Rattle.tonekit_shape.specs.Record.{shapeBytes, shaped, shapeOutcome}
-
--- an answer and a buffer tell of an outcome
-abbrev pub Tells : List ℕ → Answer → List ℕ → Outcome → Type 0
-Tells held a out o = (a ≡ answerIn (length held) o) × (out ≡ bufferAfter held o)
-
-pub tells-refused : (held : List ℕ) (r : Refusal) (place : ℕ) (o : Outcome) → o ≡ refused r place → Tells held (answer.Refused r place) held o
-unfolding answerIn bufferAfter
-tells-refused held r place o e = rw e (refl, refl)
-
-pub tells-same : (held out : List ℕ) (a : Answer) (o p : Outcome) → o ≡ p → Tells held a out o → Tells held a out p
-tells-same held out a o p e t = subst (Tells held a out) e t
 
 -- a query that loads
 module _ (frames : List ℕ) (q : Query) (e : Extent) (is : e ≡ extentOf frames (q .count) (q .start) (q .end)) where

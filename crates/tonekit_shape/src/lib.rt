@@ -3,7 +3,7 @@ ghost use mathlib.Core.Path.{_≡_};
 ghost use Prim.Native.Nat.{_+_, _≤_, _<_};
 ghost use lib.ListN.{length};
 ghost use Rattle.tonekit_contour.specs.Turning.{turningPoint};
-ghost use Rattle.tonekit_core.specs.Calls.{answerIn, bufferAfter};
+ghost use Rattle.tonekit_core.specs.Calls.{Delivers};
 ghost use Rattle.tonekit_shape.specs.Record.{united, shaped, shapeOutcome};
 ghost use Rattle.tonekit_shape.specs.Extract.{extentTurn, stopOf, extentOf, contourOf, weightsOf, meanOf, rangeOf, confidenceAdded, confidence, turnsOf, turningOf, spanFrames, framesIn, drawn, smoothed, shapeOf, Extended, Voiced3};
 
@@ -278,7 +278,7 @@ pub fn shape_of(frames: &[u8], e: Extent, start: u32, end: u32, floor: f32, ceil
 // The call `write_shape` for a query that loads, whose frames are these.
 fn write_shaped(frames: &[u8], q: Query, out: &mut [u8]) -> Answer
     requires { ⌜ q .count ≤ 1024 ⌝ }
-    ensures { λ r. ⌜ (r ≡ answerIn (length (now (out .entry))) (shaped (now (frames .entry)) q (extentOf (now (frames .entry)) (q .count) (q .start) (q .end)))) × (now (out .exit) ≡ bufferAfter (now (out .entry)) (shaped (now (frames .entry)) q (extentOf (now (frames .entry)) (q .count) (q .start) (q .end)))) ⌝ }
+    ensures { λ r. ⌜ Delivers (shaped (now (frames .entry)) q (extentOf (now (frames .entry)) (q .count) (q .start) (q .end))) (now (out .entry)) r (now (out .exit)) ⌝ }
 {
     let e = voiced_frames(frames, q.count, q.start, q.end);
     if e.count < 3 {
@@ -291,7 +291,7 @@ fn write_shaped(frames: &[u8], q: Query, out: &mut [u8]) -> Answer
 // Writes the shape record of a query: 124 bytes. Refuses what the query reader refuses, fewer than
 // 3 voiced frames (11), and a short buffer (9, with the length needed); then the buffer is as it was.
 pub fn write_shape(query: &[u8], out: &mut [u8]) -> Answer
-    ensures { λ r. ⌜ (r ≡ answerIn (length (now (out .entry))) (shapeOutcome (now (query .entry)))) × (now (out .exit) ≡ bufferAfter (now (out .entry)) (shapeOutcome (now (query .entry)))) ⌝ }
+    ensures { λ r. ⌜ Delivers (shapeOutcome (now (query .entry))) (now (out .entry)) r (now (out .exit)) ⌝ }
 {
     match tonekit_query::load_query(query) {
         QueryRead::Good(q) => write_shaped(tonekit_query::frames(query, q.count), q, out),

@@ -3,7 +3,7 @@ ghost use mathlib.Core.Path.{_≡_};
 ghost use Prim.Native.Nat.{_≤_};
 ghost use lib.ListN.{length};
 ghost use lib.Seq.{sets};
-ghost use Rattle.tonekit_core.specs.Calls.{answerIn, bufferAfter, written};
+ghost use Rattle.tonekit_core.specs.Calls.{Delivers, written};
 ghost use Rattle.tonekit_shape.specs.Record.{spanBytes, fitBytes, measureBytes, shapeBytes};
 use crate::ToneShape;
 use crate::united;
@@ -63,7 +63,7 @@ fn put_shape(out: &mut [u8], start: u32, end: u32, issues: u16, x: ToneShape)
 
 // Writes the record of a shape, or refuses with the length it needs and leaves the buffer as it was.
 pub fn write(out: &mut [u8], start: u32, end: u32, issues: u16, x: ToneShape) -> Answer
-    ensures { λ r. ⌜ (r ≡ answerIn (length (now (out .entry))) (written (shapeBytes start end issues x))) × (now (out .exit) ≡ bufferAfter (now (out .entry)) (written (shapeBytes start end issues x))) ⌝ }
+    ensures { λ r. ⌜ Delivers (written (shapeBytes start end issues x)) (now (out .entry)) r (now (out .exit)) ⌝ }
 {
     if out.len() < SIZE {
         return Answer::Refused(Refusal::ShortBuffer, SIZE);

@@ -2,7 +2,7 @@
 ghost use mathlib.Core.Path.{_≡_};
 ghost use Prim.Native.Nat.{_+_, _*_, _≤_, _<_};
 ghost use lib.ListN.{length};
-ghost use Rattle.tonekit_core.specs.Calls.{answerIn, bufferAfter, written};
+ghost use Rattle.tonekit_core.specs.Calls.{Delivers, written};
 ghost use Rattle.tonekit_pack.specs.Held.{shown, Roomy};
 ghost use Rattle.tonekit_expect.specs.Source.{sourceOfPack};
 ghost use Rattle.tonekit_sheet.specs.Gather.{Wrote};
@@ -83,7 +83,7 @@ fn fill(
 // as it was.
 fn write_loaded(s: &[u8], p: Pack, out: &mut [u8]) -> Answer
     requires { ⌜ Roomy p × Reads (now s) (shown p) ⌝ }
-    ensures { λ r. ⌜ (r ≡ answerIn (length (now (out .entry))) (written (sheet (sourceOfPack (now (s .entry)) (shown p))))) × (now (out .exit) ≡ bufferAfter (now (out .entry)) (written (sheet (sourceOfPack (now (s .entry)) (shown p))))) ⌝ }
+    ensures { λ r. ⌜ Delivers (written (sheet (sourceOfPack (now (s .entry)) (shown p)))) (now (out .entry)) r (now (out .exit)) ⌝ }
 {
     let mut lists = [0u32; 128];
     let mut memo = [0u32; 128];
@@ -100,7 +100,7 @@ fn write_loaded(s: &[u8], p: Pack, out: &mut [u8]) -> Answer
 // Writes a pack's sheet to a lent buffer: how many bytes, or why not and where. A buffer that is too
 // short is refused with the length needed, and no refusal alters it.
 pub fn write_sheet(pack: &[u8], out: &mut [u8]) -> Answer
-    ensures { λ r. ⌜ (r ≡ answerIn (length (now (out .entry))) (sheetOutcome (now (pack .entry)))) × (now (out .exit) ≡ bufferAfter (now (out .entry)) (sheetOutcome (now (pack .entry)))) ⌝ }
+    ensures { λ r. ⌜ Delivers (sheetOutcome (now (pack .entry))) (now (out .entry)) r (now (out .exit)) ⌝ }
 {
     let l = load_pack(pack);
     let read = l.read;

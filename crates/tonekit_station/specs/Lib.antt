@@ -1,2 +1,3 @@
 pub mod Judgement
+pub mod Held
 pub mod Bench

@@ -1,17 +1,15 @@
 // The calls that a station makes.
 ghost use mathlib.Core.Path.{_≡_};
 ghost use mathlib.Core.Bool.{_||_};
-ghost use mathlib.Core.Option.{some};
 ghost use lib.Dec.{eqb};
 ghost use Prim.Native.Nat.{ℕ, _+_, _≤_, _<_};
-ghost use lib.ListN.{length, getD};
-ghost use Rattle.tonekit_core.specs.Calls.{answerIn, bufferAfter};
-ghost use Rattle.tonekit_query.specs.Query.{framesOf};
+ghost use Rattle.tonekit_core.specs.Calls.{Delivers};
 ghost use Rattle.tonekit_pack.specs.Pack.{loaded, readPack};
 ghost use Rattle.tonekit_pack.specs.Held.{shown, Roomy};
-ghost use Rattle.tonekit_expect.specs.Source.{accentAt, sourceOfPack, toneIn};
+ghost use Rattle.tonekit_expect.specs.Source.{toneIn};
 ghost use Rattle.tonekit_shape.specs.Extract.{Voiced3};
 ghost use Rattle.tonekit_judge.specs.Judge.{Sound};
+ghost use Rattle.tonekit_station.specs.Held.{packHolds, packAccent, framesIn, listing};
 ghost use Rattle.tonekit_station.specs.Judgement.{scored, gradedBy, judgedBy, judgement, judgeOutcome, judgeSheetOutcome};
 
 mod sheet;
@@ -43,8 +41,8 @@ fn judge_listed(
     e: Extent,
     out: &mut [u8],
 ) -> Answer
-    requires { ⌜ Sound (record { inventory = inventory; weights = now weights; points = now points }) × (q .variants ≤ 4) × Voiced3 e ⌝ }
-    ensures { λ r. ⌜ (r ≡ answerIn (length (now (out .entry))) (scored temperature threshold t (record { inventory = inventory; weights = now (weights .entry); points = now (points .entry) }) (now (query .entry)) q (framesOf (now (query .entry)) (q .count)) e)) × (now (out .exit) ≡ bufferAfter (now (out .entry)) (scored temperature threshold t (record { inventory = inventory; weights = now (weights .entry); points = now (points .entry) }) (now (query .entry)) q (framesOf (now (query .entry)) (q .count)) e)) ⌝ }
+    requires { ⌜ Sound (listing inventory (now weights) (now points)) × (q .variants ≤ 4) × Voiced3 e ⌝ }
+    ensures { λ r. ⌜ Delivers (scored temperature threshold t (listing inventory (now (weights .entry)) (now (points .entry))) (now (query .entry)) q (framesIn (now (query .entry)) q) e) (now (out .entry)) r (now (out .exit)) ⌝ }
 {
     if !tonekit_target::variants_fine(query, q.variants) {
         return Answer::Refused(Refusal::BadVariant, 0);
@@ -77,7 +75,7 @@ fn judge_listed(
 // Whether a pack holds the tone that stood before, or there was none.
 fn prev_held(pack: &[u8], p: Pack, prev: u8) -> bool
     requires { ⌜ Roomy p ⌝ }
-    ensures { λ r. ⌜ r ≡ (eqb prev 0 || toneIn (sourceOfPack (now (pack .entry)) (shown p) .tones) prev) ⌝ }
+    ensures { λ r. ⌜ r ≡ (eqb prev 0 || toneIn (packHolds (now (pack .entry)) p .tones) prev) ⌝ }
 {
     if prev == 0 {
         return true;
@@ -100,7 +98,7 @@ fn judge_graded(
     out: &mut [u8],
 ) -> Answer
     requires { ⌜ Roomy p × ((end : ℕ) × (readPack (now pack) ≡ loaded (shown p) end)) × (a < p .accents) × (q .variants ≤ 4) × Voiced3 e ⌝ }
-    ensures { λ r. ⌜ (r ≡ answerIn (length (now (out .entry))) (gradedBy (sourceOfPack (now (pack .entry)) (shown p)) (now (query .entry)) q (framesOf (now (query .entry)) (q .count)) e (some (accentAt (now (pack .entry)) (getD (shown p .accents) a 0))))) × (now (out .exit) ≡ bufferAfter (now (out .entry)) (gradedBy (sourceOfPack (now (pack .entry)) (shown p)) (now (query .entry)) q (framesOf (now (query .entry)) (q .count)) e (some (accentAt (now (pack .entry)) (getD (shown p .accents) a 0))))) ⌝ }
+    ensures { λ r. ⌜ Delivers (gradedBy (packHolds (now (pack .entry)) p) (now (query .entry)) q (framesIn (now (query .entry)) q) e (packAccent (now (pack .entry)) p a)) (now (out .entry)) r (now (out .exit)) ⌝ }
 {
     if !prev_held(pack, p, q.prev) {
         return Answer::Refused(Refusal::UnknownTone, 0);
@@ -139,7 +137,7 @@ fn judge_graded(
 // The judgement of a query that loads against a pack that does: refusals 11 and 12, then as above.
 fn judge_query(pack: &[u8], p: Pack, query: &[u8], q: Query, out: &mut [u8]) -> Answer
     requires { ⌜ Roomy p × ((end : ℕ) × (readPack (now pack) ≡ loaded (shown p) end)) × (q .count ≤ 1024) × (q .variants ≤ 4) ⌝ }
-    ensures { λ r. ⌜ (r ≡ answerIn (length (now (out .entry))) (judgedBy (sourceOfPack (now (pack .entry)) (shown p)) (now (query .entry)) q)) × (now (out .exit) ≡ bufferAfter (now (out .entry)) (judgedBy (sourceOfPack (now (pack .entry)) (shown p)) (now (query .entry)) q)) ⌝ }
+    ensures { λ r. ⌜ Delivers (judgedBy (packHolds (now (pack .entry)) p) (now (query .entry)) q) (now (out .entry)) r (now (out .exit)) ⌝ }
 {
     let frames = tonekit_query::frames(query, q.count);
     let e = tonekit_shape::voiced_frames(frames, q.count, q.start, q.end);
@@ -155,7 +153,7 @@ fn judge_query(pack: &[u8], p: Pack, query: &[u8], q: Query, out: &mut [u8]) -> 
 // The judgement of a query's bytes against a pack that loads.
 fn judge_loaded(pack: &[u8], p: Pack, query: &[u8], out: &mut [u8]) -> Answer
     requires { ⌜ Roomy p × ((end : ℕ) × (readPack (now pack) ≡ loaded (shown p) end)) ⌝ }
-    ensures { λ r. ⌜ (r ≡ answerIn (length (now (out .entry))) (judgement (sourceOfPack (now (pack .entry)) (shown p)) (now (query .entry)))) × (now (out .exit) ≡ bufferAfter (now (out .entry)) (judgement (sourceOfPack (now (pack .entry)) (shown p)) (now (query .entry)))) ⌝ }
+    ensures { λ r. ⌜ Delivers (judgement (packHolds (now (pack .entry)) p) (now (query .entry))) (now (out .entry)) r (now (out .exit)) ⌝ }
 {
     match tonekit_query::load_query(query) {
         QueryRead::Good(q) => judge_query(pack, p, query, q, out),
@@ -166,7 +164,7 @@ fn judge_loaded(pack: &[u8], p: Pack, query: &[u8], out: &mut [u8]) -> Answer
 // Judges a query against a pack and writes the record of 64 bytes. Refuses what the readers refuse,
 // then 11 to 15 and a short buffer (9, with the length needed); then the buffer is as it was.
 pub fn judge(pack: &[u8], query: &[u8], out: &mut [u8]) -> Answer
-    ensures { λ r. ⌜ (r ≡ answerIn (length (now (out .entry))) (judgeOutcome (now (pack .entry)) (now (query .entry)))) × (now (out .exit) ≡ bufferAfter (now (out .entry)) (judgeOutcome (now (pack .entry)) (now (query .entry)))) ⌝ }
+    ensures { λ r. ⌜ Delivers (judgeOutcome (now (pack .entry)) (now (query .entry))) (now (out .entry)) r (now (out .exit)) ⌝ }
 {
     let l = tonekit_pack::load_pack(pack);
     let read = l.read;
@@ -179,7 +177,7 @@ pub fn judge(pack: &[u8], query: &[u8], out: &mut [u8]) -> Answer
 
 // Judges a query against a sheet, as `judge` does against a pack.
 pub fn judge_sheet(sheet: &[u8], query: &[u8], out: &mut [u8]) -> Answer
-    ensures { λ r. ⌜ (r ≡ answerIn (length (now (out .entry))) (judgeSheetOutcome (now (sheet .entry)) (now (query .entry)))) × (now (out .exit) ≡ bufferAfter (now (out .entry)) (judgeSheetOutcome (now (sheet .entry)) (now (query .entry)))) ⌝ }
+    ensures { λ r. ⌜ Delivers (judgeSheetOutcome (now (sheet .entry)) (now (query .entry))) (now (out .entry)) r (now (out .exit)) ⌝ }
 {
     let l = tonekit_sheet_read::load_sheet(sheet);
     let read = l.read;

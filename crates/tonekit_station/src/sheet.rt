@@ -1,17 +1,14 @@
 // A query judged against a sheet, as lib.rt does against a pack.
 ghost use mathlib.Core.Path.{_≡_};
 ghost use mathlib.Core.Bool.{_||_};
-ghost use mathlib.Core.Option.{some};
 ghost use lib.Dec.{eqb};
 ghost use Prim.Native.Nat.{ℕ, _≤_, _<_};
-ghost use lib.ListN.{length, getD};
-ghost use Rattle.tonekit_core.specs.Calls.{answerIn, bufferAfter};
-ghost use Rattle.tonekit_query.specs.Query.{framesOf};
+ghost use Rattle.tonekit_core.specs.Calls.{Delivers};
 ghost use Rattle.tonekit_expect.specs.Source.{toneIn};
 ghost use Rattle.tonekit_sheet.specs.Reader.{loaded, readSheet};
-ghost use Rattle.tonekit_sheet.specs.FromSheet.{accentAt, sourceOfSheet};
 ghost use Rattle.tonekit_sheet_read.specs.Held.{shown, Roomy};
 ghost use Rattle.tonekit_shape.specs.Extract.{Voiced3};
+ghost use Rattle.tonekit_station.specs.Held.{sheetHolds, sheetAccent, framesIn};
 ghost use Rattle.tonekit_station.specs.Judgement.{gradedBy, judgedBy, judgement};
 use tonekit_core::Answer;
 use tonekit_core::Refusal;
@@ -25,7 +22,7 @@ use tonekit_sheet_read::Sheet;
 // Whether a sheet holds the tone that stood before, or there was none.
 fn sheet_prev_held(sheet: &[u8], st: Sheet, prev: u8) -> bool
     requires { ⌜ Roomy st ⌝ }
-    ensures { λ r. ⌜ r ≡ (eqb prev 0 || toneIn (sourceOfSheet (now (sheet .entry)) (shown st) .tones) prev) ⌝ }
+    ensures { λ r. ⌜ r ≡ (eqb prev 0 || toneIn (sheetHolds (now (sheet .entry)) st .tones) prev) ⌝ }
 {
     if prev == 0 {
         return true;
@@ -48,7 +45,7 @@ fn judge_sheet_graded(
     out: &mut [u8],
 ) -> Answer
     requires { ⌜ Roomy st × ((end : ℕ) × (readSheet (now sheet) ≡ loaded (shown st) end)) × (a < st .accents) × (q .variants ≤ 4) × Voiced3 e ⌝ }
-    ensures { λ r. ⌜ (r ≡ answerIn (length (now (out .entry))) (gradedBy (sourceOfSheet (now (sheet .entry)) (shown st)) (now (query .entry)) q (framesOf (now (query .entry)) (q .count)) e (some (accentAt (now (sheet .entry)) (getD (shown st .accents) a 0))))) × (now (out .exit) ≡ bufferAfter (now (out .entry)) (gradedBy (sourceOfSheet (now (sheet .entry)) (shown st)) (now (query .entry)) q (framesOf (now (query .entry)) (q .count)) e (some (accentAt (now (sheet .entry)) (getD (shown st .accents) a 0))))) ⌝ }
+    ensures { λ r. ⌜ Delivers (gradedBy (sheetHolds (now (sheet .entry)) st) (now (query .entry)) q (framesIn (now (query .entry)) q) e (sheetAccent (now (sheet .entry)) st a)) (now (out .entry)) r (now (out .exit)) ⌝ }
 {
     if !sheet_prev_held(sheet, st, q.prev) {
         return Answer::Refused(Refusal::UnknownTone, 0);
@@ -86,7 +83,7 @@ fn judge_sheet_graded(
 // The judgement of a query that loads against a sheet that does: refusals 11 and 12, then as above.
 fn judge_sheet_query(sheet: &[u8], st: Sheet, query: &[u8], q: Query, out: &mut [u8]) -> Answer
     requires { ⌜ Roomy st × ((end : ℕ) × (readSheet (now sheet) ≡ loaded (shown st) end)) × (q .count ≤ 1024) × (q .variants ≤ 4) ⌝ }
-    ensures { λ r. ⌜ (r ≡ answerIn (length (now (out .entry))) (judgedBy (sourceOfSheet (now (sheet .entry)) (shown st)) (now (query .entry)) q)) × (now (out .exit) ≡ bufferAfter (now (out .entry)) (judgedBy (sourceOfSheet (now (sheet .entry)) (shown st)) (now (query .entry)) q)) ⌝ }
+    ensures { λ r. ⌜ Delivers (judgedBy (sheetHolds (now (sheet .entry)) st) (now (query .entry)) q) (now (out .entry)) r (now (out .exit)) ⌝ }
 {
     let frames = tonekit_query::frames(query, q.count);
     let e = tonekit_shape::voiced_frames(frames, q.count, q.start, q.end);
@@ -102,7 +99,7 @@ fn judge_sheet_query(sheet: &[u8], st: Sheet, query: &[u8], q: Query, out: &mut 
 // The judgement of a query's bytes against a sheet that loads.
 pub fn judge_sheet_loaded(sheet: &[u8], st: Sheet, query: &[u8], out: &mut [u8]) -> Answer
     requires { ⌜ Roomy st × ((end : ℕ) × (readSheet (now sheet) ≡ loaded (shown st) end)) ⌝ }
-    ensures { λ r. ⌜ (r ≡ answerIn (length (now (out .entry))) (judgement (sourceOfSheet (now (sheet .entry)) (shown st)) (now (query .entry)))) × (now (out .exit) ≡ bufferAfter (now (out .entry)) (judgement (sourceOfSheet (now (sheet .entry)) (shown st)) (now (query .entry)))) ⌝ }
+    ensures { λ r. ⌜ Delivers (judgement (sheetHolds (now (sheet .entry)) st) (now (query .entry))) (now (out .entry)) r (now (out .exit)) ⌝ }
 {
     match tonekit_query::load_query(query) {
         QueryRead::Good(q) => judge_sheet_query(sheet, st, query, q, out),

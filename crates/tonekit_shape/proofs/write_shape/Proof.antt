@@ -1,7 +1,8 @@
 use mathlib.Core.Path.{sym, _∙_}
 use borrow.Author.Needs.{needs}
 use Rattle.tonekit_query.proofs.Laws.{load-reads, read-holds}
-use Rattle.tonekit_shape.proofs.Outcomes.{tells-refused, tells-same, query-good, query-bad}
+use Rattle.tonekit_core.proofs.Calls.{delivers-refused, delivers-same}
+use Rattle.tonekit_shape.proofs.Outcomes.{query-good, query-bad}
 use Rattle.tonekit_shape.proofs.write_shape.Statement.{statement}
 use Rattle.tonekit_shape.proofs.write_shape.Tie as tie
 
@@ -14,12 +15,12 @@ returns : tie.Need-returns
 returns c =
     let f = c .before .before .before .before in
     let l = f .before .before .before .before in
-    tells-same _ _ _ _ _ (query-good _ _ _ (sym (l .load-query .ensures) ∙ f .before .before .q .given .1) (f .frames .ensures)) (c .before .before .write-shaped .ensures)
+    delivers-same _ _ _ _ _ (query-good _ _ _ (sym (l .load-query .ensures) ∙ f .before .before .q .given .1) (f .frames .ensures)) (c .before .before .write-shaped .ensures)
 
 returns-2 : tie.Need-returns-2
 returns-2 c =
     let l = c .before .before .before in
-    tells-refused _ _ _ _ (query-bad _ _ _ (sym (l .load-query .ensures) ∙ c .before .r .given .1))
+    delivers-refused _ _ _ _ (query-bad _ _ _ (sym (l .load-query .ensures) ∙ c .before .r .given .1))
 
 pub write-shape-spec : {M : Type 1} → statement M
 write-shape-spec =

@@ -1,6 +1,6 @@
 use borrow.Author.Needs.{needs}
-use mathlib.Core.Path.{refl}
-use Rattle.tonekit_core.specs.Calls.{answerIn, bufferAfter}
+use mathlib.Core.Path.{sym}
+use Rattle.tonekit_core.proofs.Calls.{delivers-refused}
 use Rattle.tonekit_sheet_write.proofs.Answers.{reads, is-written, is-refused}
 use Rattle.tonekit_sheet_write.proofs.write_sheet.Statement.{statement}
 use Rattle.tonekit_sheet_write.proofs.write_sheet.Tie as tie
@@ -19,11 +19,10 @@ returns c =
     rw (← (is-written s (l .load-pack .result) (l .load-pack .ensures .0) _ (c .before .before .before .before .before .read .given .1))) (c .before .before .write-loaded .ensures)
 
 returns-2 : tie.Need-returns-2
-unfolding answerIn bufferAfter
 returns-2 c =
     let l = c .before .before .before .before in
     let s = l .before .before .before .args .pack .now in
-    rw (← (is-refused s (l .load-pack .result) (l .load-pack .ensures .0) _ _ (c .before .read2 .given .1))) (refl, refl)
+    delivers-refused _ _ _ _ (sym (is-refused s (l .load-pack .result) (l .load-pack .ensures .0) _ _ (c .before .read2 .given .1)))
 
 pub write-sheet-spec : {M : Type 1} → statement M
 write-sheet-spec =

@@ -1,6 +1,6 @@
 -- `judge` meets its contract, by the ways through its code.
 use borrow.Author.Needs.{needs}
-use Rattle.tonekit_shape.proofs.Outcomes.{tells-refused, tells-same}
+use Rattle.tonekit_core.proofs.Calls.{delivers-refused, delivers-same}
 use Rattle.tonekit_station.proofs.Ways.{pack-loads, pack-good, pack-bad}
 use Rattle.tonekit_pack.proofs.Single.{loads-alone}
 use Rattle.tonekit_station.proofs.judge.Statement.{statement}
@@ -9,12 +9,12 @@ use Rattle.tonekit_station.proofs.judge.Tie as tie
 returns : tie.Need-returns
 returns c =
     let l = c .before .before .before .before .before .before .before in
-    tells-same _ _ _ _ _ (pack-good _ (l .load-pack .result) (l .load-pack .ensures .0) _ _ (c .before .before .before .before .enum-told .given .1)) (c .before .before .judge-loaded .ensures)
+    delivers-same _ _ _ _ _ (pack-good _ (l .load-pack .result) (l .load-pack .ensures .0) _ _ (c .before .before .before .before .enum-told .given .1)) (c .before .before .judge-loaded .ensures)
 
 returns-2 : tie.Need-returns-2
 returns-2 c =
     let l = c .before .before .before .before in
-    tells-refused _ _ _ _ (pack-bad _ (l .load-pack .result) (l .load-pack .ensures .0) _ _ _ (c .before .read .given .1))
+    delivers-refused _ _ _ _ (pack-bad _ (l .load-pack .result) (l .load-pack .ensures .0) _ _ _ (c .before .read .given .1))
 
 judge-loaded-requires : tie.Need-judge-loaded-requires
 judge-loaded-requires c κs =

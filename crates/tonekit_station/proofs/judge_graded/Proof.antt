@@ -13,7 +13,7 @@ use Rattle.tonekit_pack.specs.Held.{shown}
 use Rattle.tonekit_expect.specs.Source.{Accent, Source, accentAt, sourceOfPack}
 use Rattle.tonekit_inventory.specs.Gather.{listedOf}
 use borrow.Author.Tests.{not-true, not-false}
-use Rattle.tonekit_shape.proofs.Outcomes.{tells-refused, tells-same}
+use Rattle.tonekit_core.proofs.Calls.{delivers-refused, delivers-same}
 use Rattle.tonekit_station.proofs.Ways.{prev-unknown, nothing-here, all-listed}
 use Rattle.tonekit_station.proofs.Search.{tolerance}
 use Rattle.tonekit_station.proofs.judge_graded.Statement.{statement}
@@ -32,14 +32,14 @@ frames s = framesOf (s .args .query .now) (s .args .q .count)
 returns : tie.Need-returns
 returns c =
     let s = c .before .before .before .before .before in
-    tells-refused _ _ _ _ (prev-unknown (src s) (accent s) (s .args .query .now) (s .args .q) (frames s) (s .args .e) (sym (c .before .prev-held .ensures) ∙ not-true _ (c .if1 .taken)))
+    delivers-refused _ _ _ _ (prev-unknown (src s) (accent s) (s .args .query .now) (s .args .q) (frames s) (s .args .e) (sym (c .before .prev-held .ensures) ∙ not-true _ (c .if1 .taken)))
 
 returns-2 : tie.Need-returns-2
 returns-2 c =
     let g = c .before .before .before .before .before in
     let h = g .before .before .before in
     let s = h .before .before .before .before .before in
-    tells-refused _ _ _ _
+    delivers-refused _ _ _ _
     (nothing-here (src s) (accent s) (s .args .query .now) (s .args .q) (frames s) (s .args .e) (sym (h .before .prev-held .ensures) ∙ not-false _ (h .if1 .left)) _ (g .gather .ensures .0) (listedOf (g .gather .result) (g .gather .last .1 .1 .1 .0) (g .gather .last .1 .1 .1 .1 .0)) (rw (not-true (g .gather .result .found) (c .if2 .taken))))
 
 returns-3 : tie.Need-returns-3
@@ -51,7 +51,7 @@ returns-3 c =
     let g = w .before .before .before .before .before in
     let h = g .before .before .before in
     let s = h .before .before .before .before .before in
-    tells-same _ _ _ _ _
+    delivers-same _ _ _ _ _
     (all-listed (src s) (accent s) (s .args .query .now) (s .args .q) (frames s) (s .args .e) (sym (h .before .prev-held .ensures) ∙ not-false _ (h .if1 .left)) _ (g .gather .ensures .0) (listedOf (g .gather .result) (g .gather .last .1 .1 .1 .0) (g .gather .last .1 .1 .1 .1 .0)) (rw (not-false (g .gather .result .found) (w .if2 .left)))
     (v .f32-at .result) (c .before .before .before .before .before .before .f32-at2 .result) (v .f32-at .ensures) (c .before .before .before .before .before .before .f32-at2 .ensures) (t .tolerance-at .result) (t .tolerance-at .ensures ∙ rw (← order-get (s .args .p .accentat) (s .args .p .accents) (s .args .a) (s .pre .2)) (tolerance (s .args .pack .now) (getD (shown (s .args .p) .accents) (s .args .a) 0))))
     (c .before .before .judge-listed .ensures)

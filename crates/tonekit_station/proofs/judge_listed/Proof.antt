@@ -3,19 +3,19 @@ use mathlib.Core.Path.{sym, _∙_}
 use borrow.Author.Needs.{needs}
 use native.Mathlib.Omega.{arith}
 use borrow.Author.Tests.{not-true, not-false}
-use Rattle.tonekit_shape.proofs.Outcomes.{tells-refused, tells-same}
+use Rattle.tonekit_core.proofs.Calls.{delivers-refused, delivers-same}
 use Rattle.tonekit_station.proofs.Ways.{bad-variant, target-loose, target-held}
 use Rattle.tonekit_station.proofs.judge_listed.Statement.{statement}
 use Rattle.tonekit_station.proofs.judge_listed.Tie as tie
 
 returns : tie.Need-returns
-returns c = tells-refused _ _ _ _ (bad-variant _ _ _ _ _ _ _ _ (sym (c .before .variants-fine .ensures) ∙ not-true _ (c .if1 .taken)))
+returns c = delivers-refused _ _ _ _ (bad-variant _ _ _ _ _ _ _ _ (sym (c .before .variants-fine .ensures) ∙ not-true _ (c .if1 .taken)))
 
 returns-2 : tie.Need-returns-2
 returns-2 c =
     let g = c .before .before .before .targets-of in
     let w = c .before .before .before .before .before in
-    tells-refused _ _ _ _
+    delivers-refused _ _ _ _
     (target-loose _ _ _ _ _ _ _ _ (sym (w .before .variants-fine .ensures) ∙ not-false _ (w .if1 .left)) _ (g .ensures .0) (g .result .targets) (rw (not-true (g .result .held) (c .if2 .taken))))
 
 returns-3 : tie.Need-returns-3
@@ -26,7 +26,7 @@ returns-3 c =
     let h = x .before .before in
     let g = h .before .before .before in
     let v = g .before .before .before in
-    tells-same _ _ _ _ _
+    delivers-same _ _ _ _ _
     (target-held _ _ _ _ _ _ _ _ (sym (v .variants-fine .ensures) ∙ not-false _ (g .before .before .if1 .left)) _ (g .targets-of .ensures .0) (g .targets-of .result .targets) (rw (not-false (g .targets-of .result .held) (h .if2 .left)))
     (x .shape-of .result) (rw (← (x .before .frames .ensures)) (x .shape-of .ensures)) (i .united .result) (i .united .ensures) (r .before .judge .result) (r .before .judge .ensures) (r .judgement-record .result) (r .judgement-record .ensures))
     (c .before .before .write-record .ensures)

@@ -7,7 +7,7 @@ use Rattle.tonekit_pack.proofs.InOrder.{order-length}
 use Rattle.tonekit_expect.specs.Source.{accentAt, sourceOfPack}
 use Rattle.tonekit_expect.proofs.Walk.{index-found}
 use mathlib.Core.Option.{none}
-use Rattle.tonekit_shape.proofs.Outcomes.{tells-refused, tells-same}
+use Rattle.tonekit_core.proofs.Calls.{delivers-refused, delivers-same}
 use Rattle.tonekit_station.proofs.Ways.{few-voiced, enough-voiced}
 use Rattle.tonekit_station.proofs.Search.{accent-found, accent-none}
 use Rattle.tonekit_station.proofs.judge_query.Statement.{statement}
@@ -16,7 +16,7 @@ use Rattle.tonekit_station.proofs.judge_query.Tie as tie
 returns : tie.Need-returns
 returns c =
     let v = c .before .before in
-    tells-refused _ _ _ _ (few-voiced _ _ _ (v .voiced-frames .result) (rw (← (v .before .frames .ensures)) (v .voiced-frames .ensures .is)) (c .if1 .taken))
+    delivers-refused _ _ _ _ (few-voiced _ _ _ (v .voiced-frames .result) (rw (← (v .before .frames .ensures)) (v .voiced-frames .ensures .is)) (c .if1 .taken))
 
 returns-2 : tie.Need-returns-2
 unfolding sourceOfPack
@@ -24,7 +24,7 @@ returns-2 c =
     let i = c .before .before .before .before .before .before .before in
     let v = i .before .before .before in
     let a = v .before .before .before .before .before .args in
-    tells-same _ _ _ _ _
+    delivers-same _ _ _ _ _
     (enough-voiced _ _ _ (v .voiced-frames .result) (rw (← (v .before .frames .ensures)) (v .voiced-frames .ensures .is)) (i .before .if1 .left) _ (accent-found (a .pack .now) (shown (a .p) .accents) (a .q .accent) (accentAt (a .pack .now)) (λ o. refl) _ (sym (i .accent-index .ensures) ∙ c .before .before .before .before .before .a .given .1)))
     (c .before .before .judge-graded .ensures)
 
@@ -34,7 +34,7 @@ returns-3 c =
     let i = c .before .before in
     let v = i .before .before .before in
     let a = v .before .before .before .before .before .args in
-    tells-refused _ _ _ _
+    delivers-refused _ _ _ _
     (sym (enough-voiced _ _ _ (v .voiced-frames .result) (rw (← (v .before .frames .ensures)) (v .voiced-frames .ensures .is)) (i .before .if1 .left) none (accent-none (a .pack .now) (shown (a .p) .accents) (a .q .accent) (accentAt (a .pack .now)) (λ o. refl) (sym (i .accent-index .ensures) ∙ c .enum-told .given .1))))
 
 judge-graded-requires : tie.Need-judge-graded-requires

@@ -1,6 +1,6 @@
 -- `judge_sheet` meets its contract, by the ways through its code.
 use borrow.Author.Needs.{needs}
-use Rattle.tonekit_shape.proofs.Outcomes.{tells-refused, tells-same}
+use Rattle.tonekit_core.proofs.Calls.{delivers-refused, delivers-same}
 use Rattle.tonekit_station.proofs.Ways.{sheet-loads, sheet-good, sheet-bad}
 use Rattle.tonekit_sheet_read.proofs.Single.{loads-alone}
 use Rattle.tonekit_station.proofs.judge_sheet.Statement.{statement}
@@ -9,12 +9,12 @@ use Rattle.tonekit_station.proofs.judge_sheet.Tie as tie
 returns : tie.Need-returns
 returns c =
     let l = c .before .before .before .before .before .before .before in
-    tells-same _ _ _ _ _ (sheet-good _ (l .load-sheet .result) (l .load-sheet .ensures .0) _ _ (c .before .before .before .before .enum-told .given .1)) (c .before .before .judge-sheet-loaded .ensures)
+    delivers-same _ _ _ _ _ (sheet-good _ (l .load-sheet .result) (l .load-sheet .ensures .0) _ _ (c .before .before .before .before .enum-told .given .1)) (c .before .before .judge-sheet-loaded .ensures)
 
 returns-2 : tie.Need-returns-2
 returns-2 c =
     let l = c .before .before .before .before in
-    tells-refused _ _ _ _ (sheet-bad _ (l .load-sheet .result) (l .load-sheet .ensures .0) _ _ _ (c .before .read .given .1))
+    delivers-refused _ _ _ _ (sheet-bad _ (l .load-sheet .result) (l .load-sheet .ensures .0) _ _ _ (c .before .read .given .1))
 
 judge-sheet-loaded-requires : tie.Need-judge-sheet-loaded-requires
 judge-sheet-loaded-requires c κs =

@@ -12,7 +12,7 @@ use Rattle.tonekit_expect.specs.Source.{Accent, Source}
 use Rattle.tonekit_sheet.specs.FromSheet.{accentAt, sourceOfSheet}
 use Rattle.tonekit_inventory.specs.Gather.{listedOf}
 use borrow.Author.Tests.{not-true, not-false}
-use Rattle.tonekit_shape.proofs.Outcomes.{tells-refused, tells-same}
+use Rattle.tonekit_core.proofs.Calls.{delivers-refused, delivers-same}
 use Rattle.tonekit_station.proofs.Ways.{prev-unknown, nothing-here, all-listed}
 use Rattle.tonekit_station.proofs.Search.{sheet-tolerance}
 use Rattle.tonekit_station.proofs.sheet.judge_sheet_graded.Statement.{statement}
@@ -31,14 +31,14 @@ frames s = framesOf (s .args .query .now) (s .args .q .count)
 returns : tie.Need-returns
 returns c =
     let s = c .before .before .before .before .before in
-    tells-refused _ _ _ _ (prev-unknown (src s) (accent s) (s .args .query .now) (s .args .q) (frames s) (s .args .e) (sym (c .before .sheet-prev-held .ensures) ∙ not-true _ (c .if1 .taken)))
+    delivers-refused _ _ _ _ (prev-unknown (src s) (accent s) (s .args .query .now) (s .args .q) (frames s) (s .args .e) (sym (c .before .sheet-prev-held .ensures) ∙ not-true _ (c .if1 .taken)))
 
 returns-2 : tie.Need-returns-2
 returns-2 c =
     let g = c .before .before .before .before .before in
     let h = g .before .before .before in
     let s = h .before .before .before .before .before in
-    tells-refused _ _ _ _
+    delivers-refused _ _ _ _
     (nothing-here (src s) (accent s) (s .args .query .now) (s .args .q) (frames s) (s .args .e) (sym (h .before .sheet-prev-held .ensures) ∙ not-false _ (h .if1 .left)) _ (g .gather-sheet .ensures .0) (listedOf (g .gather-sheet .result) (g .gather-sheet .last .1 .1 .1 .0) (g .gather-sheet .last .1 .1 .1 .1 .0)) (rw (not-true (g .gather-sheet .result .found) (c .if2 .taken))))
 
 returns-3 : tie.Need-returns-3
@@ -50,7 +50,7 @@ returns-3 c =
     let g = w .before .before .before .before .before in
     let h = g .before .before .before in
     let s = h .before .before .before .before .before in
-    tells-same _ _ _ _ _
+    delivers-same _ _ _ _ _
     (all-listed (src s) (accent s) (s .args .query .now) (s .args .q) (frames s) (s .args .e) (sym (h .before .sheet-prev-held .ensures) ∙ not-false _ (h .if1 .left)) _ (g .gather-sheet .ensures .0) (listedOf (g .gather-sheet .result) (g .gather-sheet .last .1 .1 .1 .0) (g .gather-sheet .last .1 .1 .1 .1 .0)) (rw (not-false (g .gather-sheet .result .found) (w .if2 .left)))
     (v .f32-at .result) (c .before .before .before .before .before .before .f32-at2 .result) (v .f32-at .ensures) (c .before .before .before .before .before .before .f32-at2 .ensures) (t .tolerance-at .result) (t .tolerance-at .ensures ∙ rw (← stepped-get (9 + 15 * s .args .st .tones) 18 (s .args .st .accents) (s .args .a) (s .pre .2)) (sheet-tolerance (s .args .sheet .now) (getD (shown (s .args .st) .accents) (s .args .a) 0))))
     (c .before .before .judge-listed .ensures)

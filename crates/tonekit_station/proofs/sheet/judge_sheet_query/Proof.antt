@@ -8,7 +8,7 @@ use Rattle.tonekit_sheet_read.proofs.Stepped.{stepped-length}
 use Rattle.tonekit_sheet.specs.FromSheet.{accentAt, sourceOfSheet}
 use Rattle.tonekit_expect.proofs.Walk.{index-found}
 use mathlib.Core.Option.{none}
-use Rattle.tonekit_shape.proofs.Outcomes.{tells-refused, tells-same}
+use Rattle.tonekit_core.proofs.Calls.{delivers-refused, delivers-same}
 use Rattle.tonekit_station.proofs.Ways.{few-voiced, enough-voiced}
 use Rattle.tonekit_station.proofs.Search.{accent-found, accent-none}
 use Rattle.tonekit_station.proofs.sheet.judge_sheet_query.Statement.{statement}
@@ -17,7 +17,7 @@ use Rattle.tonekit_station.proofs.sheet.judge_sheet_query.Tie as tie
 returns : tie.Need-returns
 returns c =
     let v = c .before .before in
-    tells-refused _ _ _ _ (few-voiced _ _ _ (v .voiced-frames .result) (rw (← (v .before .frames .ensures)) (v .voiced-frames .ensures .is)) (c .if1 .taken))
+    delivers-refused _ _ _ _ (few-voiced _ _ _ (v .voiced-frames .result) (rw (← (v .before .frames .ensures)) (v .voiced-frames .ensures .is)) (c .if1 .taken))
 
 returns-2 : tie.Need-returns-2
 unfolding sourceOfSheet
@@ -25,7 +25,7 @@ returns-2 c =
     let i = c .before .before .before .before .before .before .before in
     let v = i .before .before .before in
     let a = v .before .before .before .before .before .args in
-    tells-same _ _ _ _ _
+    delivers-same _ _ _ _ _
     (enough-voiced _ _ _ (v .voiced-frames .result) (rw (← (v .before .frames .ensures)) (v .voiced-frames .ensures .is)) (i .before .if1 .left) _ (accent-found (a .sheet .now) (shown (a .st) .accents) (a .q .accent) (accentAt (a .sheet .now)) (λ o. refl) _ (sym (i .accent-index .ensures) ∙ c .before .before .before .before .before .a .given .1)))
     (c .before .before .judge-sheet-graded .ensures)
 
@@ -35,7 +35,7 @@ returns-3 c =
     let i = c .before .before in
     let v = i .before .before .before in
     let a = v .before .before .before .before .before .args in
-    tells-refused _ _ _ _
+    delivers-refused _ _ _ _
     (sym (enough-voiced _ _ _ (v .voiced-frames .result) (rw (← (v .before .frames .ensures)) (v .voiced-frames .ensures .is)) (i .before .if1 .left) none (accent-none (a .sheet .now) (shown (a .st) .accents) (a .q .accent) (accentAt (a .sheet .now)) (λ o. refl) (sym (i .accent-index .ensures) ∙ c .enum-told .given .1))))
 
 judge-sheet-graded-requires : tie.Need-judge-sheet-graded-requires
