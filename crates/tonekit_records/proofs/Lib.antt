@@ -1,0 +1,3 @@
+pub mod OwnBytes
+pub mod Tallies
+pub mod Loading
