@@ -54,7 +54,7 @@ class Field(NamedTuple):
 
 class Kind(NamedTuple):
     """A kind of record. `most` is how many of it a file may have, `within` the kind of record that counts them anew and how many
-    it may have; `rules` are (field, words, whether values and the record above them keep it)."""
+    it may have; `rules` are (refusal, field, words, whether the values and those of the record above keep it)."""
     number: int
     name: str
     format: str
@@ -113,10 +113,12 @@ def knots(at, least):
             Field(at + 1, 'f32', 'knots', 'knots', KNOT, times=10, stride=4, counted='knot_count'))
 
 
-REGION_ORDER = ('to', 'not below its from', lambda v, above: v['flag'] != 1 or v['from'] <= v['to'])
-PART_ALONE = ('weight', '1 in a single rule', lambda v, above: above is None or above['form'] != 2 or v['weight'] == 1)
-COMPONENT_ALONE = ('weight', '1 unless the form is mixture', lambda v, above: above is None or above['form'] == 3 or v['weight'] == 1)
-CITATION_LABEL = ('label', '0 in a citation', lambda v, above: v['form'] != 1 or v['label'] == 0)
+REGION_ORDER = (5, 'to', 'not below its from', lambda v, above: v['flag'] != 1 or v['from'] <= v['to'])
+PART_ALONE = (5, 'weight', '1 in a single rule', lambda v, above: above is None or above['form'] != 2 or v['weight'] == 1)
+COMPONENT_ALONE = (5, 'weight', '1 unless the form is mixture',
+                   lambda v, above: above is None or above['form'] == 3 or v['weight'] == 1)
+CITATION_LABEL = (5, 'label', '0 in a citation', lambda v, above: v['form'] != 1 or v['label'] == 0)
+LIST_ALONE = (4, 'count', 'at most 1 unless the form is mixture', lambda v, above: v['form'] == 3 or v['count'] <= 1)
 
 PACK = (
     settings(1, 'pack'),
@@ -135,7 +137,7 @@ PACK = (
         Field(5, 'u8', 'final', 'final', one_of(0, 1, 2), names=dict(enumerate(FINALS)), least=0),
         Field(6, 'u8', 'form', 'form', one_of(2, 3), names=RULE_FORMS, least=2)), most=64),
     Kind(5, 'part', 'pack', 46, (
-        Field(1, 'f32', 'weight', 'weight', WEIGHT, least=1.0),
+        Field(1, 'f32', 'weight', 'weight', WEIGHT, least=F32(0x3F800000)),
         *knots(5, SOME)), most=128, within=('rule', 4), rules=(PART_ALONE,)),
     Kind(6, 'end', 'pack', 1, ()),
 )
@@ -160,7 +162,7 @@ SHEET = (
         Field(2, 'u8', 'owner', 'owner', NUMBER, refers='accent'),
         Field(3, 'u8', 'form', 'form', one_of(1, 2, 3), names=FORMS),
         Field(4, 'u16', 'label', 'label'),
-        Field(6, 'u8', 'count', 'components', SOME, limit=4)), most=128, rules=(CITATION_LABEL,)),
+        Field(6, 'u8', 'count', 'components', SOME, limit=4)), most=128, rules=(LIST_ALONE, CITATION_LABEL)),
     Kind(22, 'component', 'sheet', 45, (
         Field(1, 'f32', 'weight', 'weight', WEIGHT),
         Field(5, 'f32', 'points', 'points', POINT, times=10, stride=4)), most=192, within=('list', 4), rules=(COMPONENT_ALONE,)),
@@ -185,7 +187,7 @@ QUERY = (
     Kind(50, 'frame', 'query', 10, (
         Field(1, 'u8', 'voiced', 'voiced', FLAG, names=FINAL_FLAG),
         Field(2, 'f32', 'hz', 'hz'),
-        Field(6, 'f32', 'voiced_p', 'voicing', meaning='how sure the voicing is'))),
+        Field(6, 'f32', 'voiced_p', 'voicing'))),
 )
 
 RECORDS = (
@@ -197,14 +199,14 @@ RECORDS = (
         Field(35, 'f32', 'llr', 'log-likelihood ratio', meaning='of the expected tone against all tones; above 0 speaks for it'),
         Field(39, 'u8', 'distance_flag', 'distance flag', FLAG),
         Field(40, 'f32', 'distance', 'distance', when='distance_flag',
-              meaning='to the nearest curve of the expected tone, in tolerances'),
-        Field(44, 'u8', 'owner', 'nearest curve of accent', names={0: 'none'}),
+              meaning='to the best-matching curve of the expected tone, in units of the tolerances'),
+        Field(44, 'u8', 'owner', 'curve of accent', names={0: 'none'}, meaning='whose curve matches best'),
         Field(45, 'u8', 'form', 'form', names={0: 'none', **FORMS}),
         Field(46, 'u16', 'label', 'label', meaning="the rule's"),
         Field(48, 'u8', 'part', 'part', meaning='counted from 0'),
         Field(49, 'u8', 'heard', 'heard tone', names={0: 'none'}),
         Field(50, 'u8', 'delta_count', 'deltas', limit=2),
-        Field(51, 'u8', 'delta_kinds', 'delta kinds', times=2, stride=5, counted='delta_count',
+        Field(51, 'u8', 'delta_kinds', 'advice', times=2, stride=5, counted='delta_count',
               names={n: name for n, (name, _, _) in DELTAS.items()}),
         Field(52, 'f32', 'delta_amounts', 'delta amounts', times=2, stride=5, counted='delta_count'),
         Field(61, 'u8', 'measured', 'measured', one_of(0, 1, 2), names=MEASURED),
@@ -274,6 +276,11 @@ def encode(kind, values):
     return bytes(out)
 
 
+def derived(kind):
+    """The names of the fields that follow from others: counts and flags."""
+    return {name for field in kind.fields for name in (field.counted, field.when) if name}
+
+
 def used(field, values):
     """Which of a field's values count: all, as many as another field says, or none where its flag is clear."""
     if field.when:
@@ -281,17 +288,20 @@ def used(field, values):
     return range(min(field.times, values[field.counted]) if field.counted else field.times)
 
 
-def records(data):
+def walk(data):
     """The records of a file one after the other, up to one that no kind has, one cut short, or the end."""
-    out, at = [], 0
+    at = 0
     while at < len(data):
         kind = KINDS.get(data[at])
         whole = kind and at + kind.size <= len(data)
-        out.append(Record(at, data[at], kind, decode(kind, data, at) if whole else None))
+        yield Record(at, data[at], kind, decode(kind, data, at) if whole else None)
         if not whole:
-            break
+            return
         at += kind.size
-    return out
+
+
+def records(data):
+    return list(walk(data))
 
 
 def plain(values, leave=()):
