@@ -1,6 +1,7 @@
 """What the tests of the tool share: runs of the command, folders that must stay as they were, and the count of what held."""
 import contextlib
 import os
+import re
 import shutil
 import struct
 import subprocess
@@ -28,6 +29,12 @@ def expect(name, holds, found=''):
 def content(*names):
     with open(os.path.join(ROOT, *names), 'rb') as file:
         return file.read()
+
+
+def header_constants():
+    """The numbers of include/tonekit.h by their names."""
+    header = content('include', 'tonekit.h').decode()
+    return {name: int(value, 0) for name, value in re.findall(r'TONEKIT_(\w+) = (0x[0-9a-fA-F]+|[0-9]+)', header)}
 
 
 def put(folder, name, data):

@@ -1,11 +1,10 @@
 """The table of layouts against what does not come from it: the header, generated packs, and what sheet_text writes."""
-import random
-import re
-import subprocess
 import os
+import random
+import subprocess
 
 import harness
-from harness import PACK, QUERY, SHEET, content, expect
+from harness import PACK, QUERY, SHEET, content, expect, header_constants
 from packs import Packs, joined
 
 import sheet_text_reader
@@ -31,8 +30,7 @@ def test_fields_fill_their_records():
 
 
 def test_offsets_are_the_headers():
-    header = content('include', 'tonekit.h').decode()
-    offsets = {name: int(value, 0) for name, value in re.findall(r'TONEKIT_(\w+) = (\d+|0x\w+)', header)}
+    header, offsets = content('include', 'tonekit.h').decode(), header_constants()
     for number, prefix in PREFIXES.items():
         for field in KINDS[number].fields:
             name = prefix + OTHERS[number].get(field.name, field.name.upper())
