@@ -202,7 +202,7 @@ RECORDS = (
               meaning='to the best-matching curve of the expected tone, in units of the tolerances'),
         Field(44, 'u8', 'owner', 'curve of accent', names={0: 'none'}, meaning='whose curve matches best'),
         Field(45, 'u8', 'form', 'form', names={0: 'none', **FORMS}),
-        Field(46, 'u16', 'label', 'label', meaning="the rule's"),
+        Field(46, 'u16', 'label', 'label', meaning="the rule's; 0 in a citation"),
         Field(48, 'u8', 'part', 'part', meaning='counted from 0'),
         Field(49, 'u8', 'heard', 'heard tone', names={0: 'none'}),
         Field(50, 'u8', 'delta_count', 'deltas', limit=2),

@@ -33,7 +33,7 @@ def field_words(field, values):
     if field.name == 'issues':
         return ', '.join(issue_names(values['issues'])) or 'none'
     if field.name == 'delta_kinds':
-        return '; '.join(f'{name} {amount} {unit}, {advice}' for _, name, advice, unit, amount in deltas_of(values)) or 'none'
+        return '; '.join(f'{advice} by {amount} {unit} ({name})' for _, name, advice, unit, amount in deltas_of(values)) or 'none'
     whole = values[field.name] if field.times > 1 else [values[field.name]]
     return ' '.join(value_words(field, whole[i]) for i in used(field, values)) or 'none'
 
@@ -77,7 +77,7 @@ def head(found, at):
 def line(found, at):
     """A record in one line."""
     kind, values = found[at].kind, found[at].values
-    fields = [field for field in shown(kind) if field.name != own_number(kind)]
+    fields = [field for field in shown(kind) if field.name != own_number(kind) and (used(field, values) or not field.when)]
     words = ', '.join(f'{field.word} {field_words(field, values)}' for field in fields)
     return f'{found[at].offset:6}  {head(found, at)}' + (f': {words}' if words else '')
 
