@@ -1,5 +1,6 @@
 #!/usr/bin/env python3
-"""sample.py DIR: writes sample.pack and sample.query, the bytes that the examples use, from what stands below."""
+"""sample.py DIR: writes sample.pack and sample.query, the bytes that the examples use, from what stands below. sample.pack.txt is
+the pack as a person writes it and sample.csv the pitch track of the query; tests build other queries with what stands here."""
 import os
 import struct
 import sys

@@ -4,6 +4,8 @@ import functools
 import re
 import struct
 
+from tonekit_tool.floats import nearest
+
 FORMS = ['citation', 'single', 'mixture']
 ANYWHERE, NOT_LAST, LAST = 'after', 'not at the end of a phrase after', 'at the end of a phrase after'
 EVERY = 'in every context'
@@ -71,19 +73,7 @@ def bits(text):
     """The bits of the f32 that a plain decimal reads back to: the nearest, of two the even one. Whole numbers only."""
     sign, digits = (0x80000000, text[1:]) if text.startswith('-') else (0, text)
     whole, _, part = digits.partition('.')
-    top, bottom = int(whole + part), 10 ** len(part)
-    if top == 0:
-        return sign
-    # top / bottom lies in [2^e, 2^(e + 1)), and its last bit is worth 2^unit.
-    e = top.bit_length() - bottom.bit_length()
-    if top * 2 ** max(-e, 0) < bottom * 2 ** max(e, 0):
-        e -= 1
-    unit = max(e, -126) - 23
-    quotient, rest = divmod(top * 2 ** max(-unit, 0), bottom * 2 ** max(unit, 0))
-    twice = 2 * rest - bottom * 2 ** max(unit, 0)
-    mantissa = quotient + (twice > 0 or (twice == 0 and quotient % 2))
-    # A mantissa of 2^24 carries into the exponent by itself.
-    magnitude = mantissa + (unit + 149) * 2 ** 23
+    magnitude = nearest(int(whole + part), 10 ** len(part))
     if magnitude >= 0x7F800000:
         raise OverflowError(f'{text} is past the greatest f32')
     return sign | magnitude
