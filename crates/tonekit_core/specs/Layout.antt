@@ -180,11 +180,11 @@ abbrev pub queryFrameCount : ℕ
 queryFrameCount = 44
 
 -- "4 times (tone u8, weight f32)": the first, and how far the next is
-abbrev pub variantTone : ℕ
-variantTone = 24
+abbrev pub variantTones : ℕ
+variantTones = 24
 
-abbrev pub variantWeight : ℕ
-variantWeight = 25
+abbrev pub variantWeights : ℕ
+variantWeights = 25
 
 abbrev pub variantSize : ℕ
 variantSize = 5

@@ -129,9 +129,9 @@ pub const QUERY_VARIANT_COUNT: usize = 23;
 pub const QUERY_FRAME_COUNT: usize = 44;
 
 // "4 times (tone u8, weight f32)": the first, and how far the next is
-pub const VARIANT_TONE: usize = 24;
+pub const VARIANT_TONES: usize = 24;
 
-pub const VARIANT_WEIGHT: usize = 25;
+pub const VARIANT_WEIGHTS: usize = 25;
 
 pub const VARIANT_SIZE: usize = 5;
 
