@@ -53,7 +53,7 @@ pub fn read_pack(pack: &[u8]) -> Loaded
         let k = pack[at];
         if k == layout::END_KIND {
             return Loaded {
-                read: PackRead::Good(at + 1),
+                read: PackRead::Good(at + layout::END_SIZE),
                 pack: st,
             };
         }
