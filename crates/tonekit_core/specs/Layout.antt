@@ -261,8 +261,11 @@ judgementIssues = 62
 abbrev pub judgementFirstDelta : ℕ
 judgementFirstDelta = 51
 
+abbrev pub deltaSize : ℕ
+deltaSize = 5
+
 abbrev pub judgementSecondDelta : ℕ
-judgementSecondDelta = 56
+judgementSecondDelta = judgementFirstDelta + deltaSize
 
 abbrev pub deltaAmount : ℕ
 deltaAmount = 1

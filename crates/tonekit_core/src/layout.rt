@@ -185,7 +185,9 @@ pub const JUDGEMENT_ISSUES: usize = 62;
 // "twice (kind u8, amount f32)": where each stands, and the amount behind the kind
 pub const JUDGEMENT_FIRST_DELTA: usize = 51;
 
-pub const JUDGEMENT_SECOND_DELTA: usize = 56;
+pub const DELTA_SIZE: usize = 5;
+
+pub const JUDGEMENT_SECOND_DELTA: usize = JUDGEMENT_FIRST_DELTA + DELTA_SIZE;
 
 pub const DELTA_AMOUNT: usize = 1;
 
