@@ -6,6 +6,7 @@ use lib.IntN.{pos}
 use lib.Dec.{eqb, ltb}
 use lib.ListN.{length, getD}
 use lib.Ieee.{Float, nan, fin, binary32, binary64, add, sub, mul}
+use Rattle.tonekit_core.specs.Layout.{f32Size}
 use Rattle.tonekit_float.specs.Whole.{wholePart}
 use Rattle.tonekit_float.specs.Narrow.{narrowed}
 use Rattle.tonekit_float.specs.Bounds.{In}
@@ -49,7 +50,7 @@ expanded knots = firstPoints knots 10
 -- n knots from an offset on
 unfoldable pub knotsAt : List ℕ → ℕ → ℕ → List Float
 knotsAt s o zero = []
-knotsAt s o (suc n) = knotsAt s o n ++ (f32At s (o + 4 * n) ∷ [])
+knotsAt s o (suc n) = knotsAt s o n ++ (f32At s (o + f32Size * n) ∷ [])
 
 -- the greatest point, and the least
 abbrev pub pointMost : Float

@@ -7,6 +7,8 @@ use lib.Dec.{eqb, ltb}
 use lib.ListN.{length, getD}
 use lib.Ieee.{Float}
 use Rattle.tonekit_core.specs.Loop.{Turn, next, stop, range, rangeTo, loopTo}
+use Rattle.tonekit_core.specs.Layout.{accentParent, ruleSize, ruleLabel, ruleTone, rulePrev, ruleFinal, ruleForm}
+use Rattle.tonekit_core.specs.Layout.{toneKnotCount, toneKnots, partSize, partWeight, partKnotCount, partKnots}
 use Rattle.tonekit_bytes.specs.Fields.{byteAt, u16At, f32At}
 use Rattle.tonekit_pack.specs.Ranges.{oneF}
 use Rattle.tonekit_pack.specs.Pack.{Pst, numberAt, partsFrom}
@@ -38,14 +40,17 @@ meets c x = eqb c 0 || eqb c x
 
 unfoldable pub matches : List ℕ → Context → ℕ → Bool
 unfolding meets
-matches s c r = meets (byteAt s (r + 3)) (c .tone) && (meets (byteAt s (r + 4)) (c .prev) && meets (byteAt s (r + 5)) (finalOf c))
+matches s c r =
+    meets (byteAt s (r + ruleTone)) (c .tone)
+    && (meets (byteAt s (r + rulePrev)) (c .prev) && meets (byteAt s (r + ruleFinal)) (finalOf c))
 
 -- `specificity`: "conditions stated"
 abbrev pub one-if : ℕ → ℕ
 one-if c = cond (eqb c 0) 0 1
 
 unfoldable pub specificity : List ℕ → ℕ → ℕ
-specificity s r = one-if (byteAt s (r + 3)) + one-if (byteAt s (r + 4)) + one-if (byteAt s (r + 5))
+specificity s r =
+    one-if (byteAt s (r + ruleTone)) + one-if (byteAt s (r + rulePrev)) + one-if (byteAt s (r + ruleFinal))
 
 -- "its most specific one (conditions stated), the first among equals": a later rule must state more
 abbrev pub moreThan : List ℕ → Found → ℕ → Bool
@@ -78,7 +83,7 @@ toParent (found.At j) = next j
 
 -- the place of accent i's parent
 abbrev pub parentOf : List ℕ → Pst → ℕ → Found
-parentOf s st i = indexOf s (st .accents) (byteAt s (getD (st .accents) i 0 + 2))
+parentOf s st i = indexOf s (st .accents) (byteAt s (getD (st .accents) i 0 + accentParent))
 
 abbrev pub orParent : List ℕ → Pst → ℕ → Found → Turn ℕ Winner
 orParent s st i (found.At r) = stop (winner.Rule i r)
@@ -99,7 +104,13 @@ Placed n w = (i r : ℕ) → w ≡ winner.Rule i r → (i < n) × (r < 65536)
 
 -- the rule at r, under the number of the accent whose it is, with the parts that follow it
 abbrev pub ruleListing : List ℕ → ℕ → ℕ → Listing
-ruleListing s owner r = record { owner = owner; form = byteAt s (r + 6); label = u16At s (r + 1); at = r + 7; count = partsFrom 4 s (r + 7) }
+ruleListing s owner r = record {
+  owner = owner;
+  form = byteAt s (r + ruleForm);
+  label = u16At s (r + ruleLabel);
+  at = r + ruleSize;
+  count = partsFrom 4 s (r + ruleSize);
+}
 
 -- "A citation has form 1, the graded accent as owner, label 0": that of the tone's record at o
 abbrev pub citation : ℕ → ℕ → Listing
@@ -108,7 +119,7 @@ citation owner o = record { owner = owner; form = 1; label = 0; at = o; count = 
 -- "If none matches on the chain, the tone's citation; if context only, nothing."
 abbrev pub listed : List ℕ → Pst → Context → ℕ → Winner → Look
 listed s st c o (winner.Rule i r) = look.Found (ruleListing s (numberAt s (getD (st .accents) i 0)) r)
-listed s st c o winner.Nothing = cond (eqb (byteAt s (o + 6)) 0) look.Nothing (look.Found (citation (c .accent) o))
+listed s st c o winner.Nothing = cond (eqb (byteAt s (o + toneKnotCount)) 0) look.Nothing (look.Found (citation (c .accent) o))
 
 -- the lookup, once accent and tone are found at their places
 abbrev pub lookAt : List ℕ → Pst → Context → Found → Found → Look
@@ -120,22 +131,35 @@ unfoldable pub lookUp : List ℕ → Pst → Context → Look
 unfolding findRule indexOf partsFrom
 lookUp s st c = lookAt s st c (indexOf s (st .accents) (c .accent)) (indexOf s (st .tones) (c .tone))
 
+-- the knots of the tone's record at o, and of the part's
+abbrev pub toneKnotsAt : List ℕ → ℕ → List Float
+toneKnotsAt s o = knotsAt s (o + toneKnots) (byteAt s (o + toneKnotCount))
+
+abbrev pub partKnotsAt : List ℕ → ℕ → List Float
+partKnotsAt s o = knotsAt s (o + partKnots) (byteAt s (o + partKnotCount))
+
 -- component j of a listing. A citation has weight 1 and its knots in the tone's record; a part has both in its own. "Part number": its place in a mixture
 unfoldable pub componentOf : List ℕ → Listing → ℕ → Component
 unfolding knotsAt
 componentOf s l j =
     cond (eqb (l .form) 1)
-    (record { owner = l .owner; form = l .form; label = l .label; part = 0; weight = oneF; points = expanded (knotsAt s (l .at + 7) (byteAt s (l .at + 6))) })
-    (record { owner = l .owner; form = l .form; label = l .label; part = cond (eqb (l .form) 3) j 0; weight = f32At s (l .at + 46 * j + 1); points = expanded (knotsAt s (l .at + 46 * j + 6) (byteAt s (l .at + 46 * j + 5))) })
+    (record { owner = l .owner; form = l .form; label = l .label; part = 0; weight = oneF; points = expanded (toneKnotsAt s (l .at)) })
+    (record {
+      owner = l .owner;
+      form = l .form;
+      label = l .label;
+      part = cond (eqb (l .form) 3) j 0;
+      weight = f32At s (l .at + partSize * j + partWeight);
+      points = expanded (partKnotsAt s (l .at + partSize * j));
+    })
 
 -- its knots
 abbrev pub knotsOf : List ℕ → Listing → ℕ → List Float
 knotsOf s l j =
-    cond (eqb (l .form) 1) (knotsAt s (l .at + 7) (byteAt s (l .at + 6)))
-    (knotsAt s (l .at + 46 * j + 6) (byteAt s (l .at + 46 * j + 5)))
+    cond (eqb (l .form) 1) (toneKnotsAt s (l .at)) (partKnotsAt s (l .at + partSize * j))
 
 -- component j can be read, as in each listing that a pack that loads gives: it stands within the bytes, and its knots are in their ranges
 pub record Listed (s : List ℕ) (l : Listing) (j : ℕ) : Type 0 where
-  pub inside : l .at + 46 * j + 46 ≤ length s
+  pub inside : l .at + partSize * j + partSize ≤ length s
   pub few : j < 4
   pub curve : Knots (knotsOf s l j)

@@ -5,6 +5,8 @@ use mathlib.Core.List.{List, [], _∷_, _++_, map}
 use mathlib.Core.Option.{Option, none, some}
 use lib.Dec.{eqb}
 use lib.Ieee.{binary32, toBits}
+use Rattle.tonekit_core.specs.Layout.{settingsTemperature, settingsThreshold, tonePrior, toneRegion, toneFrom, toneTo}
+use Rattle.tonekit_core.specs.Layout.{accentContour, accentOnset, accentOffset, accentTurning}
 use Rattle.tonekit_bytes.specs.Fields.{byteAt, u32At}
 use Rattle.tonekit_pack.specs.Pack.{Pst, numberAt}
 use Rattle.tonekit_expect.specs.Lookup.{lookUp, componentOf}
@@ -75,13 +77,25 @@ given s look.Nothing = none
 given s (look.Found l) = some (components s l (l .count))
 
 abbrev pub settingsAt : List ℕ → ℕ → Settings
-settingsAt s o = record { temperature = u32At s (o + 1); threshold = u32At s (o + 5) }
+settingsAt s o = record { temperature = u32At s (o + settingsTemperature); threshold = u32At s (o + settingsThreshold) }
 
 abbrev pub toneAt : List ℕ → ℕ → Tone
-toneAt s o = record { number = numberAt s o; prior = u32At s (o + 2); flag = byteAt s (o + 47); from = u32At s (o + 48); to = u32At s (o + 52) }
+toneAt s o = record {
+  number = numberAt s o;
+  prior = u32At s (o + tonePrior);
+  flag = byteAt s (o + toneRegion);
+  from = u32At s (o + toneFrom);
+  to = u32At s (o + toneTo);
+}
 
 abbrev pub accentAt : List ℕ → ℕ → Accent
-accentAt s o = record { number = numberAt s o; contour = u32At s (o + 3); onset = u32At s (o + 7); offset = u32At s (o + 11); turning = u32At s (o + 15) }
+accentAt s o = record {
+  number = numberAt s o;
+  contour = u32At s (o + accentContour);
+  onset = u32At s (o + accentOnset);
+  offset = u32At s (o + accentOffset);
+  turning = u32At s (o + accentTurning);
+}
 
 -- what a pack that was read holds
 unfoldable pub sourceOfPack : List ℕ → Pst → Source

@@ -14,6 +14,7 @@ ghost use Rattle.tonekit_expect.specs.Lookup.{indexOf, finalOf, meets, m
 use tonekit_bytes::byte_at;
 use tonekit_bytes::f32_at;
 use tonekit_bytes::u16_at;
+use tonekit_core::layout;
 use tonekit_float::f64_of;
 use tonekit_float::floor_index;
 use tonekit_float::narrow;
@@ -79,7 +80,7 @@ fn index_of(s: &[u8], at: &[u16; 8], count: usize, n: u8) -> Found
     ensures { λ r. ⌜ r ≡ indexOf (now (s .entry)) (inOrder (now (at .entry)) count) n ⌝ }
 {
     for i in 0..count {
-        if byte_at(s, wide(at[i]), 1) == n {
+        if byte_at(s, wide(at[i]), layout::OWN_NUMBER) == n {
             return Found::At(i);
         }
     }
@@ -124,9 +125,9 @@ fn final_of(c: Context) -> u8
 fn matches(s: &[u8], c: Context, r: usize) -> bool
     ensures { λ b. ⌜ b ≡ matches (now (s .entry)) c r ⌝ }
 {
-    if meets(byte_at(s, r, 3), c.tone) {
-        if meets(byte_at(s, r, 4), c.prev) {
-            return meets(byte_at(s, r, 5), final_of(c));
+    if meets(byte_at(s, r, layout::RULE_TONE), c.tone) {
+        if meets(byte_at(s, r, layout::RULE_PREV), c.prev) {
+            return meets(byte_at(s, r, layout::RULE_FINAL), final_of(c));
         }
     }
     false
@@ -143,7 +144,9 @@ fn one_if(c: u8) -> usize
 fn specificity(s: &[u8], r: usize) -> usize
     ensures { λ n. ⌜ n ≡ specificity (now (s .entry)) r ⌝ }
 {
-    one_if(byte_at(s, r, 3)) + one_if(byte_at(s, r, 4)) + one_if(byte_at(s, r, 5))
+    one_if(byte_at(s, r, layout::RULE_TONE))
+        + one_if(byte_at(s, r, layout::RULE_PREV))
+        + one_if(byte_at(s, r, layout::RULE_FINAL))
 }
 
 // The rule at r where it matches and states more than the best so far, else that one.
@@ -204,7 +207,12 @@ fn parent_index(s: &[u8], p: Pack, i: usize) -> Found
     ensures { λ r. ⌜ r ≡ parentOf (now (s .entry)) (shown p) i ⌝ }
 {
     let o = p.accentat[i] as usize;
-    index_of(s, &p.accentat, p.accents, byte_at(s, o, 2))
+    index_of(
+        s,
+        &p.accentat,
+        p.accents,
+        byte_at(s, o, layout::ACCENT_PARENT),
+    )
 }
 
 // The rule that a walk from accent i up its parents ends with: the best of the first accent that has
@@ -237,7 +245,7 @@ fn parts_from(s: &[u8], o: usize) -> usize
 {
     let mut n: usize = 0;
     while n < 4 {
-        if byte_at(s, o, 46 * n) == 5 {
+        if byte_at(s, o, layout::PART_SIZE * n) == layout::PART_KIND {
             n += 1;
         } else {
             return n;
@@ -251,9 +259,9 @@ pub fn rule_listing(s: &[u8], owner: u8, r: usize) -> Listing
     requires { ⌜ r < 65536 ⌝ }
     ensures { λ l. ⌜ l ≡ ruleListing (now (s .entry)) owner r ⌝ }
 {
-    let form = byte_at(s, r, 6);
-    let label = u16_at(s, r, 1);
-    let at = r + 7;
+    let form = byte_at(s, r, layout::RULE_FORM);
+    let label = u16_at(s, r, layout::RULE_LABEL);
+    let at = r + layout::RULE_SIZE;
     let count = parts_from(s, at);
     Listing {
         owner: owner,
@@ -272,10 +280,10 @@ fn listing_of(s: &[u8], p: Pack, c: Context, o: usize, w: Winner) -> Look
     match w {
         Winner::Rule(i, r) => {
             let a = p.accentat[i] as usize;
-            Look::Found(rule_listing(s, byte_at(s, a, 1), r))
+            Look::Found(rule_listing(s, byte_at(s, a, layout::OWN_NUMBER), r))
         }
         Winner::Nothing => {
-            if byte_at(s, o, 6) == 0 {
+            if byte_at(s, o, layout::TONE_KNOT_COUNT) == 0 {
                 return Look::Nothing;
             }
             Look::Found(Listing {
@@ -369,7 +377,7 @@ fn points_at(s: &[u8], o: usize, n: usize) -> [f32; 10]
 {
     let mut knots = [0.0f32; 10];
     for k in 0..n {
-        knots[k] = f32_at(s, o, 4 * k);
+        knots[k] = f32_at(s, o, layout::F32_SIZE * k);
     }
     expand_knots(&knots[..n])
 }
@@ -384,8 +392,8 @@ pub fn component_at(s: &[u8], l: Listing, j: usize) -> Component
     let form = l.form;
     let label = l.label;
     if form == 1 {
-        let n = byte_at(s, l.at, 6) as usize;
-        let points = points_at(s, l.at + 7, n);
+        let n = byte_at(s, l.at, layout::TONE_KNOT_COUNT) as usize;
+        let points = points_at(s, l.at + layout::TONE_KNOTS, n);
         return Component {
             owner: owner,
             form: form,
@@ -395,10 +403,10 @@ pub fn component_at(s: &[u8], l: Listing, j: usize) -> Component
             points: points,
         };
     }
-    let o = l.at + 46 * j;
-    let n = byte_at(s, o, 5) as usize;
-    let points = points_at(s, o + 6, n);
-    let weight = f32_at(s, o, 1);
+    let o = l.at + layout::PART_SIZE * j;
+    let n = byte_at(s, o, layout::PART_KNOT_COUNT) as usize;
+    let points = points_at(s, o + layout::PART_KNOTS, n);
+    let weight = f32_at(s, o, layout::PART_WEIGHT);
     Component {
         owner: owner,
         form: form,

@@ -5,6 +5,11 @@ use mathlib.Core.List.{List, [], _∷_, _++_}
 use lib.Dec.{eqb, leb, ltb}
 use lib.ListN.{length, getD}
 use Rattle.tonekit_core.specs.Loop.{Turn, next, stop, loopTo}
+use Rattle.tonekit_core.specs.Layout.{settingsKind, settingsSize, settingsTemperature, settingsThreshold}
+use Rattle.tonekit_core.specs.Layout.{ownNumber, toneKind, toneSize, tonePrior, toneKnotCount, toneKnots, toneRegion}
+use Rattle.tonekit_core.specs.Layout.{accentKind, accentSize, accentParent, accentContour}
+use Rattle.tonekit_core.specs.Layout.{ruleKind, ruleSize, ruleTone, rulePrev, ruleFinal, ruleForm}
+use Rattle.tonekit_core.specs.Layout.{partKind, partSize, partWeight, partKnotCount, partKnots, endKind, endSize}
 use Rattle.tonekit_core.specs.declared.Refusal.{Refusal}
 use Rattle.tonekit_core.specs.declared.Refusal.the-variants.{Misplaced, CutShort, Overrun, Crowded, OffScale, Doubled, Loose}
 use Rattle.tonekit_core.specs.declared.Verdict.{Verdict}
@@ -33,25 +38,25 @@ pub data Out : Type 0 where
 -- "Order: Settings, Tones, then each Accent with its Rules, each Rule with its Parts, End": 1 to 8 tones, 1 to 8 accents, 1 to 4 parts a rule
 unfoldable pub dueAfter : ℕ → ℕ → Bool
 dueAfter last k =
-    cond (eqb k 1) (eqb last 0)
-    (cond (eqb k 2) (eqb last 1 || eqb last 2)
-    (cond (eqb k 3) (eqb last 2 || (eqb last 3 || eqb last 5))
-    (cond (eqb k 4) (eqb last 3 || eqb last 5)
-    (cond (eqb k 5) (eqb last 4 || eqb last 5)
-    (eqb k 6 && (eqb last 3 || eqb last 5))))))
+    cond (eqb k settingsKind) (eqb last 0)
+    (cond (eqb k toneKind) (eqb last settingsKind || eqb last toneKind)
+    (cond (eqb k accentKind) (eqb last toneKind || (eqb last accentKind || eqb last partKind))
+    (cond (eqb k ruleKind) (eqb last accentKind || eqb last partKind)
+    (cond (eqb k partKind) (eqb last ruleKind || eqb last partKind)
+    (eqb k endKind && (eqb last accentKind || eqb last partKind))))))
 
 -- the bytes of a record of each kind
 unfoldable pub sizeOf : ℕ → ℕ
 sizeOf k =
-    cond (eqb k 1) 9
-    (cond (eqb k 2) 56
-    (cond (eqb k 3) 19
-    (cond (eqb k 4) 7
-    (cond (eqb k 5) 46 1))))
+    cond (eqb k settingsKind) settingsSize
+    (cond (eqb k toneKind) toneSize
+    (cond (eqb k accentKind) accentSize
+    (cond (eqb k ruleKind) ruleSize
+    (cond (eqb k partKind) partSize endSize))))
 
 -- the number of a tone's or an accent's record: its own
 abbrev pub numberAt : List ℕ → ℕ → ℕ
-numberAt s o = byteAt s (o + 1)
+numberAt s o = byteAt s (o + ownNumber)
 
 -- "A tone is held if a tone record of the pack gives its number as its own, an accent if an accent record does": number n among the records at these offsets
 unfoldable pub holds : List ℕ → List ℕ → ℕ → Bool
@@ -72,14 +77,17 @@ inTurn crowded fine new held =
     (cond (not held) (verdict.Refused Loose) verdict.Fine)))
 
 unfoldable pub settingsVerdict : List ℕ → ℕ → Verdict
-settingsVerdict s o = inTurn false (aboveZero (f32At s (o + 1)) && aShare (f32At s (o + 5))) true true
+settingsVerdict s o =
+    inTurn false (aboveZero (f32At s (o + settingsTemperature)) && aShare (f32At s (o + settingsThreshold))) true true
 
 -- number, prior, knot count, ten slots, region
 abbrev pub toneCrowded : List ℕ → ℕ → Pst → Bool
-toneCrowded s o st = leb 8 (length (st .tones)) || ltb 10 (byteAt s (o + 6))
+toneCrowded s o st = leb 8 (length (st .tones)) || ltb 10 (byteAt s (o + toneKnotCount))
 
 abbrev pub toneFine : List ℕ → ℕ → Bool
-toneFine s o = not (eqb (numberAt s o) 0) && (aShare (f32At s (o + 2)) && (knotsFine s (o + 7) (byteAt s (o + 6)) && regionFine s (o + 47)))
+toneFine s o =
+    not (eqb (numberAt s o) 0)
+    && (aShare (f32At s (o + tonePrior)) && (knotsFine s (o + toneKnots) (byteAt s (o + toneKnotCount)) && regionFine s (o + toneRegion)))
 
 unfoldable pub toneVerdict : List ℕ → ℕ → Pst → Verdict
 unfolding holds
@@ -87,7 +95,7 @@ toneVerdict s o st = inTurn (toneCrowded s o st) (toneFine s o) (not (holds s (s
 
 -- number, parent ("A parent stands earlier in the file"), tolerances
 abbrev pub accentFine : List ℕ → ℕ → Bool
-accentFine s o = not (eqb (numberAt s o) 0) && tolerancesFine s (o + 3)
+accentFine s o = not (eqb (numberAt s o) 0) && tolerancesFine s (o + accentContour)
 
 unfoldable pub accentVerdict : List ℕ → ℕ → Pst → Verdict
 unfolding holds zeroOrHeld
@@ -96,14 +104,16 @@ accentVerdict s o st =
     (leb 8 (length (st .accents)))
     (accentFine s o)
     (not (holds s (st .accents) (numberAt s o)))
-    (zeroOrHeld s (st .accents) (byteAt s (o + 2)))
+    (zeroOrHeld s (st .accents) (byteAt s (o + accentParent)))
 
 -- label, tone, prev, final ("0 any, 1 no, 2 yes"), form ("2 is single, 3 mixture")
 abbrev pub ruleFine : List ℕ → ℕ → Bool
-ruleFine s o = leb (byteAt s (o + 5)) 2 && (eqb (byteAt s (o + 6)) 2 || eqb (byteAt s (o + 6)) 3)
+ruleFine s o =
+    leb (byteAt s (o + ruleFinal)) 2 && (eqb (byteAt s (o + ruleForm)) 2 || eqb (byteAt s (o + ruleForm)) 3)
 
 abbrev pub ruleHeld : List ℕ → ℕ → Pst → Bool
-ruleHeld s o st = zeroOrHeld s (st .tones) (byteAt s (o + 3)) && zeroOrHeld s (st .tones) (byteAt s (o + 4))
+ruleHeld s o st =
+    zeroOrHeld s (st .tones) (byteAt s (o + ruleTone)) && zeroOrHeld s (st .tones) (byteAt s (o + rulePrev))
 
 unfoldable pub ruleVerdict : List ℕ → ℕ → Pst → Verdict
 unfolding zeroOrHeld
@@ -115,14 +125,18 @@ lastRule st = getD (st .rules) (length (st .rules) - 1) 0
 
 -- "Form 2 is single"
 abbrev pub single : List ℕ → Pst → Bool
-single s st = eqb (byteAt s (lastRule st + 6)) 2
+single s st = eqb (byteAt s (lastRule st + ruleForm)) 2
 
 -- weight, knot count, ten slots. Of a single rule "its part's weight is 1, else 5; a second part is 4"
 abbrev pub partCrowded : List ℕ → ℕ → Pst → Bool
-partCrowded s o st = leb 4 (st .parts) || (leb 128 (st .total) || ((single s st && leb 1 (st .parts)) || ltb 10 (byteAt s (o + 5))))
+partCrowded s o st =
+    leb 4 (st .parts) || (leb 128 (st .total) || ((single s st && leb 1 (st .parts)) || ltb 10 (byteAt s (o + partKnotCount))))
 
 abbrev pub partFine : Bool → List ℕ → ℕ → Bool
-partFine one s o = weightFine (u32At s (o + 1)) && ((not one || eqb (u32At s (o + 1)) 0x3f80_0000) && (not (eqb (byteAt s (o + 5)) 0) && knotsFine s (o + 6) (byteAt s (o + 5))))
+partFine one s o =
+    weightFine (u32At s (o + partWeight))
+    && ((not one || eqb (u32At s (o + partWeight)) 0x3f80_0000)
+    && (not (eqb (byteAt s (o + partKnotCount)) 0) && knotsFine s (o + partKnots) (byteAt s (o + partKnotCount))))
 
 unfoldable pub partVerdict : List ℕ → ℕ → Pst → Verdict
 partVerdict s o st = inTurn (partCrowded s o st) (partFine (single s st) s o) true true
@@ -130,11 +144,11 @@ partVerdict s o st = inTurn (partCrowded s o st) (partFine (single s st) s o) tr
 unfoldable pub bodyVerdict : ℕ → List ℕ → ℕ → Pst → Verdict
 unfolding settingsVerdict toneVerdict accentVerdict ruleVerdict partVerdict
 bodyVerdict k s o st =
-    cond (eqb k 1) (settingsVerdict s o)
-    (cond (eqb k 2) (toneVerdict s o st)
-    (cond (eqb k 3) (accentVerdict s o st)
-    (cond (eqb k 4) (ruleVerdict s o st)
-    (cond (eqb k 5) (partVerdict s o st) verdict.Fine))))
+    cond (eqb k settingsKind) (settingsVerdict s o)
+    (cond (eqb k toneKind) (toneVerdict s o st)
+    (cond (eqb k accentKind) (accentVerdict s o st)
+    (cond (eqb k ruleKind) (ruleVerdict s o st)
+    (cond (eqb k partKind) (partVerdict s o st) verdict.Fine))))
 
 -- "in each 1, 2, 4, 5, 6, 7"; past the input's end a due record is missing: 2
 unfoldable pub recordVerdict : List ℕ → ℕ → Pst → Verdict
@@ -148,16 +162,20 @@ recordVerdict s o st =
 -- what has been read once the record of kind k at o is fine
 unfoldable pub added : ℕ → ℕ → Pst → Pst
 added k o st =
-    cond (eqb k 2) (record { last = k; tones = st .tones ++ (o ∷ []); accents = st .accents; firsts = st .firsts; rules = st .rules; parts = st .parts; total = st .total })
-    (cond (eqb k 3) (record { last = k; tones = st .tones; accents = st .accents ++ (o ∷ []); firsts = st .firsts ++ (length (st .rules) ∷ []); rules = st .rules; parts = st .parts; total = st .total })
-    (cond (eqb k 4) (record { last = k; tones = st .tones; accents = st .accents; firsts = st .firsts; rules = st .rules ++ (o ∷ []); parts = 0; total = st .total })
-    (cond (eqb k 5) (record { last = k; tones = st .tones; accents = st .accents; firsts = st .firsts; rules = st .rules; parts = st .parts + 1; total = st .total + 1 })
+    cond (eqb k toneKind)
+    (record { last = k; tones = st .tones ++ (o ∷ []); accents = st .accents; firsts = st .firsts; rules = st .rules; parts = st .parts; total = st .total })
+    (cond (eqb k accentKind)
+    (record { last = k; tones = st .tones; accents = st .accents ++ (o ∷ []); firsts = st .firsts ++ (length (st .rules) ∷ []); rules = st .rules; parts = st .parts; total = st .total })
+    (cond (eqb k ruleKind)
+    (record { last = k; tones = st .tones; accents = st .accents; firsts = st .firsts; rules = st .rules ++ (o ∷ []); parts = 0; total = st .total })
+    (cond (eqb k partKind)
+    (record { last = k; tones = st .tones; accents = st .accents; firsts = st .firsts; rules = st .rules; parts = st .parts + 1; total = st .total + 1 })
     (record { last = k; tones = st .tones; accents = st .accents; firsts = st .firsts; rules = st .rules; parts = st .parts; total = st .total }))))
 
 -- "each Rule with its Parts": the parts that stand from an offset on, at most n
 unfoldable pub partsFrom : ℕ → List ℕ → ℕ → ℕ
 partsFrom zero s o = 0
-partsFrom (suc n) s o = cond (eqb (byteAt s o) 5) (suc (partsFrom n s (o + 46))) 0
+partsFrom (suc n) s o = cond (eqb (byteAt s o) partKind) (suc (partsFrom n s (o + partSize))) 0
 
 -- a place in the pack: the offset of the record due, and what stood before it
 pub record Here : Type 0 where
@@ -168,7 +186,7 @@ pub record Here : Type 0 where
 abbrev pub onVerdict : List ℕ → Here → Verdict → Turn Here Out
 onVerdict s h (verdict.Refused r) = stop (refused r (h .at))
 onVerdict s h verdict.Fine =
-    cond (eqb (byteAt s (h .at)) 6) (stop (loaded (h .st) (h .at + 1)))
+    cond (eqb (byteAt s (h .at)) endKind) (stop (loaded (h .st) (h .at + endSize)))
     (next (record { at = h .at + sizeOf (byteAt s (h .at)); st = added (byteAt s (h .at)) (h .at) (h .st) }))
 
 abbrev pub recordTurn : List ℕ → Here → Turn Here Out

@@ -7,6 +7,7 @@ use lib.IntN.{pos}
 use lib.Ieee.{Float, inf, fin, lt, le}
 use lib.Ieee.Scale.{finite}
 use Rattle.tonekit_core.specs.Loop.{range}
+use Rattle.tonekit_core.specs.Layout.{f32Size, regionFrom, regionTo, toleranceOnset, toleranceOffset, toleranceTurning}
 use Rattle.tonekit_bytes.specs.Fields.{byteAt, u32At, f32At}
 
 abbrev pub zeroF : Float
@@ -37,7 +38,7 @@ weightFine bits = ltb bits 0x7f80_0000
 -- ten slots from an offset on, of which the first n are knots; "unused slots are zero bytes"
 unfoldable pub slotFine : List ℕ → ℕ → ℕ → ℕ → Bool
 unfolding knotFine
-slotFine s o n k = cond (ltb k n) (knotFine (f32At s (o + 4 * k))) (eqb (u32At s (o + 4 * k)) 0)
+slotFine s o n k = cond (ltb k n) (knotFine (f32At s (o + f32Size * k))) (eqb (u32At s (o + f32Size * k)) 0)
 
 abbrev pub slotTurn : List ℕ → ℕ → ℕ → ℕ → Bool → Bool
 slotTurn s o n k ok = ok && slotFine s o n k
@@ -49,11 +50,11 @@ knotsFine s o n = range (slotTurn s o n) 0 10 true
 -- "flag 0 or 1; regions finite, from ≤ to"; "from and to where the flag is 0, are zero bytes". The flag stands at o, from and to behind it
 unfoldable pub regionFine : List ℕ → ℕ → Bool
 regionFine s o =
-    cond (eqb (byteAt s o) 0) (eqb (u32At s (o + 1)) 0 && eqb (u32At s (o + 5)) 0)
-    (eqb (byteAt s o) 1 && (finite (f32At s (o + 1)) && (finite (f32At s (o + 5)) && le (f32At s (o + 1)) (f32At s (o + 5)))))
+    cond (eqb (byteAt s o) 0) (eqb (u32At s (o + regionFrom)) 0 && eqb (u32At s (o + regionTo)) 0)
+    (eqb (byteAt s o) 1 && (finite (f32At s (o + regionFrom)) && (finite (f32At s (o + regionTo)) && le (f32At s (o + regionFrom)) (f32At s (o + regionTo)))))
 
 -- the four tolerances from an offset on
 unfoldable pub tolerancesFine : List ℕ → ℕ → Bool
 unfolding aboveZero
 tolerancesFine s o =
-    aboveZero (f32At s o) && (aboveZero (f32At s (o + 4)) && (aboveZero (f32At s (o + 8)) && aboveZero (f32At s (o + 12))))
+    aboveZero (f32At s o) && (aboveZero (f32At s (o + toleranceOnset)) && (aboveZero (f32At s (o + toleranceOffset)) && aboveZero (f32At s (o + toleranceTurning))))

@@ -5,6 +5,7 @@ ghost use Rattle.tonekit_pack.specs.Ranges.{aboveZero, aShare, knotFine,
 use tonekit_bytes::byte_at;
 use tonekit_bytes::f32_at;
 use tonekit_bytes::u32_at;
+use tonekit_core::layout;
 use tonekit_float::is_finite_f32;
 
 // Finite and above 0.
@@ -41,9 +42,9 @@ fn slot_fine(s: &[u8], o: usize, n: u8, k: usize) -> bool
     ensures { λ r. ⌜ r ≡ slotFine (now (s .entry)) o n k ⌝ }
 {
     if k < n as usize {
-        return knot_fine(f32_at(s, o, 4 * k));
+        return knot_fine(f32_at(s, o, layout::F32_SIZE * k));
     }
-    u32_at(s, o, 4 * k) == 0
+    u32_at(s, o, layout::F32_SIZE * k) == 0
 }
 
 // Ten slots from o on, of which the first n are knots.
@@ -63,10 +64,10 @@ pub fn region_fine(s: &[u8], o: usize) -> bool
 {
     let flag = byte_at(s, o, 0);
     if flag == 0 {
-        return (u32_at(s, o, 1) == 0) & (u32_at(s, o, 5) == 0);
+        return (u32_at(s, o, layout::REGION_FROM) == 0) & (u32_at(s, o, layout::REGION_TO) == 0);
     }
-    let from = f32_at(s, o, 1);
-    let to = f32_at(s, o, 5);
+    let from = f32_at(s, o, layout::REGION_FROM);
+    let to = f32_at(s, o, layout::REGION_TO);
     (flag == 1) & (is_finite_f32(from) & (is_finite_f32(to) & (from <= to)))
 }
 
@@ -75,8 +76,8 @@ pub fn tolerances_fine(s: &[u8], o: usize) -> bool
     ensures { λ r. ⌜ r ≡ tolerancesFine (now (s .entry)) o ⌝ }
 {
     let contour = f32_at(s, o, 0);
-    let onset = f32_at(s, o, 4);
-    let offset = f32_at(s, o, 8);
-    let turning = f32_at(s, o, 12);
+    let onset = f32_at(s, o, layout::TOLERANCE_ONSET);
+    let offset = f32_at(s, o, layout::TOLERANCE_OFFSET);
+    let turning = f32_at(s, o, layout::TOLERANCE_TURNING);
     above_zero(contour) & (above_zero(onset) & (above_zero(offset) & above_zero(turning)))
 }

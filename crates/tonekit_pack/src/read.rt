@@ -2,6 +2,7 @@
 ghost use mathlib.Core.Path.{_≡_};
 ghost use Prim.Native.Nat.{_+_, _<_, _≤_};
 ghost use lib.ListN.{length};
+ghost use Rattle.tonekit_core.specs.Layout.{toneSize, accentSize, partSize, toneKind, accentKind, ruleKind, partKind};
 ghost use Rattle.tonekit_pack.specs.Pack.{dueAfter, sizeOf, holds, zeroOrHeld, inTurn, settingsVerdict, toneVerdict, accentVerdict, ruleVerdict, lastRule, single, partVerdict, bodyVerdict, recordVerdict, added, start};
 ghost use Rattle.tonekit_pack.specs.Held.{inOrder, shown, Roomy};
 use crate::Pack;
@@ -16,6 +17,7 @@ use tonekit_bytes::f32_at;
 use tonekit_bytes::u32_at;
 use tonekit_core::Refusal;
 use tonekit_core::Verdict;
+use tonekit_core::layout;
 use tonekit_core::limits;
 
 // Whether a record of kind k may follow one of kind last (0 at the start).
@@ -23,12 +25,13 @@ fn due(last: u8, k: u8) -> bool
     ensures { λ r. ⌜ r ≡ dueAfter last k ⌝ }
 {
     match k {
-        1 => last == 0,
-        2 => (last == 1) | (last == 2),
-        3 => (last == 2) | ((last == 3) | (last == 5)),
-        4 => (last == 3) | (last == 5),
-        5 => (last == 4) | (last == 5),
-        6 => (last == 3) | (last == 5),
+        layout::SETTINGS_KIND => last == 0,
+        layout::TONE_KIND => (last == layout::SETTINGS_KIND) | (last == layout::TONE_KIND),
+        layout::ACCENT_KIND => (last == layout::TONE_KIND)
+            | ((last == layout::ACCENT_KIND) | (last == layout::PART_KIND)),
+        layout::RULE_KIND => (last == layout::ACCENT_KIND) | (last == layout::PART_KIND),
+        layout::PART_KIND => (last == layout::RULE_KIND) | (last == layout::PART_KIND),
+        layout::END_KIND => (last == layout::ACCENT_KIND) | (last == layout::PART_KIND),
         _ => false,
     }
 }
@@ -38,12 +41,12 @@ pub fn size_of(k: u8) -> usize
     ensures { λ r. ⌜ r ≡ sizeOf k ⌝ }
 {
     match k {
-        1 => 9,
-        2 => 56,
-        3 => 19,
-        4 => 7,
-        5 => 46,
-        _ => 1,
+        layout::SETTINGS_KIND => layout::SETTINGS_SIZE,
+        layout::TONE_KIND => layout::TONE_SIZE,
+        layout::ACCENT_KIND => layout::ACCENT_SIZE,
+        layout::RULE_KIND => layout::RULE_SIZE,
+        layout::PART_KIND => layout::PART_SIZE,
+        _ => layout::END_SIZE,
     }
 }
 
@@ -61,7 +64,7 @@ fn holds(s: &[u8], at: [u16; 8], n: usize, x: u8) -> bool
 {
     let mut i: usize = 0;
     while i < n {
-        if byte_at(s, index_of(at[i]), 1) == x {
+        if byte_at(s, index_of(at[i]), layout::OWN_NUMBER) == x {
             return true;
         }
         i += 1;
@@ -100,21 +103,22 @@ pub fn in_turn(crowded: bool, fine: bool, new: bool, held: bool) -> Verdict
 pub fn settings_verdict(s: &[u8], o: usize) -> Verdict
     ensures { λ r. ⌜ r ≡ settingsVerdict (now (s .entry)) o ⌝ }
 {
-    let fine = above_zero(f32_at(s, o, 1)) & a_share(f32_at(s, o, 5));
+    let fine = above_zero(f32_at(s, o, layout::SETTINGS_TEMPERATURE))
+        & a_share(f32_at(s, o, layout::SETTINGS_THRESHOLD));
     in_turn(false, fine, true, true)
 }
 
 fn tone_verdict(s: &[u8], o: usize, st: Pack) -> Verdict
-    requires { ⌜ Roomy st × (o + 56 ≤ length (now s)) ⌝ }
+    requires { ⌜ Roomy st × (o + toneSize ≤ length (now s)) ⌝ }
     ensures { λ r. ⌜ r ≡ toneVerdict (now (s .entry)) o (shown st) ⌝ }
 {
     let at = st.toneat;
     let n = st.tones;
-    let number = byte_at(s, o, 1);
-    let share = a_share(f32_at(s, o, 2));
-    let knots = byte_at(s, o, 6);
-    let curve = knots_fine(s, o + 7, knots);
-    let region = region_fine(s, o + 47);
+    let number = byte_at(s, o, layout::OWN_NUMBER);
+    let share = a_share(f32_at(s, o, layout::TONE_PRIOR));
+    let knots = byte_at(s, o, layout::TONE_KNOT_COUNT);
+    let curve = knots_fine(s, o + layout::TONE_KNOTS, knots);
+    let region = region_fine(s, o + layout::TONE_REGION);
     let crowded = (limits::TONES <= n) | (limits::KNOTS < knots);
     let fine = (number != 0) & (share & (curve & region));
     let new = !holds(s, at, n, number);
@@ -122,14 +126,14 @@ fn tone_verdict(s: &[u8], o: usize, st: Pack) -> Verdict
 }
 
 fn accent_verdict(s: &[u8], o: usize, st: Pack) -> Verdict
-    requires { ⌜ Roomy st × (o + 19 ≤ length (now s)) ⌝ }
+    requires { ⌜ Roomy st × (o + accentSize ≤ length (now s)) ⌝ }
     ensures { λ r. ⌜ r ≡ accentVerdict (now (s .entry)) o (shown st) ⌝ }
 {
     let at = st.accentat;
     let n = st.accents;
-    let number = byte_at(s, o, 1);
-    let parent = byte_at(s, o, 2);
-    let fine = (number != 0) & tolerances_fine(s, o + 3);
+    let number = byte_at(s, o, layout::OWN_NUMBER);
+    let parent = byte_at(s, o, layout::ACCENT_PARENT);
+    let fine = (number != 0) & tolerances_fine(s, o + layout::ACCENT_CONTOUR);
     let new = !holds(s, at, n, number);
     in_turn(
         limits::ACCENTS <= n,
@@ -145,10 +149,10 @@ fn rule_verdict(s: &[u8], o: usize, st: Pack) -> Verdict
 {
     let at = st.toneat;
     let n = st.tones;
-    let tone = byte_at(s, o, 3);
-    let prev = byte_at(s, o, 4);
-    let last = byte_at(s, o, 5);
-    let form = byte_at(s, o, 6);
+    let tone = byte_at(s, o, layout::RULE_TONE);
+    let prev = byte_at(s, o, layout::RULE_PREV);
+    let last = byte_at(s, o, layout::RULE_FINAL);
+    let form = byte_at(s, o, layout::RULE_FORM);
     let fine = (last <= 2) & ((form == 2) | (form == 3));
     let held = zero_or_held(s, at, n, tone) & zero_or_held(s, at, n, prev);
     in_turn(limits::RULES <= st.rules, fine, true, held)
@@ -172,17 +176,17 @@ fn single(s: &[u8], st: Pack) -> bool
     requires { ⌜ Roomy st ⌝ }
     ensures { λ r. ⌜ r ≡ single (now (s .entry)) (shown st) ⌝ }
 {
-    byte_at(s, last_rule(st), 6) == 2
+    byte_at(s, last_rule(st), layout::RULE_FORM) == 2
 }
 
 fn part_verdict(s: &[u8], o: usize, st: Pack) -> Verdict
-    requires { ⌜ Roomy st × (o + 46 ≤ length (now s)) ⌝ }
+    requires { ⌜ Roomy st × (o + partSize ≤ length (now s)) ⌝ }
     ensures { λ r. ⌜ r ≡ partVerdict (now (s .entry)) o (shown st) ⌝ }
 {
-    let weight = u32_at(s, o, 1);
-    let knots = byte_at(s, o, 5);
+    let weight = u32_at(s, o, layout::PART_WEIGHT);
+    let knots = byte_at(s, o, layout::PART_KNOT_COUNT);
     let one = single(s, st);
-    let curve = knots_fine(s, o + 6, knots);
+    let curve = knots_fine(s, o + layout::PART_KNOTS, knots);
     let crowded = (limits::PARTS_OF_A_RULE <= st.parts)
         | ((limits::PARTS <= st.total) | ((one & (1 <= st.parts)) | (limits::KNOTS < knots)));
     let fine = weight_fine(weight) & ((!one | (weight == 0x3f80_0000)) & ((knots != 0) & curve));
@@ -194,11 +198,11 @@ fn body_verdict(k: u8, s: &[u8], o: usize, st: Pack) -> Verdict
     ensures { λ r. ⌜ r ≡ bodyVerdict k (now (s .entry)) o (shown st) ⌝ }
 {
     match k {
-        1 => settings_verdict(s, o),
-        2 => tone_verdict(s, o, st),
-        3 => accent_verdict(s, o, st),
-        4 => rule_verdict(s, o, st),
-        5 => part_verdict(s, o, st),
+        layout::SETTINGS_KIND => settings_verdict(s, o),
+        layout::TONE_KIND => tone_verdict(s, o, st),
+        layout::ACCENT_KIND => accent_verdict(s, o, st),
+        layout::RULE_KIND => rule_verdict(s, o, st),
+        layout::PART_KIND => part_verdict(s, o, st),
         _ => Verdict::Fine,
     }
 }
@@ -241,32 +245,33 @@ pub fn nothing() -> Pack
 
 // What is kept once the record of kind k at o is fine.
 pub fn add(k: u8, o: usize, st: Pack) -> Pack
-    requires { ⌜ Roomy st × (o < 65536) × (k ≡ 2 → st .tones < 8) × (k ≡ 3 → st .accents < 8) × (k ≡ 4 → st .rules < 64) × (k ≡ 5 → (st .parts < 4) × (st .total < 128)) ⌝ }
+    requires { ⌜ Roomy st × (o < 65536) × (k ≡ toneKind → st .tones < 8) × (k ≡ accentKind → st .accents < 8)
+        × (k ≡ ruleKind → st .rules < 64) × (k ≡ partKind → (st .parts < 4) × (st .total < 128)) ⌝ }
     ensures { λ r. ⌜ (shown r ≡ added k o (shown st)) × Roomy r ⌝ }
 {
     let mut next = st;
     next.last = k;
-    if k == 2 {
+    if k == layout::TONE_KIND {
         let n = st.tones;
         next.toneat[n] = o as u16;
         next.tones = n + 1;
         return next;
     }
-    if k == 3 {
+    if k == layout::ACCENT_KIND {
         let n = st.accents;
         next.accentat[n] = o as u16;
         next.firstrule[n] = st.rules as u8;
         next.accents = n + 1;
         return next;
     }
-    if k == 4 {
+    if k == layout::RULE_KIND {
         let n = st.rules;
         next.ruleat[n] = o as u16;
         next.rules = n + 1;
         next.parts = 0;
         return next;
     }
-    if k == 5 {
+    if k == layout::PART_KIND {
         next.parts = st.parts + 1;
         next.total = st.total + 1;
         return next;

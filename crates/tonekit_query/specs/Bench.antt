@@ -4,13 +4,13 @@ use mathlib.Core.Path.{_≡_, refl}
 use mathlib.Core.Bool.{false}
 use mathlib.Core.List.{List, [], _∷_, _++_}
 use lib.IntN.{pos}
-use lib.Ieee.{fin, ofBits, lt}
+use lib.Ieee.{fin, binary32, ofBits, lt}
 use lib.ListN.{take, replicate}
 use Rattle.tonekit_core.specs.Loop.{turns, range, turnsTo, rangeTo}
 use Rattle.tonekit_core.specs.declared.Refusal.the-variants.{Misplaced, CutShort, Overrun, Crowded, BadQuery}
 use Rattle.tonekit_core.specs.declared.Checked.the-variants.{Loads, Refused}
 use Rattle.tonekit_query.specs.declared.Frame.the-variants.{Voiced, Unvoiced}
-use Rattle.tonekit_query.specs.Query.{variantFine, variantsFine, recordVerdict, frameVerdict, fieldsOf, readQuery, loadQuery, checkQuery, framesOf}
+use Rattle.tonekit_query.specs.Query.{variantFine, variantsFine, recordVerdict, frameVerdict, fieldsOf, readQuery, loadQuery, checkQuery, framesOf, variantTone, variantWeight}
 use Rattle.tonekit_query.specs.Frames.{frameAt}
 
 -- a fixed record: final, the high byte of the issues, the variant count and variants, the two bytes of the frame count
@@ -86,3 +86,36 @@ frames : (frameAt (framesOf (plain 1 ++ voiced) 1) 0 ≡ Voiced (fin false 55 (p
     × (frameAt voiced 1 ≡ Unvoiced)
 unfolding frameAt ofBits lt
 frames = (refl, refl, refl, refl, refl, refl, refl)
+
+-- every field of both records, from bytes that are their own offsets behind the kind
+abbrev record48 : List ℕ
+record48 =
+    48 ∷ 1 ∷ 2 ∷ 3 ∷ 4 ∷ 5 ∷ 6 ∷ 7 ∷ 8 ∷ 9 ∷ 10 ∷ 11 ∷ 12 ∷ 13 ∷ 14 ∷ 15 ∷ 16 ∷ 17 ∷ 18 ∷ 19 ∷ 20 ∷ 21 ∷ 22 ∷
+    23 ∷ 24 ∷ 25 ∷ 26 ∷ 27 ∷ 28 ∷ 29 ∷ 30 ∷ 31 ∷ 32 ∷ 33 ∷ 34 ∷ 35 ∷ 36 ∷ 37 ∷ 38 ∷ 39 ∷ 40 ∷ 41 ∷ 42 ∷ 43 ∷ 44 ∷ 45 ∷ []
+
+fields48 : (fieldsOf record48
+    ≡ record {
+      accent = 1;
+      tone = 2;
+      prev = 3;
+      last = 4;
+      start = 0x0807_0605;
+      end = 0x0c0b_0a09;
+      floor = ofBits binary32 0x100f_0e0d;
+      ceil = ofBits binary32 0x1413_1211;
+      issues = 0x1615;
+      variants = 23;
+      count = 0x2d2c;
+    })
+    × (variantTone record48 0 ≡ 24) × (variantWeight record48 0 ≡ ofBits binary32 0x1c1b_1a19)
+    × (variantTone record48 3 ≡ 39) × (variantWeight record48 3 ≡ ofBits binary32 0x2b2a_2928)
+unfolding fieldsOf
+fields48 = (refl, refl, refl, refl, refl)
+
+-- the second of two frames
+abbrev record50 : List ℕ
+record50 = 50 ∷ 1 ∷ 2 ∷ 3 ∷ 4 ∷ 5 ∷ 6 ∷ 7 ∷ 8 ∷ 9 ∷ []
+
+fields50 : frameAt (replicate 10 0 ++ record50) 1 ≡ Voiced (ofBits binary32 0x0504_0302) (ofBits binary32 0x0908_0706)
+unfolding frameAt ofBits lt
+fields50 = refl

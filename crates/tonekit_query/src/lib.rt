@@ -3,6 +3,7 @@ ghost use mathlib.Core.Path.{_≡_};
 ghost use Prim.Native.Nat.{_+_, _*_, _≤_, _<_, min};
 ghost use lib.ListN.{length};
 ghost use lib.Ieee.{binary32, ofBits};
+ghost use Rattle.tonekit_core.specs.Layout.{frameSize, frameHz, frameVoicedP};
 ghost use Rattle.tonekit_bytes.specs.Fields.{u32At, f32At};
 ghost use Rattle.tonekit_query.specs.Query.{variantFine, variantsFine, recordVerdict, frameVerdict, fieldsOf, readFrames, readQuery, loadQuery, checkQuery, endOf, framesOf, variantTone, variantWeight};
 ghost use Rattle.tonekit_query.specs.Frames.{pitch, voicedAt, frameAt};
@@ -13,13 +14,8 @@ use tonekit_bytes::u32_at;
 use tonekit_core::Checked;
 use tonekit_core::Refusal;
 use tonekit_core::Verdict;
-use tonekit_core::kinds;
+use tonekit_core::layout;
 use tonekit_core::limits;
-
-// How many bytes the fixed record takes, and a frame.
-const RECORD_SIZE: usize = 46;
-
-const FRAME_SIZE: usize = 10;
 
 // What the fixed record of a query says. Any accent, tone, span or register may stand in it.
 pub struct Query {
@@ -60,13 +56,13 @@ fn variant_fine(query: &[u8], i: usize) -> bool
     requires { ⌜ i < 4 ⌝ }
     ensures { λ r. ⌜ r ≡ variantFine (now (query .entry)) i ⌝ }
 {
-    if i < number(byte_at(query, 0, 23)) {
+    if i < number(byte_at(query, 0, layout::QUERY_VARIANT_COUNT)) {
         return true;
     }
-    if byte_at(query, 24, 5 * i) != 0 {
+    if byte_at(query, layout::VARIANT_TONES, layout::VARIANT_SIZE * i) != 0 {
         return false;
     }
-    u32_at(query, 25, 5 * i) == 0
+    u32_at(query, layout::VARIANT_WEIGHTS, layout::VARIANT_SIZE * i) == 0
 }
 
 // Whether all four are fine.
@@ -90,22 +86,22 @@ fn record_verdict(query: &[u8]) -> Verdict
     if query.len() == 0 {
         return Verdict::Refused(Refusal::CutShort);
     }
-    if byte_at(query, 0, 0) != kinds::QUERY {
+    if byte_at(query, 0, 0) != layout::QUERY_KIND {
         return Verdict::Refused(Refusal::Misplaced);
     }
-    if query.len() < RECORD_SIZE {
+    if query.len() < layout::QUERY_SIZE {
         return Verdict::Refused(Refusal::CutShort);
     }
-    if limits::VARIANTS < byte_at(query, 0, 23) {
+    if limits::VARIANTS < byte_at(query, 0, layout::QUERY_VARIANT_COUNT) {
         return Verdict::Refused(Refusal::Crowded);
     }
-    if limits::FRAMES < u16_at(query, 0, 44) {
+    if limits::FRAMES < u16_at(query, 0, layout::QUERY_FRAME_COUNT) {
         return Verdict::Refused(Refusal::Crowded);
     }
-    if 1 < byte_at(query, 0, 4) {
+    if 1 < byte_at(query, 0, layout::QUERY_FINAL) {
         return Verdict::Refused(Refusal::BadQuery);
     }
-    if 1024 <= u16_at(query, 0, 21) {
+    if 1024 <= u16_at(query, 0, layout::QUERY_ISSUES) {
         return Verdict::Refused(Refusal::BadQuery);
     }
     if variants_fine(query) {
@@ -122,13 +118,13 @@ fn frame_verdict(query: &[u8], at: usize) -> Verdict
     if query.len() <= at {
         return Verdict::Refused(Refusal::CutShort);
     }
-    if query[at] != kinds::FRAME {
+    if query[at] != layout::FRAME_KIND {
         return Verdict::Refused(Refusal::Misplaced);
     }
-    if query.len() - at < FRAME_SIZE {
+    if query.len() - at < layout::FRAME_SIZE {
         return Verdict::Refused(Refusal::CutShort);
     }
-    if query[at + 1] <= 1 {
+    if query[at + layout::FRAME_VOICED] <= 1 {
         Verdict::Fine
     } else {
         Verdict::Refused(Refusal::BadQuery)
@@ -140,17 +136,17 @@ fn fields(query: &[u8]) -> Query
     ensures { λ r. ⌜ r ≡ fieldsOf (now (query .entry)) ⌝ }
 {
     Query {
-        accent: byte_at(query, 0, 1),
-        tone: byte_at(query, 0, 2),
-        prev: byte_at(query, 0, 3),
-        last: byte_at(query, 0, 4),
-        start: u32_at(query, 0, 5),
-        end: u32_at(query, 0, 9),
-        floor: f32_at(query, 0, 13),
-        ceil: f32_at(query, 0, 17),
-        issues: u16_at(query, 0, 21),
-        variants: byte_at(query, 0, 23),
-        count: u16_at(query, 0, 44),
+        accent: byte_at(query, 0, layout::QUERY_ACCENT),
+        tone: byte_at(query, 0, layout::QUERY_TONE),
+        prev: byte_at(query, 0, layout::QUERY_PREV),
+        last: byte_at(query, 0, layout::QUERY_FINAL),
+        start: u32_at(query, 0, layout::QUERY_START),
+        end: u32_at(query, 0, layout::QUERY_END),
+        floor: f32_at(query, 0, layout::QUERY_FLOOR),
+        ceil: f32_at(query, 0, layout::QUERY_CEIL),
+        issues: u16_at(query, 0, layout::QUERY_ISSUES),
+        variants: byte_at(query, 0, layout::QUERY_VARIANT_COUNT),
+        count: u16_at(query, 0, layout::QUERY_FRAME_COUNT),
     }
 }
 
@@ -158,14 +154,14 @@ fn fields(query: &[u8]) -> Query
 fn read_frames(query: &[u8], count: u16) -> QueryRead
     ensures { λ r. ⌜ r ≡ readFrames (now (query .entry)) count ⌝ }
 {
-    let mut at = RECORD_SIZE;
+    let mut at = layout::QUERY_SIZE;
     let mut i = 0;
     while i < count {
         let v = frame_verdict(query, at);
         if let Verdict::Refused(r) = v {
             return QueryRead::Refused(r, at);
         }
-        at += FRAME_SIZE;
+        at += layout::FRAME_SIZE;
         i += 1;
     }
     QueryRead::Good(fields(query))
@@ -177,7 +173,7 @@ pub fn read_query(query: &[u8]) -> QueryRead
 {
     let v = record_verdict(query);
     match v {
-        Verdict::Fine => read_frames(query, u16_at(query, 0, 44)),
+        Verdict::Fine => read_frames(query, u16_at(query, 0, layout::QUERY_FRAME_COUNT)),
         Verdict::Refused(r) => QueryRead::Refused(r, 0),
     }
 }
@@ -186,7 +182,7 @@ pub fn read_query(query: &[u8]) -> QueryRead
 fn end_of(count: u16) -> usize
     ensures { λ r. ⌜ r ≡ endOf count ⌝ }
 {
-    RECORD_SIZE + FRAME_SIZE * (count as usize)
+    layout::QUERY_SIZE + layout::FRAME_SIZE * (count as usize)
 }
 
 // The query that an input is as a whole; bytes behind it are refused.
@@ -229,7 +225,7 @@ fn lesser(a: usize, b: usize) -> usize
 pub fn frames(query: &[u8], count: u16) -> &[u8]
     ensures { λ r. ⌜ now r ≡ framesOf (now (query .entry)) count ⌝ }
 {
-    let from = lesser(RECORD_SIZE, query.len());
+    let from = lesser(layout::QUERY_SIZE, query.len());
     let to = lesser(end_of(count), query.len());
     &query[from..to]
 }
@@ -245,16 +241,16 @@ fn is_pitch(hz: f32) -> bool
 pub fn read_frame(frames: &[u8], i: usize) -> Frame
     ensures { λ r. ⌜ r ≡ frameAt (now (frames .entry)) i ⌝ }
 {
-    if frames.len() / FRAME_SIZE < i {
+    if frames.len() / layout::FRAME_SIZE < i {
         return Frame::Unvoiced;
     }
-    let at = FRAME_SIZE * i;
-    if byte_at(frames, at, 1) != 1 {
+    let at = layout::FRAME_SIZE * i;
+    if byte_at(frames, at, layout::FRAME_VOICED) != 1 {
         return Frame::Unvoiced;
     }
-    let hz = f32_at(frames, at, 2);
+    let hz = f32_at(frames, at, layout::FRAME_HZ);
     if is_pitch(hz) {
-        Frame::Voiced(hz, f32_at(frames, at, 6))
+        Frame::Voiced(hz, f32_at(frames, at, layout::FRAME_VOICED_P))
     } else {
         Frame::Unvoiced
     }
@@ -286,13 +282,13 @@ fn bits_pitch(b: u32) -> bool
 
 // Whether the frame at an index is voiced, where its ten bytes are there.
 fn whole_voiced(frames: &[u8], at: usize) -> bool
-    requires { ⌜ at + 10 ≤ length (now frames) ⌝ }
+    requires { ⌜ at + frameSize ≤ length (now frames) ⌝ }
     ensures { λ r. ⌜ r ≡ voicedAt (now (frames .entry)) at ⌝ }
 {
-    if frames[at + 1] != 1 {
+    if frames[at + layout::FRAME_VOICED] != 1 {
         return false;
     }
-    bits_pitch(whole_u32(frames, at + 2))
+    bits_pitch(whole_u32(frames, at + layout::FRAME_HZ))
 }
 
 // Whether the first frame of bytes that may end within it is voiced.
@@ -307,47 +303,47 @@ fn cut_voiced(frame: &[u8]) -> bool
 
 // Whether frame i is voiced, as `read_frame` says.
 pub fn voiced(frames: &[u8], i: usize) -> bool
-    ensures { λ r. ⌜ r ≡ voicedAt (now (frames .entry)) (10 * i) ⌝ }
+    ensures { λ r. ⌜ r ≡ voicedAt (now (frames .entry)) (frameSize * i) ⌝ }
 {
-    let whole = frames.len() / FRAME_SIZE;
+    let whole = frames.len() / layout::FRAME_SIZE;
     if i < whole {
-        return whole_voiced(frames, FRAME_SIZE * i);
+        return whole_voiced(frames, layout::FRAME_SIZE * i);
     }
     if whole < i {
         return false;
     }
-    let at = FRAME_SIZE * i;
+    let at = layout::FRAME_SIZE * i;
     cut_voiced(&frames[at..])
 }
 
 // The float k bytes into frame i, bytes past the end read as 0.
 fn field(frames: &[u8], i: usize, k: usize) -> f32
-    requires { ⌜ k ≤ 6 ⌝ }
-    ensures { λ r. ⌜ r ≡ f32At (now (frames .entry)) (10 * i + k) ⌝ }
+    requires { ⌜ k ≤ frameVoicedP ⌝ }
+    ensures { λ r. ⌜ r ≡ f32At (now (frames .entry)) (frameSize * i + k) ⌝ }
 {
-    let whole = frames.len() / FRAME_SIZE;
+    let whole = frames.len() / layout::FRAME_SIZE;
     if i < whole {
-        return tonekit_float::f32_of_bits(whole_u32(frames, FRAME_SIZE * i + k));
+        return tonekit_float::f32_of_bits(whole_u32(frames, layout::FRAME_SIZE * i + k));
     }
     if whole < i {
         return tonekit_float::f32_of_bits(0);
     }
-    let at = FRAME_SIZE * i;
+    let at = layout::FRAME_SIZE * i;
     f32_at(&frames[at..], 0, k)
 }
 
 // The hz of frame i, whatever its flag.
 pub fn frame_hz(frames: &[u8], i: usize) -> f32
-    ensures { λ r. ⌜ r ≡ f32At (now (frames .entry)) (10 * i + 2) ⌝ }
+    ensures { λ r. ⌜ r ≡ f32At (now (frames .entry)) (frameSize * i + frameHz) ⌝ }
 {
-    field(frames, i, 2)
+    field(frames, i, layout::FRAME_HZ)
 }
 
 // The voiced_p of frame i, whatever its flag.
 pub fn frame_p(frames: &[u8], i: usize) -> f32
-    ensures { λ r. ⌜ r ≡ f32At (now (frames .entry)) (10 * i + 6) ⌝ }
+    ensures { λ r. ⌜ r ≡ f32At (now (frames .entry)) (frameSize * i + frameVoicedP) ⌝ }
 {
-    field(frames, i, 6)
+    field(frames, i, layout::FRAME_VOICED_P)
 }
 
 // The tone of variant i of a query, one of its four places.
@@ -355,7 +351,7 @@ pub fn variant_tone(query: &[u8], i: usize) -> u8
     requires { ⌜ i < 4 ⌝ }
     ensures { λ r. ⌜ r ≡ variantTone (now (query .entry)) i ⌝ }
 {
-    byte_at(query, 24, 5 * i)
+    byte_at(query, layout::VARIANT_TONES, layout::VARIANT_SIZE * i)
 }
 
 // The weight of variant i of a query, one of its four places.
@@ -363,5 +359,5 @@ pub fn variant_weight(query: &[u8], i: usize) -> f32
     requires { ⌜ i < 4 ⌝ }
     ensures { λ r. ⌜ r ≡ variantWeight (now (query .entry)) i ⌝ }
 {
-    f32_at(query, 25, 5 * i)
+    f32_at(query, layout::VARIANT_WEIGHTS, layout::VARIANT_SIZE * i)
 }

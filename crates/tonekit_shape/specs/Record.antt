@@ -4,6 +4,7 @@ use mathlib.Core.Bool.{cond}
 use mathlib.Core.List.{List, [], _∷_, _++_}
 use lib.Dec.{ltb}
 use Rattle.tonekit_core.specs.Calls.{Outcome, refused, written}
+use Rattle.tonekit_core.specs.Layout.{shapeKind}
 use Rattle.tonekit_core.specs.Words.{withIssue}
 use Rattle.tonekit_core.specs.declared.Refusal.the-variants as refusal
 use Rattle.tonekit_core.specs.declared.MeasureIssue.the-variants as issue
@@ -22,7 +23,7 @@ united issues n = cond (ltb n 8) (withIssue issues issue.TooShort) issues
 
 -- "Kind 51: span start, end u32"
 abbrev pub spanBytes : ℕ → ℕ → List ℕ
-spanBytes start end = (51 ∷ []) ++ (le32 start ++ le32 end)
+spanBytes start end = (shapeKind ∷ []) ++ (le32 start ++ le32 end)
 
 -- "mean, slope, curvature f32; turning flag u8 and f32"
 unfoldable pub fitBytes : ToneShape → List ℕ

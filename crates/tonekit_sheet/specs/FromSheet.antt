@@ -5,6 +5,10 @@ use mathlib.Core.List.{List, [], _∷_, _++_, map}
 use mathlib.Core.Option.{Option, none, some}
 use lib.Dec.{eqb}
 use lib.ListN.{length, getD}
+use Rattle.tonekit_core.specs.Layout.{f32Size, sheetTonePrior, sheetToneRegion, sheetToneFrom, sheetToneTo}
+use Rattle.tonekit_core.specs.Layout.{sheetAccentContour, sheetAccentOnset, sheetAccentOffset, sheetAccentTurning, sheetRowList, sheetRowFinalList}
+use Rattle.tonekit_core.specs.Layout.{sheetListSize, sheetListOwner, sheetListForm, sheetListLabel, sheetListCount}
+use Rattle.tonekit_core.specs.Layout.{sheetComponentSize, sheetComponentWeight, sheetComponentPoints}
 use Rattle.tonekit_bytes.specs.Fields.{byteAt, u16At, u32At}
 use Rattle.tonekit_pack.specs.Pack.{numberAt}
 use Rattle.tonekit_expect.specs.Lookup.{indexOf}
@@ -15,25 +19,37 @@ use Rattle.tonekit_expect.specs.declared.Found.the-variants as found
 use Rattle.tonekit_sheet.specs.Reader.{Sst, rowAt}
 
 abbrev pub toneAt : List ℕ → ℕ → Tone
-toneAt s o = record { number = numberAt s o; prior = u32At s (o + 2); flag = byteAt s (o + 6); from = u32At s (o + 7); to = u32At s (o + 11) }
+toneAt s o = record {
+  number = numberAt s o;
+  prior = u32At s (o + sheetTonePrior);
+  flag = byteAt s (o + sheetToneRegion);
+  from = u32At s (o + sheetToneFrom);
+  to = u32At s (o + sheetToneTo);
+}
 
 abbrev pub accentAt : List ℕ → ℕ → Accent
-accentAt s o = record { number = numberAt s o; contour = u32At s (o + 2); onset = u32At s (o + 6); offset = u32At s (o + 10); turning = u32At s (o + 14) }
+accentAt s o = record {
+  number = numberAt s o;
+  contour = u32At s (o + sheetAccentContour);
+  onset = u32At s (o + sheetAccentOnset);
+  offset = u32At s (o + sheetAccentOffset);
+  turning = u32At s (o + sheetAccentTurning);
+}
 
 -- n numbers of four bytes from an offset on
 unfoldable pub bitsAt : List ℕ → ℕ → ℕ → List ℕ
 bitsAt s o zero = []
-bitsAt s o (suc n) = u32At s o ∷ bitsAt s (o + 4) n
+bitsAt s o (suc n) = u32At s o ∷ bitsAt s (o + f32Size) n
 
 -- component j of the list at o
 unfoldable pub carriedAt : List ℕ → ℕ → ℕ → Carried
 carriedAt s o j = record {
-  owner = byteAt s (o + 2);
-  form = byteAt s (o + 3);
-  label = u16At s (o + 4);
-  part = cond (eqb (byteAt s (o + 3)) 3) j 0;
-  weight = u32At s (o + 7 + 45 * j + 1);
-  points = bitsAt s (o + 7 + 45 * j + 5) 10;
+  owner = byteAt s (o + sheetListOwner);
+  form = byteAt s (o + sheetListForm);
+  label = u16At s (o + sheetListLabel);
+  part = cond (eqb (byteAt s (o + sheetListForm)) 3) j 0;
+  weight = u32At s (o + sheetListSize + sheetComponentSize * j + sheetComponentWeight);
+  points = bitsAt s (o + sheetListSize + sheetComponentSize * j + sheetComponentPoints) 10;
 }
 
 -- its first n components
@@ -44,14 +60,14 @@ carriedFrom s o (suc n) = carriedFrom s o n ++ (carriedAt s o n ∷ [])
 -- what a list number stands for: "0 nothing", else the list at that place, from 1
 abbrev pub listNumbered : List ℕ → Sst → ℕ → Option (List Carried)
 listNumbered s st zero = none
-listNumbered s st (suc i) = let o = getD (st .lists) i 0 in some (carriedFrom s o (byteAt s (o + 6)))
+listNumbered s st (suc i) = let o = getD (st .lists) i 0 in some (carriedFrom s o (byteAt s (o + sheetListCount)))
 
 -- a lookup by position: the row of an accent, a tone and what stood before it
 abbrev pub rowPlace : Sst → ℕ → ℕ → ℕ → ℕ
 rowPlace st a t p = (a * length (st .tones) + t) * (length (st .tones) + 1) + p
 
 abbrev pub finalPlace : Context → ℕ
-finalPlace c = cond (eqb (c .last) 0) 4 5
+finalPlace c = cond (eqb (c .last) 0) sheetRowList sheetRowFinalList
 
 abbrev pub prevFound : List ℕ → Sst → ℕ → Found
 prevFound s st n = cond (eqb n 0) (found.At 0) (after (indexOf s (st .tones) n))

@@ -7,6 +7,11 @@ use lib.IntN.{pos}
 use lib.ListN.{length, getD}
 use lib.Ieee.{Float, fin, le}
 use Rattle.tonekit_core.specs.Loop.{Turn, next, stop, range, rangeTo, loopTo}
+use Rattle.tonekit_core.specs.Layout.{f32Size, settingsSize, sheetSettingsKind, sheetToneKind, sheetToneSize, sheetTonePrior, sheetToneRegion}
+use Rattle.tonekit_core.specs.Layout.{sheetAccentKind, sheetAccentSize, sheetAccentContour, sheetRowKind, sheetRowSize, sheetRowAccent, sheetRowTone}
+use Rattle.tonekit_core.specs.Layout.{sheetRowPrev, sheetRowList, sheetRowFinalList, sheetListKind, sheetListSize, sheetListOwner, sheetListForm}
+use Rattle.tonekit_core.specs.Layout.{sheetListLabel, sheetListCount, sheetComponentKind, sheetComponentSize, sheetComponentWeight}
+use Rattle.tonekit_core.specs.Layout.{sheetComponentPoints, sheetEndKind, sheetEndSize, sheetAccentAt, sheetRowAt}
 use Rattle.tonekit_core.specs.declared.Refusal.{Refusal}
 use Rattle.tonekit_core.specs.declared.Refusal.the-variants.{Misplaced, CutShort, Overrun, Crowded, OffScale, Doubled, Loose, Unordered}
 use Rattle.tonekit_core.specs.declared.Verdict.{Verdict}
@@ -41,73 +46,80 @@ rowsDue st = rowCount (length (st .accents)) (length (st .tones))
 
 -- all rows are there, and all components of the last list: a list, or the end
 unfoldable pub complete : Sst → Bool
-complete st = cond (eqb (st .last) 20) (eqb (st .rows) (rowsDue st)) (eqb (st .last) 22 && eqb (st .due) 0)
+complete st =
+    cond (eqb (st .last) sheetRowKind) (eqb (st .rows) (rowsDue st)) (eqb (st .last) sheetComponentKind && eqb (st .due) 0)
 
 -- "Kinds, in this order"; "A row or component too few or too many is 1"
 unfoldable pub dueNext : Sst → ℕ → Bool
 dueNext st k =
-    cond (eqb k 17) (eqb (st .last) 0)
-    (cond (eqb k 18) (eqb (st .last) 17 || eqb (st .last) 18)
-    (cond (eqb k 19) (eqb (st .last) 18 || eqb (st .last) 19)
-    (cond (eqb k 20) ((eqb (st .last) 19 || eqb (st .last) 20) && ltb (st .rows) (rowsDue st))
-    (cond (eqb k 22) (ltb 0 (st .due))
-    ((eqb k 21 || eqb k 23) && complete st)))))
+    cond (eqb k sheetSettingsKind) (eqb (st .last) 0)
+    (cond (eqb k sheetToneKind) (eqb (st .last) sheetSettingsKind || eqb (st .last) sheetToneKind)
+    (cond (eqb k sheetAccentKind) (eqb (st .last) sheetToneKind || eqb (st .last) sheetAccentKind)
+    (cond (eqb k sheetRowKind) ((eqb (st .last) sheetAccentKind || eqb (st .last) sheetRowKind) && ltb (st .rows) (rowsDue st))
+    (cond (eqb k sheetComponentKind) (ltb 0 (st .due))
+    ((eqb k sheetListKind || eqb k sheetEndKind) && complete st)))))
 
 -- the bytes of a record of each kind
 unfoldable pub sizeOf : ℕ → ℕ
 sizeOf k =
-    cond (eqb k 17) 9
-    (cond (eqb k 18) 15
-    (cond (eqb k 19) 18
-    (cond (eqb k 20) 6
-    (cond (eqb k 21) 7
-    (cond (eqb k 22) 45 1)))))
+    cond (eqb k sheetSettingsKind) settingsSize
+    (cond (eqb k sheetToneKind) sheetToneSize
+    (cond (eqb k sheetAccentKind) sheetAccentSize
+    (cond (eqb k sheetRowKind) sheetRowSize
+    (cond (eqb k sheetListKind) sheetListSize
+    (cond (eqb k sheetComponentKind) sheetComponentSize sheetEndSize)))))
 
 -- "Fields have the pack's ranges": number, prior, region
 abbrev pub toneFine : List ℕ → ℕ → Bool
-toneFine s o = not (eqb (numberAt s o) 0) && (aShare (f32At s (o + 2)) && regionFine s (o + 6))
+toneFine s o =
+    not (eqb (numberAt s o) 0) && (aShare (f32At s (o + sheetTonePrior)) && regionFine s (o + sheetToneRegion))
 
 unfoldable pub toneVerdict : List ℕ → ℕ → Sst → Verdict
 toneVerdict s o st = inTurn (leb 8 (length (st .tones))) (toneFine s o) (not (holds s (st .tones) (numberAt s o))) true
 
 -- number, tolerances
 abbrev pub accentFine : List ℕ → ℕ → Bool
-accentFine s o = not (eqb (numberAt s o) 0) && tolerancesFine s (o + 2)
+accentFine s o = not (eqb (numberAt s o) 0) && tolerancesFine s (o + sheetAccentContour)
 
 unfoldable pub accentVerdict : List ℕ → ℕ → Sst → Verdict
 accentVerdict s o st = inTurn (leb 8 (length (st .accents))) (accentFine s o) (not (holds s (st .accents) (numberAt s o))) true
 
 -- a row names an accent, a tone, and a tone before it or none, that are held; its two lists are judged at the end
 abbrev pub rowFine : List ℕ → ℕ → Bool
-rowFine s o = not (eqb (byteAt s (o + 1)) 0) && not (eqb (byteAt s (o + 2)) 0)
+rowFine s o = not (eqb (byteAt s (o + sheetRowAccent)) 0) && not (eqb (byteAt s (o + sheetRowTone)) 0)
 
 abbrev pub rowHeld : List ℕ → ℕ → Sst → Bool
-rowHeld s o st = holds s (st .accents) (byteAt s (o + 1)) && (holds s (st .tones) (byteAt s (o + 2)) && zeroOrHeld s (st .tones) (byteAt s (o + 3)))
+rowHeld s o st =
+    holds s (st .accents) (byteAt s (o + sheetRowAccent))
+    && (holds s (st .tones) (byteAt s (o + sheetRowTone)) && zeroOrHeld s (st .tones) (byteAt s (o + sheetRowPrev)))
 
 unfoldable pub rowVerdict : List ℕ → ℕ → Sst → Verdict
 rowVerdict s o st = inTurn false (rowFine s o) true (rowHeld s o st)
 
 -- "A list's count above 4, or above 1 unless the form is 3, is 4; count 0 is 5"; "At most 128 lists"
 abbrev pub listCrowded : List ℕ → ℕ → Sst → Bool
-listCrowded s o st = leb 128 (length (st .lists)) || (ltb 4 (byteAt s (o + 6)) || (ltb 1 (byteAt s (o + 6)) && not (eqb (byteAt s (o + 3)) 3)))
+listCrowded s o st =
+    leb 128 (length (st .lists))
+    || (ltb 4 (byteAt s (o + sheetListCount)) || (ltb 1 (byteAt s (o + sheetListCount)) && not (eqb (byteAt s (o + sheetListForm)) 3)))
 
 -- number, owner, "Form is 1 to 3", "label is 0 in form 1", count
 abbrev pub listFine : List ℕ → ℕ → Bool
 listFine s o =
     not (eqb (numberAt s o) 0)
-    && (not (eqb (byteAt s (o + 2)) 0)
-    && ((leb 1 (byteAt s (o + 3)) && leb (byteAt s (o + 3)) 3)
-    && (not (eqb (byteAt s (o + 6)) 0) && (not (eqb (byteAt s (o + 3)) 1) || eqb (u16At s (o + 4)) 0))))
+    && (not (eqb (byteAt s (o + sheetListOwner)) 0)
+    && ((leb 1 (byteAt s (o + sheetListForm)) && leb (byteAt s (o + sheetListForm)) 3)
+    && (not (eqb (byteAt s (o + sheetListCount)) 0)
+    && (not (eqb (byteAt s (o + sheetListForm)) 1) || eqb (u16At s (o + sheetListLabel)) 0))))
 
 unfoldable pub listVerdict : List ℕ → ℕ → Sst → Verdict
-listVerdict s o st = inTurn (listCrowded s o st) (listFine s o) true (holds s (st .accents) (byteAt s (o + 2)))
+listVerdict s o st = inTurn (listCrowded s o st) (listFine s o) true (holds s (st .accents) (byteAt s (o + sheetListOwner)))
 
 -- "points are finite, size at most 128"
 unfoldable pub pointFine : Float → Bool
 pointFine x = le (fin true 1 (pos 7)) x && le x (fin false 1 (pos 7))
 
 abbrev pub pointTurn : List ℕ → ℕ → ℕ → Bool → Bool
-pointTurn s o k ok = ok && pointFine (f32At s (o + 4 * k))
+pointTurn s o k ok = ok && pointFine (f32At s (o + f32Size * k))
 
 unfoldable pub pointsFine : List ℕ → ℕ → Bool
 pointsFine s o = range (pointTurn s o) 0 10 true
@@ -119,20 +131,21 @@ lastList st = getD (st .lists) (length (st .lists) - 1) 0
 -- "forms 1 and 2 have one component of weight 1"
 abbrev pub componentFine : List ℕ → ℕ → Sst → Bool
 componentFine s o st =
-    weightFine (u32At s (o + 1))
-    && ((eqb (byteAt s (lastList st + 3)) 3 || eqb (u32At s (o + 1)) 0x3f80_0000) && pointsFine s (o + 5))
+    weightFine (u32At s (o + sheetComponentWeight))
+    && ((eqb (byteAt s (lastList st + sheetListForm)) 3 || eqb (u32At s (o + sheetComponentWeight)) 0x3f80_0000)
+    && pointsFine s (o + sheetComponentPoints))
 
 unfoldable pub componentVerdict : List ℕ → ℕ → Sst → Verdict
 componentVerdict s o st = inTurn (leb 192 (st .total)) (componentFine s o st) true true
 
 unfoldable pub bodyVerdict : ℕ → List ℕ → ℕ → Sst → Verdict
 bodyVerdict k s o st =
-    cond (eqb k 17) (settingsVerdict s o)
-    (cond (eqb k 18) (toneVerdict s o st)
-    (cond (eqb k 19) (accentVerdict s o st)
-    (cond (eqb k 20) (rowVerdict s o st)
-    (cond (eqb k 21) (listVerdict s o st)
-    (cond (eqb k 22) (componentVerdict s o st) verdict.Fine)))))
+    cond (eqb k sheetSettingsKind) (settingsVerdict s o)
+    (cond (eqb k sheetToneKind) (toneVerdict s o st)
+    (cond (eqb k sheetAccentKind) (accentVerdict s o st)
+    (cond (eqb k sheetRowKind) (rowVerdict s o st)
+    (cond (eqb k sheetListKind) (listVerdict s o st)
+    (cond (eqb k sheetComponentKind) (componentVerdict s o st) verdict.Fine)))))
 
 -- "in each 1, 2, 4, 5, 6, 7"; past the input's end a due record is missing: 2
 unfoldable pub recordVerdict : List ℕ → ℕ → Sst → Verdict
@@ -145,24 +158,31 @@ recordVerdict s o st =
 -- what has been read once the record of kind k at o, a list of so many components, is fine
 unfoldable pub added : ℕ → ℕ → ℕ → Sst → Sst
 added k o count st =
-    cond (eqb k 18) (record { last = k; tones = st .tones ++ (o ∷ []); accents = st .accents; rows = st .rows; lists = st .lists; due = st .due; total = st .total })
-    (cond (eqb k 19) (record { last = k; tones = st .tones; accents = st .accents ++ (o ∷ []); rows = st .rows; lists = st .lists; due = st .due; total = st .total })
-    (cond (eqb k 20) (record { last = k; tones = st .tones; accents = st .accents; rows = st .rows + 1; lists = st .lists; due = st .due; total = st .total })
-    (cond (eqb k 21) (record { last = k; tones = st .tones; accents = st .accents; rows = st .rows; lists = st .lists ++ (o ∷ []); due = count; total = st .total })
-    (cond (eqb k 22) (record { last = k; tones = st .tones; accents = st .accents; rows = st .rows; lists = st .lists; due = st .due - 1; total = st .total + 1 })
+    cond (eqb k sheetToneKind)
+    (record { last = k; tones = st .tones ++ (o ∷ []); accents = st .accents; rows = st .rows; lists = st .lists; due = st .due; total = st .total })
+    (cond (eqb k sheetAccentKind)
+    (record { last = k; tones = st .tones; accents = st .accents ++ (o ∷ []); rows = st .rows; lists = st .lists; due = st .due; total = st .total })
+    (cond (eqb k sheetRowKind)
+    (record { last = k; tones = st .tones; accents = st .accents; rows = st .rows + 1; lists = st .lists; due = st .due; total = st .total })
+    (cond (eqb k sheetListKind)
+    (record { last = k; tones = st .tones; accents = st .accents; rows = st .rows; lists = st .lists ++ (o ∷ []); due = count; total = st .total })
+    (cond (eqb k sheetComponentKind)
+    (record { last = k; tones = st .tones; accents = st .accents; rows = st .rows; lists = st .lists; due = st .due - 1; total = st .total + 1 })
     (record { last = k; tones = st .tones; accents = st .accents; rows = st .rows; lists = st .lists; due = st .due; total = st .total })))))
 
--- where the rows begin, and row r
+-- where the rows begin, behind the accents, and row r
 abbrev pub rowsFrom : Sst → ℕ
-rowsFrom st = 9 + 15 * length (st .tones) + 18 * length (st .accents)
+rowsFrom st = sheetAccentAt (length (st .tones)) (length (st .accents))
 
 abbrev pub rowAt : Sst → ℕ → ℕ
-rowAt st r = rowsFrom st + 6 * r
+rowAt st r = sheetRowAt (length (st .tones)) (length (st .accents)) r
 
 -- a row's list number is 0, or one that a list record gives as its own
 abbrev pub looseTurn : List ℕ → Sst → ℕ → ℕ → Turn ℕ Found
 looseTurn s st r u =
-    cond (zeroOrHeld s (st .lists) (byteAt s (rowAt st r + 4)) && zeroOrHeld s (st .lists) (byteAt s (rowAt st r + 5)))
+    cond
+    (zeroOrHeld s (st .lists) (byteAt s (rowAt st r + sheetRowList))
+    && zeroOrHeld s (st .lists) (byteAt s (rowAt st r + sheetRowFinalList)))
     (next u)
     (stop (found.At (rowAt st r)))
 
@@ -186,9 +206,9 @@ prevDue s st (suc p) = numberAt s (getD (st .tones) p 0)
 unfoldable pub rowDue : List ℕ → Sst → ℕ → Bool
 rowDue s st r =
     let t = length (st .tones) in
-    eqb (byteAt s (rowAt st r + 1)) (numberAt s (getD (st .accents) (accentPlace t r) 0))
-    && (eqb (byteAt s (rowAt st r + 2)) (numberAt s (getD (st .tones) (tonePlace t r) 0))
-    && eqb (byteAt s (rowAt st r + 3)) (prevDue s st (prevPlace t r)))
+    eqb (byteAt s (rowAt st r + sheetRowAccent)) (numberAt s (getD (st .accents) (accentPlace t r) 0))
+    && (eqb (byteAt s (rowAt st r + sheetRowTone)) (numberAt s (getD (st .tones) (tonePlace t r) 0))
+    && eqb (byteAt s (rowAt st r + sheetRowPrev)) (prevDue s st (prevPlace t r)))
 
 -- the greatest of the list numbers named so far
 abbrev pub most : ℕ → ℕ → ℕ
@@ -197,13 +217,13 @@ most m n = cond (ltb m n) n m
 -- "a row naming a list above 1 more than the greatest before it", not final before final
 unfoldable pub rowNames : List ℕ → Sst → ℕ → ℕ → Bool
 rowNames s st r m =
-    let n = byteAt s (rowAt st r + 4) in
-    leb n (m + 1) && leb (byteAt s (rowAt st r + 5)) (most m n + 1)
+    let n = byteAt s (rowAt st r + sheetRowList) in
+    leb n (m + 1) && leb (byteAt s (rowAt st r + sheetRowFinalList)) (most m n + 1)
 
 abbrev pub rowTurn : List ℕ → Sst → ℕ → ℕ → Turn ℕ Found
 rowTurn s st r m =
     cond (rowDue s st r && rowNames s st r m)
-    (next (most (most m (byteAt s (rowAt st r + 4))) (byteAt s (rowAt st r + 5))))
+    (next (most (most m (byteAt s (rowAt st r + sheetRowList))) (byteAt s (rowAt st r + sheetRowFinalList))))
     (stop (found.At (rowAt st r)))
 
 unfoldable pub rowWrong : List ℕ → Sst → Found
@@ -211,20 +231,20 @@ rowWrong s st = rangeTo (rowTurn s st) (λ m. found.Nothing) 0 (st .rows) 0
 
 -- a row names list n
 abbrev pub namesTurn : List ℕ → Sst → ℕ → ℕ → Bool → Bool
-namesTurn s st n r used = used || (eqb (byteAt s (rowAt st r + 4)) n || eqb (byteAt s (rowAt st r + 5)) n)
+namesTurn s st n r used = used || (eqb (byteAt s (rowAt st r + sheetRowList)) n || eqb (byteAt s (rowAt st r + sheetRowFinalList)) n)
 
 unfoldable pub named : List ℕ → Sst → ℕ → Bool
 named s st n = range (namesTurn s st n) 0 (st .rows) false
 
 -- the bytes of a list and its components, and two lists equal but for their numbers
 abbrev pub listSize : List ℕ → ℕ → ℕ
-listSize s o = 7 + 45 * byteAt s (o + 6)
+listSize s o = sheetListSize + sheetComponentSize * byteAt s (o + sheetListCount)
 
 abbrev pub sameTurn : List ℕ → ℕ → ℕ → ℕ → Bool → Bool
 sameTurn s a b k ok = ok && eqb (byteAt s (a + k)) (byteAt s (b + k))
 
 unfoldable pub sameLists : List ℕ → ℕ → ℕ → Bool
-sameLists s a b = range (sameTurn s a b) 2 (listSize s a) true
+sameLists s a b = range (sameTurn s a b) sheetListOwner (listSize s a) true
 
 -- one of the first n lists is equal to the one at o
 abbrev pub equalTurn : List ℕ → List ℕ → ℕ → ℕ → Bool → Bool
@@ -267,8 +287,11 @@ pub record Here : Type 0 where
 abbrev pub onVerdict : List ℕ → Here → Verdict → Turn Here Out
 onVerdict s h (verdict.Refused r) = stop (refused r (h .at))
 onVerdict s h verdict.Fine =
-    cond (eqb (byteAt s (h .at)) 23) (stop (finished s (h .st) (h .at + 1)))
-    (next (record { at = h .at + sizeOf (byteAt s (h .at)); st = added (byteAt s (h .at)) (h .at) (byteAt s (h .at + 6)) (h .st) }))
+    cond (eqb (byteAt s (h .at)) sheetEndKind) (stop (finished s (h .st) (h .at + sheetEndSize)))
+    (next (record {
+      at = h .at + sizeOf (byteAt s (h .at));
+      st = added (byteAt s (h .at)) (h .at) (byteAt s (h .at + sheetListCount)) (h .st);
+    }))
 
 abbrev pub recordTurn : List ℕ → Here → Turn Here Out
 recordTurn s h = onVerdict s h (recordVerdict s (h .at) (h .st))

@@ -6,6 +6,8 @@ use mathlib.Core.Option.{Option, none, some}
 use lib.Dec.{eqb}
 use lib.ListN.{length, getD}
 use Rattle.tonekit_core.specs.Loop.{range}
+use Rattle.tonekit_core.specs.Layout.{sheetSettingsKind, sheetToneKind, sheetAccentKind, sheetRowKind}
+use Rattle.tonekit_core.specs.Layout.{sheetListKind, sheetComponentKind, sheetEndKind}
 use Rattle.tonekit_bytes.specs.Fields.{le16, le32}
 use Rattle.tonekit_expect.specs.Source.{Settings, Tone, Accent, Carried, Source, accentIn}
 use Rattle.tonekit_expect.specs.declared.Context.{Context}
@@ -81,19 +83,22 @@ listsOf v = range (noteTurn v) 0 (rowsOf v) []
 
 -- "17 as Settings"
 abbrev pub settingsBytes : Settings → List ℕ
-settingsBytes x = (17 ∷ []) ++ (le32 (x .temperature) ++ le32 (x .threshold))
+settingsBytes x = (sheetSettingsKind ∷ []) ++ (le32 (x .temperature) ++ le32 (x .threshold))
 
 -- "18 tone, in pack order: number, prior, flag, from, to"
 abbrev pub toneBytes : Tone → List ℕ
-toneBytes t = (18 ∷ t .number ∷ []) ++ (le32 (t .prior) ++ ((t .flag ∷ []) ++ (le32 (t .from) ++ le32 (t .to))))
+toneBytes t =
+    (sheetToneKind ∷ t .number ∷ []) ++ (le32 (t .prior) ++ ((t .flag ∷ []) ++ (le32 (t .from) ++ le32 (t .to))))
 
 -- "19 accent: number, tolerances"
 abbrev pub accentBytes : Accent → List ℕ
-accentBytes a = (19 ∷ a .number ∷ []) ++ (le32 (a .contour) ++ (le32 (a .onset) ++ (le32 (a .offset) ++ le32 (a .turning))))
+accentBytes a =
+    (sheetAccentKind ∷ a .number ∷ [])
+    ++ (le32 (a .contour) ++ (le32 (a .onset) ++ (le32 (a .offset) ++ le32 (a .turning))))
 
 -- "20 row: accent, tone, prev, list when not final, list when final (u8, 0 nothing)"
 abbrev pub rowBytes : Context → ℕ → ℕ → List ℕ
-rowBytes c n m = 20 ∷ c .accent ∷ c .tone ∷ c .prev ∷ n ∷ m ∷ []
+rowBytes c n m = sheetRowKind ∷ c .accent ∷ c .tone ∷ c .prev ∷ n ∷ m ∷ []
 
 -- "22 components: weight, 10 points"
 unfoldable pub bitsBytes : List ℕ → List ℕ
@@ -101,7 +106,7 @@ bitsBytes [] = []
 bitsBytes (x ∷ xs) = le32 x ++ bitsBytes xs
 
 abbrev pub componentBytes : Carried → List ℕ
-componentBytes c = (22 ∷ []) ++ (le32 (c .weight) ++ bitsBytes (c .points))
+componentBytes c = (sheetComponentKind ∷ []) ++ (le32 (c .weight) ++ bitsBytes (c .points))
 
 unfoldable pub componentsBytes : List Carried → List ℕ
 componentsBytes [] = []
@@ -112,7 +117,7 @@ abbrev pub noCarried : Carried
 noCarried = record { owner = 0; form = 0; label = 0; part = 0; weight = 0; points = [] }
 
 abbrev pub headBytes : ℕ → Carried → ℕ → List ℕ
-headBytes n c count = (21 ∷ n ∷ c .owner ∷ c .form ∷ []) ++ (le16 (c .label) ++ (count ∷ []))
+headBytes n c count = (sheetListKind ∷ n ∷ c .owner ∷ c .form ∷ []) ++ (le16 (c .label) ++ (count ∷ []))
 
 abbrev pub listBytes : ℕ → List Carried → List ℕ
 listBytes n cs = headBytes n (getD cs 0 noCarried) (length cs) ++ componentsBytes cs
@@ -135,7 +140,7 @@ bytesWith v lists =
     settingsBytes (v .settings)
     ++ (gather (tonePiece v) 0 (length (v .tones))
     ++ (gather (accentPiece v) 0 (length (v .accents))
-    ++ (gather (rowPiece v lists) 0 (rowsOf v) ++ (gather (listPiece lists) 0 (length lists) ++ (23 ∷ [])))))
+    ++ (gather (rowPiece v lists) 0 (rowsOf v) ++ (gather (listPiece lists) 0 (length lists) ++ (sheetEndKind ∷ [])))))
 
 unfoldable pub bytesOf : View → List ℕ
 bytesOf v = bytesWith v (listsOf v)

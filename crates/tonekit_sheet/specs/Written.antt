@@ -7,14 +7,15 @@ use mathlib.Core.Option.{Option, none, some}
 use lib.Dec.{eqb}
 use lib.ListN.{replicate}
 use Rattle.tonekit_core.specs.Loop.{turns, range, turnsTo, rangeTo}
-use Rattle.tonekit_expect.specs.Source.{Tone, Accent, Carried, Source, accentIn}
+use Rattle.tonekit_expect.specs.Source.{Settings, Tone, Accent, Carried, Source, accentIn, settingsAt}
 use Rattle.tonekit_expect.specs.Lookup.{indexOf}
 use Rattle.tonekit_expect.specs.declared.Context.{Context}
 use Rattle.tonekit_sheet.specs.Number.{sameNumbers, sameCarried, same, seenIn, placeIn, noted, numberIn}
 use Rattle.tonekit_sheet.specs.Gather.{pieces, gather}
 use Rattle.tonekit_sheet.specs.Sheet.{ascFrom, ascending, rowContext, viewOf, listsOf, bitsBytes, componentsBytes, bytesWith, bytesOf, sheet}
-use Rattle.tonekit_sheet.specs.Reader.{Sst}
-use Rattle.tonekit_sheet.specs.FromSheet.{bitsAt, carriedAt, carriedFrom, lookSheet}
+use Rattle.tonekit_sheet.specs.Sheet.{settingsBytes, toneBytes, accentBytes, rowBytes, headBytes, componentBytes}
+use Rattle.tonekit_sheet.specs.Reader.{Sst, rowDue, rowNames, listSize}
+use Rattle.tonekit_sheet.specs.FromSheet.{toneAt, accentAt, bitsAt, carriedAt, carriedFrom, lookSheet}
 
 -- a component of this owner, label, weight and first point
 abbrev curve : ℕ → ℕ → ℕ → ℕ → Carried
@@ -107,3 +108,80 @@ second-accent = refl
 after-tone : lookSheet printed read (at 5 1 0) ≡ none
 unfolding lookSheet indexOf rangeTo turnsTo carriedFrom carriedAt bitsAt
 after-tone = refl
+
+-- ---- every field of each record, read and written: bytes that are their own offsets behind the kind
+abbrev record17 : List ℕ
+record17 = 17 ∷ 1 ∷ 2 ∷ 3 ∷ 4 ∷ 5 ∷ 6 ∷ 7 ∷ 8 ∷ []
+
+abbrev settings17 : Settings
+settings17 = record { temperature = 0x0403_0201; threshold = 0x0807_0605 }
+
+fields17 : (settingsAt record17 0 ≡ settings17) × (settingsBytes settings17 ≡ record17)
+fields17 = (refl, refl)
+
+abbrev record18 : List ℕ
+record18 = 18 ∷ 1 ∷ 2 ∷ 3 ∷ 4 ∷ 5 ∷ 6 ∷ 7 ∷ 8 ∷ 9 ∷ 10 ∷ 11 ∷ 12 ∷ 13 ∷ 14 ∷ []
+
+abbrev tone18 : Tone
+tone18 = record { number = 1; prior = 0x0504_0302; flag = 6; from = 0x0a09_0807; to = 0x0e0d_0c0b }
+
+fields18 : (toneAt record18 0 ≡ tone18) × (toneBytes tone18 ≡ record18)
+fields18 = (refl, refl)
+
+abbrev record19 : List ℕ
+record19 = 19 ∷ 1 ∷ 2 ∷ 3 ∷ 4 ∷ 5 ∷ 6 ∷ 7 ∷ 8 ∷ 9 ∷ 10 ∷ 11 ∷ 12 ∷ 13 ∷ 14 ∷ 15 ∷ 16 ∷ 17 ∷ []
+
+abbrev accent19 : Accent
+accent19 = record { number = 1; contour = 0x0504_0302; onset = 0x0908_0706; offset = 0x0d0c_0b0a; turning = 0x1110_0f0e }
+
+fields19 : (accentAt record19 0 ≡ accent19) × (accentBytes accent19 ≡ record19)
+fields19 = (refl, refl)
+
+-- the third row of a sheet of tones 2 and 3 and of accent 1; list 3 is the greatest before it
+abbrev record20 : List ℕ
+record20 = 20 ∷ 1 ∷ 2 ∷ 3 ∷ 4 ∷ 5 ∷ []
+
+abbrev context20 : Context
+context20 = record { accent = 1; tone = 2; prev = 3; last = 0 }
+
+abbrev before20 : List ℕ
+before20 = replicate 9 0 ++ ((18 ∷ 2 ∷ replicate 13 0) ++ ((18 ∷ 3 ∷ replicate 13 0) ++ ((19 ∷ 1 ∷ replicate 16 0) ++ replicate 12 0)))
+
+abbrev read20 : Sst
+read20 = record { last = 20; tones = 9 ∷ 24 ∷ []; accents = 39 ∷ []; rows = 3; lists = []; due = 0; total = 0 }
+
+fields20 : (rowDue (before20 ++ record20) read20 2 ≡ true)
+    × (rowNames (before20 ++ record20) read20 2 3 ≡ true)
+    × (rowBytes context20 4 5 ≡ record20)
+unfolding rowDue rowNames
+fields20 = (refl, refl, refl)
+
+-- a list of 6, and the second of its components
+abbrev record21 : List ℕ
+record21 = 21 ∷ 1 ∷ 2 ∷ 3 ∷ 4 ∷ 5 ∷ 6 ∷ []
+
+abbrev record22 : List ℕ
+record22 =
+    22 ∷ 1 ∷ 2 ∷ 3 ∷ 4 ∷ 5 ∷ 6 ∷ 7 ∷ 8 ∷ 9 ∷ 10 ∷ 11 ∷ 12 ∷ 13 ∷ 14 ∷ 15 ∷ 16 ∷ 17 ∷ 18 ∷ 19 ∷ 20 ∷ 21 ∷ 22 ∷ 23 ∷ 24 ∷ 25 ∷ 26 ∷ 27 ∷
+    28 ∷ 29 ∷ 30 ∷ 31 ∷ 32 ∷ 33 ∷ 34 ∷ 35 ∷ 36 ∷ 37 ∷ 38 ∷ 39 ∷ 40 ∷ 41 ∷ 42 ∷ 43 ∷ 44 ∷ []
+
+abbrev carried22 : Carried
+carried22 = record {
+  owner = 2;
+  form = 3;
+  label = 0x0504;
+  part = 1;
+  weight = 0x0403_0201;
+  points =
+      0x0807_0605 ∷ 0x0c0b_0a09 ∷ 0x100f_0e0d ∷ 0x1413_1211 ∷ 0x1817_1615 ∷ 0x1c1b_1a19 ∷ 0x201f_1e1d ∷ 0x2423_2221 ∷ 0x2827_2625 ∷ 0x2c2b_2a29 ∷ [];
+}
+
+abbrev list21 : List ℕ
+list21 = record21 ++ (replicate 45 0 ++ record22)
+
+fields22 : (carriedAt list21 0 1 ≡ carried22)
+    × (listSize list21 0 ≡ 277)
+    × (headBytes 1 carried22 6 ≡ record21)
+    × (componentBytes carried22 ≡ record22)
+unfolding carriedAt bitsAt bitsBytes
+fields22 = (refl, refl, refl, refl)

@@ -3,19 +3,20 @@
 ghost use mathlib.Core.Path.{_≡_};
 ghost use Rattle.tonekit_sheet.specs.Reader.{sizeOf};
 ghost use Rattle.tonekit_sheet.specs.Marks.{mixed};
+use tonekit_core::layout;
 
 // The bytes of a record of kind k, its kind among them.
 pub fn size_of(k: u8) -> usize
     ensures { λ r. ⌜ r ≡ sizeOf k ⌝ }
 {
     match k {
-        17 => 9,
-        18 => 15,
-        19 => 18,
-        20 => 6,
-        21 => 7,
-        22 => 45,
-        _ => 1,
+        layout::SHEET_SETTINGS_KIND => layout::SETTINGS_SIZE,
+        layout::SHEET_TONE_KIND => layout::SHEET_TONE_SIZE,
+        layout::SHEET_ACCENT_KIND => layout::SHEET_ACCENT_SIZE,
+        layout::SHEET_ROW_KIND => layout::SHEET_ROW_SIZE,
+        layout::SHEET_LIST_KIND => layout::SHEET_LIST_SIZE,
+        layout::SHEET_COMPONENT_KIND => layout::SHEET_COMPONENT_SIZE,
+        _ => layout::SHEET_END_SIZE,
     }
 }
 

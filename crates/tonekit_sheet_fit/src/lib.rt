@@ -6,5 +6,5 @@ ghost use Rattle.tonekit_sheet_fit.specs.Room.{Suffices};
 pub fn sheet_most() -> usize
     ensures { λ r. ⌜ Suffices r ⌝ }
 {
-    13266
+    tonekit_core::layout::SHEET_MOST
 }

@@ -2,6 +2,7 @@
 use Prim.Native.Nat.{ℕ, zero, suc, _+_, _*_}
 use mathlib.Core.List.{List, [], _∷_, _++_}
 use lib.ListN.{length, getD}
+use Rattle.tonekit_core.specs.Layout.{sheetRowKind, sheetListSize, sheetComponentKind, sheetComponentSize, sheetToneAt, sheetAccentAt, sheetRowAt}
 use Rattle.tonekit_expect.specs.Source.{Carried, Source}
 use Rattle.tonekit_sheet.specs.Reader.{Sst}
 use Rattle.tonekit_sheet.specs.Sheet.{View, viewOf, rowsOf, listsOf}
@@ -19,16 +20,16 @@ componentsBefore lists (suc n) = componentsBefore lists n + length (getD lists n
 
 -- tone i, accent i, row r and list i of a sheet of this view, with these lists
 abbrev pub toneAt : ℕ → ℕ
-toneAt i = 9 + 15 * i
+toneAt i = sheetToneAt i
 
 abbrev pub accentAt : View → ℕ → ℕ
-accentAt v i = 9 + 15 * length (v .tones) + 18 * i
+accentAt v i = sheetAccentAt (length (v .tones)) i
 
 abbrev pub rowAt : View → ℕ → ℕ
-rowAt v r = 9 + 15 * length (v .tones) + 18 * length (v .accents) + 6 * r
+rowAt v r = sheetRowAt (length (v .tones)) (length (v .accents)) r
 
 abbrev pub listAt : View → List (List Carried) → ℕ → ℕ
-listAt v lists i = rowAt v (rowsOf v) + (7 * i + 45 * componentsBefore lists i)
+listAt v lists i = rowAt v (rowsOf v) + (sheetListSize * i + sheetComponentSize * componentsBefore lists i)
 
 -- what has been read after t tones, a accents, r rows and l lists
 abbrev pub readTo : View → List (List Carried) → ℕ → ℕ → ℕ → ℕ → ℕ → ℕ → ℕ → Sst
@@ -50,7 +51,8 @@ lastOf before kind (suc n) = kind
 -- what the reader has at the end of a sheet
 unfoldable pub stOfView : View → List (List Carried) → Sst
 stOfView v lists =
-    readTo v lists (lastOf 20 22 (length lists)) (length (v .tones)) (length (v .accents)) (rowsOf v) (length lists) 0 (componentsIn lists)
+    readTo v lists (lastOf sheetRowKind sheetComponentKind (length lists)) (length (v .tones)) (length (v .accents))
+    (rowsOf v) (length lists) 0 (componentsIn lists)
 
 unfoldable pub stOf : Source → Sst
 stOf src = stOfView (viewOf src) (listsOf (viewOf src))

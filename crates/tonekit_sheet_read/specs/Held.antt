@@ -3,6 +3,8 @@ use Prim.Native.Nat.{ℕ, zero, suc, _+_, _*_, _≤_, _<_}
 use mathlib.Core.Path.{_≡_}
 use mathlib.Core.List.{List, [], _∷_, _++_}
 use lib.ListN.{length}
+use Rattle.tonekit_core.specs.Layout.{settingsSize, sheetToneKind, sheetToneSize, sheetAccentKind, sheetAccentSize, sheetRowKind}
+use Rattle.tonekit_core.specs.Layout.{sheetListKind, sheetComponentKind, sheetToneAt, sheetAccentAt}
 use Rattle.tonekit_pack.specs.Held.{inOrder}
 use Rattle.tonekit_sheet_read.specs.declared.Sheet.{Sheet}
 use Rattle.tonekit_sheet_read.specs.declared.SheetRead.{SheetRead}
@@ -19,8 +21,8 @@ stepped o step (suc n) = stepped o step n ++ ((o + step * n) ∷ [])
 abbrev pub shown : Sheet → Sst
 shown p = record {
   last = p .last;
-  tones = stepped 9 15 (p .tones);
-  accents = stepped (9 + 15 * p .tones) 18 (p .accents);
+  tones = stepped settingsSize sheetToneSize (p .tones);
+  accents = stepped (sheetToneAt (p .tones)) sheetAccentSize (p .accents);
   rows = p .rows;
   lists = inOrder (p .listat) (p .lists);
   due = p .due;
@@ -49,8 +51,8 @@ pub record Roomy (p : Sheet) : Type 0 where
 
 -- the record of kind k at o, a list of so many components, may follow what was read: it stands where it is shown to, and there is room for it
 pub record Follows (k o count : ℕ) (p : Sheet) : Type 0 where
-  pub tone : k ≡ 18 → (o ≡ 9 + 15 * p .tones) × (p .tones < 8) × (p .accents ≡ 0)
-  pub accent : k ≡ 19 → (o ≡ 9 + 15 * p .tones + 18 * p .accents) × (p .accents < 8)
-  pub row : k ≡ 20 → p .rows < 576
-  pub list : k ≡ 21 → (o < 65536) × (p .lists < 128) × (count ≤ 4)
-  pub component : k ≡ 22 → (1 ≤ p .due) × (p .total < 192)
+  pub tone : k ≡ sheetToneKind → (o ≡ sheetToneAt (p .tones)) × (p .tones < 8) × (p .accents ≡ 0)
+  pub accent : k ≡ sheetAccentKind → (o ≡ sheetAccentAt (p .tones) (p .accents)) × (p .accents < 8)
+  pub row : k ≡ sheetRowKind → p .rows < 576
+  pub list : k ≡ sheetListKind → (o < 65536) × (p .lists < 128) × (count ≤ 4)
+  pub component : k ≡ sheetComponentKind → (1 ≤ p .due) × (p .total < 192)

@@ -10,6 +10,7 @@ mod read;
 use tonekit_core::Checked;
 use tonekit_core::Refusal;
 use tonekit_core::Verdict;
+use tonekit_core::layout;
 use tonekit_expect::Found;
 
 // What was read of a sheet: how many of each, and the offsets of the lists. Tones, accents and rows
@@ -72,13 +73,14 @@ pub fn read_sheet(sheet: &[u8]) -> Loaded
             };
         }
         let k = sheet[at];
-        if k == 23 {
+        if k == layout::SHEET_END_KIND {
             return Loaded {
-                read: finish(sheet, st, at + 1),
+                read: finish(sheet, st, at + layout::SHEET_END_SIZE),
                 sheet: st,
             };
         }
-        st = read::add(k, at, tonekit_bytes::byte_at(sheet, at, 6), st);
+        let count = tonekit_bytes::byte_at(sheet, at, layout::SHEET_LIST_COUNT);
+        st = read::add(k, at, count, st);
         at = at + tonekit_sheet::size_of(k);
     }
 }

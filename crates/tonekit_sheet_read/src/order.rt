@@ -12,15 +12,19 @@ ghost use Rattle.tonekit_sheet_read.specs.Marks.{markAt, Marked};
 use crate::Sheet;
 use tonekit_bytes::byte_at;
 use tonekit_bytes::u32_at;
+use tonekit_core::layout;
 use tonekit_expect::Found;
 use tonekit_sheet::mix;
+
+// The weight of a list's first component, from the list on.
+const FIRST_WEIGHT: usize = layout::SHEET_LIST_SIZE + layout::SHEET_COMPONENT_WEIGHT;
 
 // The offset of row r, of at most 576.
 fn row_at(st: Sheet, r: usize) -> usize
     requires { ⌜ Roomy st × (r ≤ 576) ⌝ }
     ensures { λ o. ⌜ (o ≡ rowAt (shown st) r) × (o ≤ 4000) ⌝ }
 {
-    9 + 15 * st.tones + 18 * st.accents + 6 * r
+    layout::sheet_row_at(st.tones, st.accents, r)
 }
 
 // An offset as a usize.
@@ -41,12 +45,12 @@ fn list_there(s: &[u8], at: &[u16; 128], n: usize, x: u8) -> bool
     }
     let p = x as usize - 1;
     if p < n {
-        if byte_at(s, wide(at[p]), 1) == x {
+        if byte_at(s, wide(at[p]), layout::OWN_NUMBER) == x {
             return true;
         }
     }
     for i in 0..n {
-        if byte_at(s, wide(at[i]), 1) == x {
+        if byte_at(s, wide(at[i]), layout::OWN_NUMBER) == x {
             return true;
         }
     }
@@ -61,8 +65,13 @@ pub fn loose_row(s: &[u8], st: Sheet) -> Found
     let at = st.listat;
     for r in 0..st.rows {
         let o = row_at(st, r);
-        let not_final = list_there(s, &at, st.lists, byte_at(s, o, 4));
-        let last = list_there(s, &at, st.lists, byte_at(s, o, 5));
+        let not_final = list_there(s, &at, st.lists, byte_at(s, o, layout::SHEET_ROW_LIST));
+        let last = list_there(
+            s,
+            &at,
+            st.lists,
+            byte_at(s, o, layout::SHEET_ROW_FINAL_LIST),
+        );
         if !(not_final & last) {
             return Found::At(o);
         }
@@ -77,8 +86,8 @@ pub fn accent_down(s: &[u8], st: Sheet) -> Found
 {
     let mut before = 0;
     for i in 0..st.accents {
-        let o = 9 + 15 * st.tones + 18 * i;
-        let n = byte_at(s, o, 1);
+        let o = layout::sheet_accent_at(st.tones, i);
+        let n = byte_at(s, o, layout::OWN_NUMBER);
         if !(before < n) {
             return Found::At(o);
         }
@@ -95,7 +104,7 @@ fn prev_due(s: &[u8], st: Sheet, p: usize) -> u8
     if p == 0 {
         return 0;
     }
-    byte_at(s, 9 + 15 * (p - 1), 1)
+    byte_at(s, layout::sheet_tone_at(p - 1), layout::OWN_NUMBER)
 }
 
 // Whether row r is the one due at its place.
@@ -108,9 +117,11 @@ fn row_due(s: &[u8], st: Sheet, r: usize) -> bool
     let a = r / (st.tones * each);
     let t = r / each % st.tones;
     let p = r % each;
-    let accent = byte_at(s, o, 1) == byte_at(s, 9 + 15 * st.tones + 18 * a, 1);
-    let tone = byte_at(s, o, 2) == byte_at(s, 9 + 15 * t, 1);
-    accent & (tone & (byte_at(s, o, 3) == prev_due(s, st, p)))
+    let accent_due = byte_at(s, layout::sheet_accent_at(st.tones, a), layout::OWN_NUMBER);
+    let tone_due = byte_at(s, layout::sheet_tone_at(t), layout::OWN_NUMBER);
+    let accent = byte_at(s, o, layout::SHEET_ROW_ACCENT) == accent_due;
+    let tone = byte_at(s, o, layout::SHEET_ROW_TONE) == tone_due;
+    accent & (tone & (byte_at(s, o, layout::SHEET_ROW_PREV) == prev_due(s, st, p)))
 }
 
 // The greater of two list numbers.
@@ -126,8 +137,8 @@ fn row_names(s: &[u8], st: Sheet, r: usize, m: u8) -> bool
     ensures { λ b. ⌜ b ≡ rowNames (now (s .entry)) (shown st) r m ⌝ }
 {
     let o = row_at(st, r);
-    let n = byte_at(s, o, 4);
-    let last = byte_at(s, o, 5);
+    let n = byte_at(s, o, layout::SHEET_ROW_LIST);
+    let last = byte_at(s, o, layout::SHEET_ROW_FINAL_LIST);
     (n as usize <= m as usize + 1) & (last as usize <= most(m, n) as usize + 1)
 }
 
@@ -142,7 +153,10 @@ pub fn row_wrong(s: &[u8], st: Sheet) -> Found
         if !(row_due(s, st, r) & row_names(s, st, r, m)) {
             return Found::At(o);
         }
-        m = most(most(m, byte_at(s, o, 4)), byte_at(s, o, 5));
+        m = most(
+            most(m, byte_at(s, o, layout::SHEET_ROW_LIST)),
+            byte_at(s, o, layout::SHEET_ROW_FINAL_LIST),
+        );
     }
     Found::Nothing
 }
@@ -154,8 +168,8 @@ fn use_from(s: &[u8], st: Sheet, n: usize, from: usize) -> usize
 {
     for r in from..st.rows {
         let o = row_at(st, r);
-        let first = byte_at(s, o, 4) as usize == n;
-        let last = byte_at(s, o, 5) as usize == n;
+        let first = byte_at(s, o, layout::SHEET_ROW_LIST) as usize == n;
+        let last = byte_at(s, o, layout::SHEET_ROW_FINAL_LIST) as usize == n;
         if first | last {
             return r;
         }
@@ -180,10 +194,10 @@ fn use_of(s: &[u8], st: Sheet, n: usize, from: usize) -> usize
 fn mark_at(s: &[u8], o: usize) -> u32
     ensures { λ r. ⌜ r ≡ markAt (now (s .entry)) o ⌝ }
 {
-    let words = 11 * (byte_at(s, o, 6) as usize);
+    let words = 11 * (byte_at(s, o, layout::SHEET_LIST_COUNT) as usize);
     let mut m: u32 = 0;
     for k in 0..words {
-        m = mix(m, u32_at(s, o, 8 + 4 * k));
+        m = mix(m, u32_at(s, o, FIRST_WEIGHT + layout::F32_SIZE * k));
     }
     m
 }
@@ -192,8 +206,9 @@ fn mark_at(s: &[u8], o: usize) -> u32
 fn same_lists(s: &[u8], a: usize, b: usize) -> bool
     ensures { λ r. ⌜ r ≡ sameLists (now (s .entry)) a b ⌝ }
 {
-    let size = 7 + 45 * (byte_at(s, a, 6) as usize);
-    for k in 2..size {
+    let count = byte_at(s, a, layout::SHEET_LIST_COUNT) as usize;
+    let size = layout::SHEET_LIST_SIZE + layout::SHEET_COMPONENT_SIZE * count;
+    for k in layout::SHEET_LIST_OWNER..size {
         if byte_at(s, a, k) != byte_at(s, b, k) {
             return false;
         }
@@ -236,7 +251,7 @@ pub fn list_wrong(s: &[u8], st: Sheet) -> Found
     let mut from = 0;
     for i in 0..st.lists {
         let o = at[i] as usize;
-        let numbered = byte_at(s, o, 1) as usize == i + 1;
+        let numbered = byte_at(s, o, layout::OWN_NUMBER) as usize == i + 1;
         from = use_of(s, st, i + 1, from);
         let mark = mark_at(s, o);
         let fine = numbered & ((from < st.rows) & !repeated(s, &at, &marks, i, o, mark));

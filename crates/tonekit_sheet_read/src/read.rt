@@ -2,6 +2,7 @@
 ghost use mathlib.Core.Path.{_≡_};
 ghost use Prim.Native.Nat.{_+_, _≤_};
 ghost use lib.ListN.{length};
+ghost use Rattle.tonekit_core.specs.Layout.{sheetToneSize, sheetAccentSize, sheetComponentSize};
 ghost use Rattle.tonekit_pack.specs.Pack.{holds};
 ghost use Rattle.tonekit_sheet.specs.Reader.{rowsDue, complete, dueNext, sizeOf, toneVerdict, accentVerdict, rowVerdict, listVerdict, pointFine, pointsFine, lastList, componentVerdict, bodyVerdict, recordVerdict, added, start};
 ghost use Rattle.tonekit_sheet_read.specs.Held.{stepped, shown, Roomy, Follows};
@@ -12,6 +13,7 @@ use tonekit_bytes::u16_at;
 use tonekit_bytes::u32_at;
 use tonekit_core::Refusal;
 use tonekit_core::Verdict;
+use tonekit_core::layout;
 use tonekit_core::limits;
 use tonekit_pack::ranges::a_share;
 use tonekit_pack::ranges::region_fine;
@@ -34,10 +36,10 @@ fn complete(st: Sheet) -> bool
     requires { ⌜ Roomy st ⌝ }
     ensures { λ r. ⌜ r ≡ complete (shown st) ⌝ }
 {
-    if st.last == 20 {
+    if st.last == layout::SHEET_ROW_KIND {
         return st.rows == rows_due(st);
     }
-    (st.last == 22) & (st.due == 0)
+    (st.last == layout::SHEET_COMPONENT_KIND) & (st.due == 0)
 }
 
 // Whether a record of kind k may stand here.
@@ -47,13 +49,17 @@ fn due_next(st: Sheet, k: u8) -> bool
 {
     let last = st.last;
     match k {
-        17 => last == 0,
-        18 => (last == 17) | (last == 18),
-        19 => (last == 18) | (last == 19),
-        20 => ((last == 19) | (last == 20)) & (st.rows < rows_due(st)),
-        21 => complete(st),
-        22 => 0 < st.due,
-        23 => complete(st),
+        layout::SHEET_SETTINGS_KIND => last == 0,
+        layout::SHEET_TONE_KIND => (last == layout::SHEET_SETTINGS_KIND)
+            | (last == layout::SHEET_TONE_KIND),
+        layout::SHEET_ACCENT_KIND => (last == layout::SHEET_TONE_KIND)
+            | (last == layout::SHEET_ACCENT_KIND),
+        layout::SHEET_ROW_KIND => ((last == layout::SHEET_ACCENT_KIND)
+            | (last == layout::SHEET_ROW_KIND))
+            & (st.rows < rows_due(st)),
+        layout::SHEET_LIST_KIND => complete(st),
+        layout::SHEET_COMPONENT_KIND => 0 < st.due,
+        layout::SHEET_END_KIND => complete(st),
         _ => false,
     }
 }
@@ -61,11 +67,11 @@ fn due_next(st: Sheet, k: u8) -> bool
 // Whether one of n records, from an offset on and each so many bytes behind the one before, has x
 // as its number.
 fn holds_from(s: &[u8], o: usize, step: usize, n: usize, x: u8) -> bool
-    requires { ⌜ (o ≤ 65536) × (step ≤ 18) × (n ≤ 8) ⌝ }
+    requires { ⌜ (o ≤ 65536) × (step ≤ sheetAccentSize) × (n ≤ 8) ⌝ }
     ensures { λ r. ⌜ r ≡ holds (now (s .entry)) (stepped o step n) x ⌝ }
 {
     for i in 0..n {
-        if byte_at(s, o + step * i, 1) == x {
+        if byte_at(s, o + step * i, layout::OWN_NUMBER) == x {
             return true;
         }
     }
@@ -77,35 +83,42 @@ fn tone_held(s: &[u8], st: Sheet, x: u8) -> bool
     requires { ⌜ Roomy st ⌝ }
     ensures { λ r. ⌜ r ≡ holds (now (s .entry)) (shown st .tones) x ⌝ }
 {
-    holds_from(s, 9, 15, st.tones, x)
+    holds_from(
+        s,
+        layout::SETTINGS_SIZE,
+        layout::SHEET_TONE_SIZE,
+        st.tones,
+        x,
+    )
 }
 
 fn accent_held(s: &[u8], st: Sheet, x: u8) -> bool
     requires { ⌜ Roomy st ⌝ }
     ensures { λ r. ⌜ r ≡ holds (now (s .entry)) (shown st .accents) x ⌝ }
 {
-    holds_from(s, 9 + 15 * st.tones, 18, st.accents, x)
+    let o = layout::sheet_tone_at(st.tones);
+    holds_from(s, o, layout::SHEET_ACCENT_SIZE, st.accents, x)
 }
 
 // What is said of a record of each kind that is due and whole.
 fn tone_verdict(s: &[u8], o: usize, st: Sheet) -> Verdict
-    requires { ⌜ Roomy st × (o + 15 ≤ length (now s)) ⌝ }
+    requires { ⌜ Roomy st × (o + sheetToneSize ≤ length (now s)) ⌝ }
     ensures { λ r. ⌜ r ≡ toneVerdict (now (s .entry)) o (shown st) ⌝ }
 {
-    let number = byte_at(s, o, 1);
-    let share = a_share(f32_at(s, o, 2));
-    let region = region_fine(s, o + 6);
+    let number = byte_at(s, o, layout::OWN_NUMBER);
+    let share = a_share(f32_at(s, o, layout::SHEET_TONE_PRIOR));
+    let region = region_fine(s, o + layout::SHEET_TONE_REGION);
     let fine = (number != 0) & (share & region);
     let new = !tone_held(s, st, number);
     in_turn(limits::TONES <= st.tones, fine, new, true)
 }
 
 fn accent_verdict(s: &[u8], o: usize, st: Sheet) -> Verdict
-    requires { ⌜ Roomy st × (o + 18 ≤ length (now s)) ⌝ }
+    requires { ⌜ Roomy st × (o + sheetAccentSize ≤ length (now s)) ⌝ }
     ensures { λ r. ⌜ r ≡ accentVerdict (now (s .entry)) o (shown st) ⌝ }
 {
-    let number = byte_at(s, o, 1);
-    let fine = (number != 0) & tolerances_fine(s, o + 2);
+    let number = byte_at(s, o, layout::OWN_NUMBER);
+    let fine = (number != 0) & tolerances_fine(s, o + layout::SHEET_ACCENT_CONTOUR);
     let new = !accent_held(s, st, number);
     in_turn(limits::ACCENTS <= st.accents, fine, new, true)
 }
@@ -114,9 +127,9 @@ fn row_verdict(s: &[u8], o: usize, st: Sheet) -> Verdict
     requires { ⌜ Roomy st ⌝ }
     ensures { λ r. ⌜ r ≡ rowVerdict (now (s .entry)) o (shown st) ⌝ }
 {
-    let accent = byte_at(s, o, 1);
-    let tone = byte_at(s, o, 2);
-    let prev = byte_at(s, o, 3);
+    let accent = byte_at(s, o, layout::SHEET_ROW_ACCENT);
+    let tone = byte_at(s, o, layout::SHEET_ROW_TONE);
+    let prev = byte_at(s, o, layout::SHEET_ROW_PREV);
     let fine = (accent != 0) & (tone != 0);
     let before = (prev == 0) | tone_held(s, st, prev);
     let held = accent_held(s, st, accent) & (tone_held(s, st, tone) & before);
@@ -127,14 +140,14 @@ fn list_verdict(s: &[u8], o: usize, st: Sheet) -> Verdict
     requires { ⌜ Roomy st ⌝ }
     ensures { λ r. ⌜ r ≡ listVerdict (now (s .entry)) o (shown st) ⌝ }
 {
-    let owner = byte_at(s, o, 2);
-    let form = byte_at(s, o, 3);
-    let label = u16_at(s, o, 4);
-    let count = byte_at(s, o, 6);
+    let owner = byte_at(s, o, layout::SHEET_LIST_OWNER);
+    let form = byte_at(s, o, layout::SHEET_LIST_FORM);
+    let label = u16_at(s, o, layout::SHEET_LIST_LABEL);
+    let count = byte_at(s, o, layout::SHEET_LIST_COUNT);
     let crowded = (limits::LISTS <= st.lists) | ((4 < count) | ((1 < count) & (form != 3)));
     let counted = (count != 0) & ((form != 1) | (label == 0));
     let formed = ((1 <= form) & (form <= 3)) & counted;
-    let fine = (byte_at(s, o, 1) != 0) & ((owner != 0) & formed);
+    let fine = (byte_at(s, o, layout::OWN_NUMBER) != 0) & ((owner != 0) & formed);
     in_turn(crowded, fine, true, accent_held(s, st, owner))
 }
 
@@ -151,7 +164,7 @@ fn points_fine(s: &[u8], o: usize) -> bool
 {
     let mut ok = true;
     for k in 0..10 {
-        ok = ok & point_fine(f32_at(s, o, 4 * k));
+        ok = ok & point_fine(f32_at(s, o, layout::F32_SIZE * k));
     }
     ok
 }
@@ -170,12 +183,12 @@ fn last_list(st: Sheet) -> usize
 }
 
 fn component_verdict(s: &[u8], o: usize, st: Sheet) -> Verdict
-    requires { ⌜ Roomy st × (o + 45 ≤ length (now s)) ⌝ }
+    requires { ⌜ Roomy st × (o + sheetComponentSize ≤ length (now s)) ⌝ }
     ensures { λ r. ⌜ r ≡ componentVerdict (now (s .entry)) o (shown st) ⌝ }
 {
-    let weight = u32_at(s, o, 1);
-    let mixture = byte_at(s, last_list(st), 3) == 3;
-    let curve = points_fine(s, o + 5);
+    let weight = u32_at(s, o, layout::SHEET_COMPONENT_WEIGHT);
+    let mixture = byte_at(s, last_list(st), layout::SHEET_LIST_FORM) == 3;
+    let curve = points_fine(s, o + layout::SHEET_COMPONENT_POINTS);
     let fine = weight_fine(weight) & ((mixture | (weight == 0x3f80_0000)) & curve);
     in_turn(limits::COMPONENTS <= st.total, fine, true, true)
 }
@@ -185,12 +198,12 @@ fn body_verdict(k: u8, s: &[u8], o: usize, st: Sheet) -> Verdict
     ensures { λ r. ⌜ r ≡ bodyVerdict k (now (s .entry)) o (shown st) ⌝ }
 {
     match k {
-        17 => settings_verdict(s, o),
-        18 => tone_verdict(s, o, st),
-        19 => accent_verdict(s, o, st),
-        20 => row_verdict(s, o, st),
-        21 => list_verdict(s, o, st),
-        22 => component_verdict(s, o, st),
+        layout::SHEET_SETTINGS_KIND => settings_verdict(s, o),
+        layout::SHEET_TONE_KIND => tone_verdict(s, o, st),
+        layout::SHEET_ACCENT_KIND => accent_verdict(s, o, st),
+        layout::SHEET_ROW_KIND => row_verdict(s, o, st),
+        layout::SHEET_LIST_KIND => list_verdict(s, o, st),
+        layout::SHEET_COMPONENT_KIND => component_verdict(s, o, st),
         _ => Verdict::Fine,
     }
 }
@@ -236,26 +249,26 @@ pub fn add(k: u8, o: usize, count: u8, st: Sheet) -> Sheet
 {
     let mut next = st;
     next.last = k;
-    if k == 18 {
+    if k == layout::SHEET_TONE_KIND {
         next.tones = st.tones + 1;
         return next;
     }
-    if k == 19 {
+    if k == layout::SHEET_ACCENT_KIND {
         next.accents = st.accents + 1;
         return next;
     }
-    if k == 20 {
+    if k == layout::SHEET_ROW_KIND {
         next.rows = st.rows + 1;
         return next;
     }
-    if k == 21 {
+    if k == layout::SHEET_LIST_KIND {
         let n = st.lists;
         next.listat[n] = o as u16;
         next.lists = n + 1;
         next.due = count as usize;
         return next;
     }
-    if k == 22 {
+    if k == layout::SHEET_COMPONENT_KIND {
         next.due = st.due - 1;
         next.total = st.total + 1;
         return next;

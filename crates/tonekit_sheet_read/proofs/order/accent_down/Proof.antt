@@ -24,13 +24,13 @@ returns : tie.Need-returns Inv-loop μ-loop
 returns c =
     let l = c .before .before .before .before in
     let st = l .before .before .args .st in
-    to-stop _ _ (l .loop .inv .2) (rw stepped-length (omega arith)) (simp (stepped-get (9 + 15 * st .tones) 18 (st .accents) (l .loop .i) (omega arith), ← (c .before .byte-at .ensures), not-true (ltb (l .loop .before) (c .before .byte-at .result)) (c .if1 .taken)))
+    to-stop _ _ (l .loop .inv .2) (rw stepped-length (omega arith)) (simp (stepped-get (9 + 15 * st .tones) 18 (st .accents) (l .loop .i) (omega arith), ← (c .before .before .sheet-accent-at .ensures), ← (c .before .byte-at .ensures), not-true (ltb (l .loop .before) (c .before .byte-at .result)) (c .if1 .taken)))
 
 loop-again : tie.Need-loop-again Inv-loop μ-loop
 loop-again c =
     let l = c .before .before .before .before in
     let st = l .before .before .args .st in
-    (l .loop .inv .0, omega arith, to-again _ _ (l .loop .inv .2) (rw stepped-length (omega arith)) (simp (stepped-get (9 + 15 * st .tones) 18 (st .accents) (l .loop .i) (omega arith), ← (c .before .byte-at .ensures), not-false (ltb (l .loop .before) (c .before .byte-at .result)) (c .if1 .left))))
+    (l .loop .inv .0, omega arith, to-again _ _ (l .loop .inv .2) (rw stepped-length (omega arith)) (simp (stepped-get (9 + 15 * st .tones) 18 (st .accents) (l .loop .i) (omega arith), ← (c .before .before .sheet-accent-at .ensures), ← (c .before .byte-at .ensures), not-false (ltb (l .loop .before) (c .before .byte-at .result)) (c .if1 .left))))
 
 returns-2 : tie.Need-returns-2 Inv-loop μ-loop
 returns-2 c = to-ended _ _ (c .before .loop .inv .2) (rw stepped-length (omega arith))
@@ -46,10 +46,7 @@ accent-down-spec =
     Inv-loop
     μ-loop
     loop-holds
-    (λ c. search needs)
-    (λ c. search needs)
-    (λ c. search needs)
-    (λ c. search needs)
+    (λ c κs. search needs)
     (λ c κs. search needs)
     returns
     (λ c. search needs)

@@ -10,7 +10,9 @@ returns : tie.Need-returns
 returns c = rw (c .if1 .taken)
 
 returns-2 : tie.Need-returns-2
-returns-2 c = let st = c .before .before .before .args .st in c .byte-at .ensures ∙ sym (prev-some _ st (c .before .before .before .args .p) (omega arith) (omega arith))
+returns-2 c =
+    let a = c .before .before .before .before .args in
+    c .byte-at .ensures ∙ rw (c .before .sheet-tone-at .ensures) (sym (prev-some _ (a .st) (a .p) (omega arith) (omega arith)))
 
 pub prev-due-spec : {M : Type 1} → statement M
 prev-due-spec =
@@ -18,7 +20,6 @@ prev-due-spec =
     (tie.spec
     returns
     (λ c. search needs)
-    (λ c. search needs)
-    (λ c. search needs)
+    (λ c κs. search needs)
     (λ c κs. search needs)
     returns-2)

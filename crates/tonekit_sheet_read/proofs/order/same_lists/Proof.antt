@@ -11,10 +11,10 @@ use Rattle.tonekit_sheet_read.proofs.order.same_lists.Statement.{statem
 use Rattle.tonekit_sheet_read.proofs.order.same_lists.Tie as tie
 
 abbrev Inv-loop : tie.InvT-loop
-Inv-loop s a b size k₀ k = range (sameTurn s a b) k size true ≡ sameLists s a b
+Inv-loop s a b count size k₀ k = range (sameTurn s a b) k size true ≡ sameLists s a b
 
 abbrev μ-loop : tie.MeasureT-loop
-μ-loop s a b size k₀ k = size - k
+μ-loop s a b count size k₀ k = size - k
 
 loop-holds : tie.Need-loop-holds Inv-loop μ-loop
 unfolding sameLists
