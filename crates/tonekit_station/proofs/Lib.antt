@@ -1,4 +1,3 @@
-pub mod Search
 pub mod Ways
 pub mod Enough
 pub mod Input

@@ -1,5 +1,5 @@
 -- A search by number among a pack's or a sheet's records finds what a station holds under that number. Assumes nothing.
-use Prim.Native.Nat.{ℕ, zero, suc, _+_, _-_}
+use Prim.Native.Nat.{ℕ, zero, suc, _+_, _-_, _<_}
 use mathlib.Core.Path.{_≡_, refl, _∙_, ap}
 use mathlib.Core.Bool.{Bool, true, false, cond, _||_}
 use mathlib.Core.List.{List, [], _∷_, map}
@@ -11,14 +11,19 @@ use lib.ListN.{length, getD, drop, drop-of-length-le}
 use lib.Seq.{drop-cons}
 use Rattle.tonekit_core.specs.Loop.{Turn, next, stop, turnsTo, rangeTo}
 use Rattle.tonekit_pack.specs.Pack.{numberAt}
+use Rattle.tonekit_pack.specs.declared.Pack.{Pack}
+use Rattle.tonekit_pack.specs.Held.{shown}
 use Rattle.tonekit_pack.proofs.Split.{split}
+use Rattle.tonekit_pack.proofs.InOrder.{order-length, order-get}
 use Rattle.tonekit_expect.specs.Lookup.{indexTurn, indexOf}
-use Rattle.tonekit_expect.specs.Source.{Tone, Accent, accentAt, accentIn, toneIn}
+use Rattle.tonekit_expect.specs.Source.{Tone, Accent, accentAt, accentIn, toneIn, sourceOfPack}
 use Rattle.tonekit_expect.specs.declared.Found.{Found}
 use Rattle.tonekit_expect.specs.declared.Found.the-variants as found
-use Rattle.tonekit_sheet.specs.FromSheet as sheet
+use Rattle.tonekit_expect.proofs.Walk.{index-found}
+use Rattle.tonekit_score.specs.declared.Tolerance.{Tolerance}
+use Rattle.tonekit_inventory.specs.declared.Graded.{Graded}
 use Rattle.tonekit_inventory.specs.Fields.{toleranceAt}
-use Rattle.tonekit_station.specs.Judgement.{toleranceOf}
+use Rattle.tonekit_inventory.specs.Gather.{toleranceOf, gradedOf}
 
 -- what is said of the record that a search found: hit of its offset, or miss
 abbrev pick : {R : Type 0} → (ℕ → R) → R → List ℕ → Found → R
@@ -85,11 +90,18 @@ tolerance s o =
     let turning : o + 3 + 12 ≡ o + 15 = omega arith in
     rw (onset, offset, turning)
 
--- and in a sheet behind its kind and number
-pub sheet-tolerance : (s : List ℕ) (o : ℕ) → toleranceAt s (o + 2) ≡ toleranceOf (sheet.accentAt s o)
-unfolding toleranceAt
-sheet-tolerance s o =
-    let onset : o + 2 + 4 ≡ o + 6 = omega arith in
-    let offset : o + 2 + 8 ≡ o + 10 = omega arith in
-    let turning : o + 2 + 12 ≡ o + 14 = omega arith in
-    rw (onset, offset, turning)
+-- the accent that a search in a pack finds, with its tolerances
+module _ (s : List ℕ) (p : Pack) (n : ℕ) where
+  pub graded-found : (i : ℕ) → i < p .accents → indexOf s (shown p .accents) n ≡ found.At i → (t : Tolerance) → t ≡ toleranceAt s (getD (p .accentat) i 0 + 3)
+      → record { held = true; tolerance = t } ≡ gradedOf (accentIn (sourceOfPack s (shown p) .accents) n)
+  unfolding sourceOfPack
+  graded-found i h e t q =
+      rw (accent-found s (shown p .accents) n (accentAt s) (λ o. refl) i e, order-get (p .accentat) (p .accents) i h)
+      (ap (λ (x : Tolerance). record { held = true; tolerance = x }) (q ∙ tolerance s (getD (p .accentat) i 0)))
+
+  pub graded-none : indexOf s (shown p .accents) n ≡ found.Nothing → gradedOf none ≡ gradedOf (accentIn (sourceOfPack s (shown p) .accents) n)
+  unfolding sourceOfPack
+  graded-none e = rw (accent-none s (shown p .accents) n (accentAt s) (λ o. refl) e)
+
+  pub inside : (i : ℕ) → indexOf s (shown p .accents) n ≡ found.At i → i < p .accents
+  inside i e = omega (arith, index-found s (shown p .accents) n i e .inside, order-length (p .accentat) (p .accents))

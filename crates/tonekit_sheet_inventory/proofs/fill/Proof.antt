@@ -1,4 +1,4 @@
--- `fill_sheet` meets its contract: as many components as turns are passed stand in their slots.
+-- `fill` meets its contract: as many components as turns are passed stand in their slots.
 use mathlib.Core.Path.{_≡_, ap, _∙_}
 use borrow.Author.Needs.{needs}
 use Prim.Native.Nat.{_+_, _*_, _-_, _≤_}
@@ -9,8 +9,8 @@ use Rattle.tonekit_bytes.specs.Fields.{byteAt}
 use Rattle.tonekit_inventory.specs.Gather.{weightsOf, pointsOf}
 use Rattle.tonekit_sheet.specs.FromSheet.{carriedFrom}
 use Rattle.tonekit_sheet_inventory.proofs.Slots.{no-weights, no-points, weight-put, points-put}
-use Rattle.tonekit_sheet_inventory.proofs.fill_sheet.Statement.{statement}
-use Rattle.tonekit_sheet_inventory.proofs.fill_sheet.Tie as tie
+use Rattle.tonekit_sheet_inventory.proofs.fill.Statement.{statement}
+use Rattle.tonekit_sheet_inventory.proofs.fill.Tie as tie
 
 abbrev Inv-loop : tie.InvT-loop
 Inv-loop s o t weights₀ points₀ count j₀ weights points j =
@@ -27,8 +27,8 @@ loop-holds c =
     let a = x .args in (
       c .byte-at .ensures,
       omega arith,
-      x .pre .2,
-      x .pre .3,
+      x .pre .2 .weighed,
+      x .pre .2 .pointed,
       ap (sets (a .weights .now) (4 * a .t)) (no-weights (a .s .now) (a .o)),
       ap (sets (a .points .now) (40 * a .t)) (no-points (a .s .now) (a .o)),
     )
@@ -51,10 +51,10 @@ returns c =
     let l = c .before .loop in
     let a = c .before .before .before .before .before .before .args in
     let e : l .j ≡ byteAt (a .s .now) (a .o + 6) = omega (arith, l .inv .0) in
-    (rw e at (l .inv .4), rw e at (l .inv .5))
+    record { weighed = rw e at (l .inv .4); pointed = rw e at (l .inv .5) }
 
-pub fill-sheet-spec : {M : Type 1} → statement M
-fill-sheet-spec =
+pub fill-spec : {M : Type 1} → statement M
+fill-spec =
     tie.close
     (tie.spec
     Inv-loop

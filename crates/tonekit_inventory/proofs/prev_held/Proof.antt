@@ -4,9 +4,9 @@ use borrow.Author.Needs.{needs}
 use Rattle.tonekit_pack.specs.Held.{shown}
 use borrow.Author.Tests.{eq-eqb, ne-eqb}
 use Rattle.tonekit_expect.specs.Source.{toneAt, sourceOfPack}
-use Rattle.tonekit_station.proofs.Search.{tone-found, tone-none}
-use Rattle.tonekit_station.proofs.prev_held.Statement.{statement}
-use Rattle.tonekit_station.proofs.prev_held.Tie as tie
+use Rattle.tonekit_inventory.proofs.Search.{tone-found, tone-none}
+use Rattle.tonekit_inventory.proofs.prev_held.Statement.{statement}
+use Rattle.tonekit_inventory.proofs.prev_held.Tie as tie
 
 returns : tie.Need-returns
 returns c = rw (eq-eqb _ _ (c .if1 .taken))
@@ -16,14 +16,14 @@ unfolding sourceOfPack
 returns-2 c =
     let i = c .before .before in
     let a = i .before .before .before .args in
-    rw (ne-eqb _ _ (i .before .if1 .left)) (sym (tone-found (a .pack .now) (shown (a .p) .tones) (a .prev) (toneAt (a .pack .now)) (λ o. refl) _ (sym (i .tone-index .ensures) ∙ c .enum-told .given .1)))
+    rw (ne-eqb _ _ (i .before .if1 .left)) (sym (tone-found (a .s .now) (shown (a .p) .tones) (a .prev) (toneAt (a .s .now)) (λ o. refl) _ (sym (i .tone-index .ensures) ∙ c .enum-told .given .1)))
 
 returns-3 : tie.Need-returns-3
 unfolding sourceOfPack
 returns-3 c =
     let i = c .before .before in
     let a = i .before .before .before .args in
-    rw (ne-eqb _ _ (i .before .if1 .left)) (sym (tone-none (a .pack .now) (shown (a .p) .tones) (a .prev) (toneAt (a .pack .now)) (λ o. refl) (sym (i .tone-index .ensures) ∙ c .enum-told2 .given .1)))
+    rw (ne-eqb _ _ (i .before .if1 .left)) (sym (tone-none (a .s .now) (shown (a .p) .tones) (a .prev) (toneAt (a .s .now)) (λ o. refl) (sym (i .tone-index .ensures) ∙ c .enum-told2 .given .1)))
 
 pub prev-held-spec : {M : Type 1} → statement M
 prev-held-spec =
