@@ -13,6 +13,7 @@ use Rattle.tonekit_query.specs.Query.{loadQuery, framesOf}
 use Rattle.tonekit_query.specs.declared.Query.{Query}
 use Rattle.tonekit_query.specs.declared.QueryRead.{QueryRead}
 use Rattle.tonekit_query.specs.declared.QueryRead.the-variants as query
+use Rattle.tonekit_input.specs.Input.{heldOf, queryOf}
 use Rattle.tonekit_pack.specs.Pack.{Out, loadPack}
 use Rattle.tonekit_pack.specs.Pack as pack
 use Rattle.tonekit_sheet.specs.Reader.{loadSheet}
@@ -99,3 +100,10 @@ onSheet p s (sheet.loaded st e) = judgement (sourceOfSheet p st) s
 -- the call `judge_sheet`: what a sheet's and a query's bytes are turned into
 unfoldable pub judgeSheetOutcome : List ℕ → List ℕ → Outcome
 judgeSheetOutcome p s = onSheet p s (loadSheet p)
+
+-- what the program `station` makes of its input, and `station_sheet` of its own
+abbrev pub stationOutcome : List ℕ → Outcome
+stationOutcome s = judgeOutcome (heldOf s) (queryOf s)
+
+abbrev pub stationSheetOutcome : List ℕ → Outcome
+stationSheetOutcome s = judgeSheetOutcome (heldOf s) (queryOf s)

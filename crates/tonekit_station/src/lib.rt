@@ -4,7 +4,7 @@ ghost use Prim.Native.Nat.{_≤_};
 ghost use Rattle.tonekit_core.specs.Calls.{Delivers};
 ghost use Rattle.tonekit_judge.specs.Judge.{Sound};
 ghost use Rattle.tonekit_inventory.specs.Gather.{listedOf, gatheringOf};
-ghost use Rattle.tonekit_station.specs.Judgement.{contextOf, tonesVerdict, queryVerdict, judgeGathered, judgeOutcome, judgeSheetOutcome};
+ghost use Rattle.tonekit_station.specs.Judgement.{contextOf, tonesVerdict, queryVerdict, judgeGathered, judgeOutcome, judgeSheetOutcome, stationOutcome, stationSheetOutcome};
 use tonekit_core::Answer;
 use tonekit_core::Refusal;
 use tonekit_core::Verdict;
@@ -159,4 +159,26 @@ pub fn judge_sheet(sheet: &[u8], query: &[u8], out: &mut [u8]) -> Answer
         }
         QueryRead::Refused(r, place) => Answer::Refused(r, place),
     }
+}
+
+// What the program `station` does with its input: u16 pack length, pack, query.
+pub fn judge_input(input: &[u8], out: &mut [u8]) -> Answer
+    ensures { λ r. ⌜ Delivers (stationOutcome (now (input .entry))) (now (out .entry)) r (now (out .exit)) ⌝ }
+{
+    judge(
+        tonekit_input::held_part(input),
+        tonekit_input::query_part(input),
+        out,
+    )
+}
+
+// What the program `station_sheet` does, with a sheet in the pack's place.
+pub fn judge_sheet_input(input: &[u8], out: &mut [u8]) -> Answer
+    ensures { λ r. ⌜ Delivers (stationSheetOutcome (now (input .entry))) (now (out .entry)) r (now (out .exit)) ⌝ }
+{
+    judge_sheet(
+        tonekit_input::held_part(input),
+        tonekit_input::query_part(input),
+        out,
+    )
 }

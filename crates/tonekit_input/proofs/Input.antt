@@ -11,6 +11,7 @@ use lib.ListN.{length, take, drop, length-drop, drop-of-length-le}
 use lib.Seq.{take-all, take-take, take-nil, drop-drop, getD-take}
 use Rattle.tonekit_bytes.specs.Fields.{byteAt, u16At}
 use Rattle.tonekit_query.proofs.Parts.{cut}
+use Rattle.tonekit_input.specs.Input.{heldOf, queryOf}
 
 -- all that stands from an index on
 behind : (s : List ℕ) (a : ℕ) (b : Bool) → leb a (length s) ≡ b → drop (min a (length s)) s ≡ drop a s
@@ -24,13 +25,12 @@ rest s a =
     let l : length (drop (min a (length s)) s) ≡ length s - min a (length s) = length-drop (min a (length s)) s in
     take-all (length s - min a (length s)) (drop (min a (length s)) s) (omega arith) ∙ behind s a (leb a (length s)) refl
 
--- the bytes from `from` to `to`, and those behind them
-module _ (s : List ℕ) (size from to : ℕ) (size-is : size ≡ u16At s 0) (first : from ≡ min 2 (length s)) (last : to ≡ min (2 + size) (length s)) where
-  pub part-is : take (to - from) (drop from s) ≡ take (u16At s 0) (drop 2 s)
-  part-is = rw (last, first, size-is) (cut s 2 (u16At s 0))
+-- the bytes behind the length, so many of them, and those behind these
+pub held-is : (s : List ℕ) (size from to : ℕ) → size ≡ u16At s 0 → from ≡ min 2 (length s) → to ≡ min (2 + size) (length s) → take (to - from) (drop from s) ≡ heldOf s
+held-is s size from to size-is first last = rw (last, first, size-is) (cut s 2 (u16At s 0))
 
-  pub query-is : take (length s - to) (drop to s) ≡ drop (u16At s 0) (drop 2 s)
-  query-is = rw (last, size-is) (rest s (2 + u16At s 0) ∙ sym (drop-drop (u16At s 0) 2 s))
+pub query-is : (s : List ℕ) (size from : ℕ) → size ≡ u16At s 0 → from ≡ min (2 + size) (length s) → take (length s - from) (drop from s) ≡ queryOf s
+query-is s size from size-is first = rw (first, size-is) (rest s (2 + u16At s 0) ∙ sym (drop-drop (u16At s 0) 2 s))
 
 -- 75,824 bytes: two of length, the longest pack or sheet, and 10,287 of the query
 drop-take : (k n : ℕ) (s : List ℕ) → k ≤ n → drop k (take n s) ≡ take (n - k) (drop k s)
@@ -46,10 +46,10 @@ module _ (s : List ℕ) (bytes : (i : ℕ) → byteAt s i < 256) (n : ℕ) (h : 
   small : u16At s 0 ≤ 65535
   small = omega (arith, bytes 0, bytes 1)
 
-  pub part-same : take (u16At (take n s) 0) (drop 2 (take n s)) ≡ take (u16At s 0) (drop 2 s)
-  part-same = rw (size-same, drop-take 2 n s (omega arith)) (take-take (u16At s 0) (n - 2) (drop 2 s) (omega (arith, small)))
+  pub held-same : heldOf (take n s) ≡ heldOf s
+  held-same = rw (size-same, drop-take 2 n s (omega arith)) (take-take (u16At s 0) (n - 2) (drop 2 s) (omega (arith, small)))
 
-  pub query-same : drop (u16At (take n s) 0) (drop 2 (take n s)) ≡ take (n - 2 - u16At s 0) (drop (u16At s 0) (drop 2 s))
+  pub query-same : queryOf (take n s) ≡ take (n - 2 - u16At s 0) (queryOf s)
   query-same = rw (size-same, drop-take 2 n s (omega arith)) (drop-take (u16At s 0) (n - 2) (drop 2 s) (omega (arith, small)))
 
   pub query-enough : 10287 ≤ n - 2 - u16At s 0
