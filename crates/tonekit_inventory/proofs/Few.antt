@@ -1,6 +1,6 @@
--- What a lookup in a pack that loads lists: one to four components. Assumes nothing.
+-- What a lookup in a pack that loads lists: one to four components that can be read. Assumes nothing.
 use Prim.Native.Nat.{ℕ, _+_, _≤_, _<_}
-use mathlib.Core.Path.{_≡_, refl, subst}
+use mathlib.Core.Path.{_≡_, refl, sym, _∙_, subst}
 use mathlib.Core.List.{List}
 use native.Mathlib.Omega.{arith}
 use lib.Dec.{eqb, ltb}
@@ -8,6 +8,8 @@ use lib.ListN.{length, getD}
 use borrow.Author.Tests.{ltb-true}
 use Rattle.tonekit_bytes.specs.Fields.{byteAt}
 use Rattle.tonekit_pack.specs.Pack.{Pst, loaded, readPack, numberAt, partsFrom}
+use Rattle.tonekit_pack.specs.declared.Pack.{Pack}
+use Rattle.tonekit_pack.specs.Held.{shown, ReadFrom}
 use Rattle.tonekit_pack.proofs.Split.{split}
 use Rattle.tonekit_pack.proofs.Loads.{Loads, loads, firsts-bound, parts-few}
 use Rattle.tonekit_expect.specs.declared.Found.{Found}
@@ -16,13 +18,16 @@ use Rattle.tonekit_expect.specs.declared.Winner.{Winner}
 use Rattle.tonekit_expect.specs.declared.Winner.the-variants as winner
 use Rattle.tonekit_expect.specs.declared.Context.{Context}
 use Rattle.tonekit_expect.specs.declared.Listing.{Listing}
+use Rattle.tonekit_expect.specs.declared.Look.{Look}
 use Rattle.tonekit_expect.specs.declared.Look.the-variants as look
 use Rattle.tonekit_expect.specs.Lookup.{indexOf, toRule, findRule, ruleListing, citation, listed, lookAt, lookUp}
 use Rattle.tonekit_expect.proofs.Walk.{index-found, winner-is}
+use Rattle.tonekit_expect.proofs.Curves.{listed-fine}
+use Rattle.tonekit_inventory.specs.Slots.{Looked}
 
-pub record Few (l : Listing) : Type 0 where
-  pub some : 1 ≤ l .count
-  pub few : l .count ≤ 4
+record Few (l : Listing) : Type 0 where
+  some : 1 ≤ l .count
+  few : l .count ≤ 4
 
 module _ (s : List ℕ) (st : Pst) (e : ℕ) (l : Loads s st e) (c : Context) where
   -- a rule with a part
@@ -52,6 +57,12 @@ module _ (s : List ℕ) (st : Pst) (e : ℕ) (l : Loads s st e) (c : Context) wh
   of-places m found.Nothing g a q = let n : _≡_ {A = ℕ} 0 1 = cc in absurd (omega arith)
   of-places m (found.At i) found.Nothing a q = let n : _≡_ {A = ℕ} 0 1 = cc in absurd (omega arith)
 
-pub look-few : (s : List ℕ) (st : Pst) (e : ℕ) → readPack s ≡ loaded st e → (c : Context) (l : Listing) → lookUp s st c ≡ look.Found l → Few l
+look-few : (s : List ℕ) (st : Pst) (e : ℕ) → readPack s ≡ loaded st e → (c : Context) (l : Listing) → lookUp s st c ≡ look.Found l → Few l
 unfolding lookUp
 look-few s st e p c l q = of-places s st e (loads s st e p) c l (indexOf s (st .accents) (c .accent)) (indexOf s (st .tones) (c .tone)) refl q
+
+pub looked : (s : List ℕ) (p : Pack) → ReadFrom s p → (c : Context) (k : Look) → k ≡ lookUp s (shown p) c → Looked s k
+looked s p r c k e l q =
+    let is : lookUp s (shown p) c ≡ look.Found l = sym e ∙ q in
+    let f = look-few s (shown p) (r .end) (r .reads) c l is in
+    record { some = f .some; few = f .few; each = λ j h. listed-fine s (shown p) (r .end) (r .reads) c l j is h }

@@ -3,3 +3,4 @@ pub mod Slots
 pub mod Few
 pub mod Going
 pub mod Tones
+pub mod Search

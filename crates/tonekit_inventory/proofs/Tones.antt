@@ -1,8 +1,7 @@
 -- A pack's tones in the loop that gathers: what a turn of the definition does with one, and that the code's stores are that. Assumes nothing.
 use Prim.Native.Nat.{ℕ, _+_, _*_, _≤_, _<_}
-use mathlib.Core.Path.{_≡_, refl, ap, _∙_}
+use mathlib.Core.Path.{_≡_, refl, sym, ap, _∙_}
 use mathlib.Core.List.{List, []}
-use mathlib.Core.Option.{none, some}
 use native.Mathlib.Omega.{arith}
 use lib.Ieee.{Float}
 use lib.ListN.{length, getD, replicate, length-map}
@@ -12,32 +11,44 @@ use Rattle.tonekit_pack.specs.declared.Pack.{Pack}
 use Rattle.tonekit_pack.specs.Held.{inOrder, shown}
 use Rattle.tonekit_pack.proofs.InOrder.{order-length, order-get}
 use Rattle.tonekit_expect.specs.Lookup.{lookUp}
-use Rattle.tonekit_expect.specs.Source.{Carried, components, toneAt, sourceOfPack}
+use Rattle.tonekit_expect.specs.Source.{Carried, components, given, toneAt, sourceOfPack}
 use Rattle.tonekit_expect.specs.declared.Context.{Context}
 use Rattle.tonekit_expect.specs.declared.Listing.{Listing}
+use Rattle.tonekit_expect.specs.declared.Look.{Look}
 use Rattle.tonekit_expect.specs.declared.Look.the-variants as look
 use Rattle.tonekit_expect.proofs.Carried.{named, components-at, components-length}
-use Rattle.tonekit_judge.specs.Judge.{Sound}
 use Rattle.tonekit_judge.specs.declared.Inventory.{Inventory}
 use Rattle.tonekit_inventory.specs.declared.Named.{Named}
 use Rattle.tonekit_inventory.specs.Fields.{regionAt}
-use Rattle.tonekit_inventory.specs.Gather.{regionOf, namedOf, withTone, weightsOf, pointsOf, noTone, all, lacks, inContext, gathered, f32, noInventory}
-use Rattle.tonekit_inventory.proofs.Few.{Few}
-use Rattle.tonekit_inventory.proofs.Going.{first-named, map-at, going-starts, going-stops, going-ends, going-on}
+use Rattle.tonekit_inventory.specs.Slots.{InSlots, Looked, Lists, nameOf}
+use Rattle.tonekit_inventory.specs.Gather.{regionOf, namedOf, withTone, weightsOf, pointsOf, noTone, givenOf, inContext, f32, noInventory}
+use Rattle.tonekit_inventory.proofs.Going.{first-named, map-at, going-starts, going-ends, going-on}
 use Rattle.tonekit_inventory.proofs.Going as going
 
 -- ---- a listing's name is that of its first component
 nothing-carried : Carried
 nothing-carried = record { owner = 0; form = 0; label = 0; part = 0; weight = 0; points = [] }
 
-abbrev pub nameOf : Listing → Named
-nameOf l = record { owner = l .owner; form = l .form; label = l .label; count = l .count }
-
 pub listing-named : (s : List ℕ) (l : Listing) → 1 ≤ l .count → namedOf (components s l (l .count)) ≡ nameOf l
 listing-named s l h =
     let n = named s l 0 in
     first-named (components s l (l .count)) nothing-carried (rw (components-length s l (l .count)) h)
     ∙ rw (components-length s l (l .count), components-at s l nothing-carried (l .count) 0 h, n .owner, n .form, n .label)
+
+-- and counts four components at most
+pub few-named : (s : List ℕ) (k : Look) → Looked s k → namedOf (givenOf (given s k)) .count ≤ 4
+few-named s (look.Found l) h = rw (listing-named s l (h l refl .some)) (h l refl .few)
+few-named s look.Nothing h = omega arith
+
+-- what is put of a listing, and of nothing
+module _ (s : List ℕ) (k : Look) (t : ℕ) (w ps : List Float) (name : Named) where
+  pub put-found : (l : Listing) → k ≡ look.Found l → Looked s k → (v qs : List Float) → name ≡ nameOf l → InSlots t (components s l (l .count)) w ps v qs
+      → (name ≡ namedOf (givenOf (given s k))) × InSlots t (givenOf (given s k)) w ps v qs
+  put-found l e h v qs n i = rw e (n ∙ sym (listing-named s l (h l e .some)), i)
+
+  pub put-nothing : k ≡ look.Nothing → name ≡ namedOf [] → (name ≡ namedOf (givenOf (given s k))) × InSlots t (givenOf (given s k)) w ps w ps
+  unfolding weightsOf pointsOf
+  put-nothing e n = rw e (n, record { weighed = refl; pointed = refl })
 
 -- ---- a tone's values in its record
 pub region-is : (s : List ℕ) (o : ℕ) → regionAt s (o + 47) ≡ regionOf (toneAt s o)
@@ -69,28 +80,19 @@ module _ (s : List ℕ) (p : Pack) (c : Context) where
         map-at (toneAt s) (inOrder (p .toneat) (p .tones)) t 0 noTone (rw order-length h)
         ∙ ap (toneAt s) (order-get (p .toneat) (p .tones) t h)
 
-    look-nothing : (here : Context) → lookUp s (shown p) here ≡ look.Nothing → sourceOfPack s (shown p) .look here ≡ none
+    looks : (here : Context) → givenOf (sourceOfPack s (shown p) .look here) ≡ givenOf (given s (lookUp s (shown p) here))
     unfolding sourceOfPack
-    look-nothing here e = rw e
-
-    look-found : (here : Context) (l : Listing) → lookUp s (shown p) here ≡ look.Found l → sourceOfPack s (shown p) .look here ≡ some (components s l (l .count))
-    unfolding sourceOfPack
-    look-found here l e = rw e
+    looks here = refl
 
   module _ (w ps : List Float) (i : Inventory) (t : ℕ) (g : Going s p c w ps i t) where
-    pub stops : t < p .tones → lookUp s (shown p) (inContext c (byteAt s (getD (p .toneat) t 0 + 1))) ≡ look.Nothing
-        → lacks (record { inventory = i; weights = w; points = ps }) ≡ gathered (sourceOfPack s (shown p)) c
-    stops h e = going-stops (sourceOfPack s (shown p)) (p .tones) c w ps i t g h (toneAt s (at t h)) (tone-is t h) (look-nothing t h _ e)
-
-    pub ends : p .tones ≤ t → p .tones ≤ 8
-        → (all (record { inventory = i; weights = w; points = ps }) ≡ gathered (sourceOfPack s (shown p)) c) × Sound (record { inventory = i; weights = w; points = ps })
+    pub ends : p .tones ≤ t → p .tones ≤ 8 → Lists (sourceOfPack s (shown p)) c i w ps
     ends = going-ends (sourceOfPack s (shown p)) (p .tones) c w ps i t g
 
-    pub goes : (v qs : List Float) (j : Inventory) (l : Listing) → t < p .tones → lookUp s (shown p) (inContext c (byteAt s (getD (p .toneat) t 0 + 1))) ≡ look.Found l → Few l
-        → j ≡ withTone t (byteAt s (getD (p .toneat) t 0 + 1)) (f32At s (getD (p .toneat) t 0 + 2)) (regionAt s (getD (p .toneat) t 0 + 47)) (nameOf l) i
-        → v ≡ sets w (4 * t) (weightsOf (components s l (l .count)))
-        → qs ≡ sets ps (40 * t) (pointsOf (components s l (l .count)))
+    pub goes : (v qs : List Float) (j : Inventory) (name : Named) → t < p .tones → (k : Look) → k ≡ lookUp s (shown p) (inContext c (byteAt s (getD (p .toneat) t 0 + 1)))
+        → name ≡ namedOf (givenOf (given s k)) → name .count ≤ 4
+        → j ≡ withTone t (byteAt s (getD (p .toneat) t 0 + 1)) (f32At s (getD (p .toneat) t 0 + 2)) (regionAt s (getD (p .toneat) t 0 + 47)) name i
+        → InSlots t (givenOf (given s k)) w ps v qs
         → Going s p c v qs j (t + 1)
-    goes v qs j l h e f ej ev eq =
-        going-on (sourceOfPack s (shown p)) (p .tones) c w ps i t g h (toneAt s (at t h)) (tone-is t h) (components s l (l .count)) (look-found t h _ l e) (nameOf l) (listing-named s l (f .some))
-        (regionAt s (at t h + 47)) (region-is s (at t h)) v qs j ej ev eq (f .few)
+    goes v qs j name h k e n few ej put =
+        going-on (sourceOfPack s (shown p)) (p .tones) c w ps i t g h (toneAt s (at t h)) (tone-is t h) (givenOf (given s k)) (looks t h _ ∙ ap (λ (m : Look). givenOf (given s m)) (sym e)) name n
+        (regionAt s (at t h + 47)) (region-is s (at t h)) v qs j ej put few

@@ -1,18 +1,21 @@
--- Worked examples, computed: tone 1 with a citation and tone 2 with a mixture of two stand in slots 0, 4 and 5; a tone that nothing is given for ends the gathering.
+-- Worked examples, computed: tone 1 with a citation and tone 2 with a mixture of two stand in slots 0, 4 and 5; a tone that nothing is given for has a count of 0;
+-- accent 5 is held and accent 6 is not, nor is tone 7.
 use Prim.Native.Nat.{ℕ}
 use mathlib.Core.Path.{_≡_, refl}
-use mathlib.Core.Bool.{cond}
+use mathlib.Core.Bool.{true, false, cond}
 use mathlib.Core.List.{List, [], _∷_, _++_}
 use mathlib.Core.Option.{Option, none, some}
 use lib.Dec.{eqb}
 use lib.ListN.{replicate}
 use lib.Ieee.{Float, ofBits}
-use Rattle.tonekit_core.specs.Loop.{turnsTo, rangeTo}
-use Rattle.tonekit_expect.specs.Source.{Tone, Carried, Source}
+use Rattle.tonekit_core.specs.Loop.{turns, range}
+use Rattle.tonekit_expect.specs.Source.{Tone, Accent, Carried, Source, accentIn, toneIn}
 use Rattle.tonekit_expect.specs.declared.Context.{Context}
 use Rattle.tonekit_judge.specs.declared.Inventory.{Inventory}
 use Rattle.tonekit_score.specs.declared.Region.{Region}
-use Rattle.tonekit_inventory.specs.Gather.{f32, noRegion, withTone, noInventory, weightsOf, pointsOf, slotted, all, lacks, gathered}
+use Rattle.tonekit_score.specs.declared.Tolerance.{Tolerance}
+use Rattle.tonekit_judge.specs.Judge.{Listed}
+use Rattle.tonekit_inventory.specs.Gather.{f32, noRegion, noTolerance, withTone, noInventory, weightsOf, pointsOf, slotted, listings, gathered}
 
 -- bits: 1, a half, a quarter, 2 and 4
 abbrev one : ℕ
@@ -54,8 +57,11 @@ looked tone =
     cond (eqb tone 1) (some (citation ∷ []))
     (cond (eqb tone 2) (some (part 0 half one ∷ part 1 quarter four ∷ [])) none)
 
+abbrev fifth : Accent
+fifth = record { number = 5; contour = half; onset = one; offset = two; turning = four }
+
 abbrev held : List Tone → Source
-held tones = record { settings = record { temperature = one; threshold = half }; tones = tones; accents = []; look = λ c. looked (c .tone) }
+held tones = record { settings = record { temperature = one; threshold = half }; tones = tones; accents = fifth ∷ []; look = λ c. looked (c .tone) }
 
 -- whatever tone the context has
 abbrev here : Context
@@ -76,31 +82,54 @@ both = record {
   labels = 0 ∷ 700 ∷ replicate 6 0;
 }
 
-two-tones : gathered (held (first ∷ second ∷ [])) here ≡ all (record {
+abbrev bothListed : Listed
+bothListed = record {
   inventory = both;
   weights = f32 one ∷ (replicate 3 nought ++ (f32 half ∷ f32 quarter ∷ replicate 26 nought));
   points = replicate 10 (f32 two) ++ (replicate 30 nought ++ (replicate 10 (f32 one) ++ (replicate 10 (f32 four) ++ replicate 260 nought)));
-})
-unfolding gathered rangeTo turnsTo slotted withTone noInventory weightsOf pointsOf ofBits
-two-tones = refl
-
--- tone 3 has nothing, and the tone behind it is not gathered
-abbrev alone : Inventory
-alone = record {
-  tones = 3;
-  numbers = 1 ∷ replicate 7 0;
-  priors = f32 half ∷ replicate 7 nought;
-  regions = replicate 8 noRegion;
-  counts = 1 ∷ replicate 7 0;
-  owners = 5 ∷ replicate 7 0;
-  forms = 1 ∷ replicate 7 0;
-  labels = replicate 8 0;
 }
 
-none-for-third : gathered (held (first ∷ third ∷ second ∷ [])) here ≡ lacks (record {
-  inventory = alone;
-  weights = f32 one ∷ replicate 31 nought;
-  points = replicate 10 (f32 two) ++ replicate 310 nought;
-})
-unfolding gathered rangeTo turnsTo slotted withTone noInventory weightsOf pointsOf ofBits
+two-tones : listings (held (first ∷ second ∷ [])) here ≡ bothListed
+unfolding listings range turns slotted withTone noInventory weightsOf pointsOf ofBits
+two-tones = refl
+
+-- tone 3 has nothing, and the tone behind it is there
+abbrev around : Inventory
+around = record {
+  tones = 3;
+  numbers = 1 ∷ 3 ∷ 2 ∷ replicate 5 0;
+  priors = f32 half ∷ f32 one ∷ f32 quarter ∷ replicate 5 nought;
+  regions = noRegion ∷ noRegion ∷ itsRegion ∷ replicate 5 noRegion;
+  counts = 1 ∷ 0 ∷ 2 ∷ replicate 5 0;
+  owners = 5 ∷ 0 ∷ 9 ∷ replicate 5 0;
+  forms = 1 ∷ 0 ∷ 3 ∷ replicate 5 0;
+  labels = 0 ∷ 0 ∷ 700 ∷ replicate 5 0;
+}
+
+none-for-third : listings (held (first ∷ third ∷ second ∷ [])) here ≡ record {
+  inventory = around;
+  weights = f32 one ∷ (replicate 7 nought ++ (f32 half ∷ f32 quarter ∷ replicate 22 nought));
+  points = replicate 10 (f32 two) ++ (replicate 70 nought ++ (replicate 10 (f32 one) ++ (replicate 10 (f32 four) ++ replicate 220 nought)));
+}
+unfolding listings range turns slotted withTone noInventory weightsOf pointsOf ofBits
 none-for-third = refl
+
+-- under a held accent, after nothing
+abbrev fifths : Tolerance
+fifths = record { contour = f32 half; onset = f32 one; offset = f32 two; turning = f32 four }
+
+under-fifth : gathered (held (first ∷ second ∷ [])) here
+    ≡ record { accent = true; prev = true; temperature = f32 one; threshold = f32 half; tolerance = fifths; listed = bothListed }
+unfolding gathered accentIn toneIn listings range turns slotted withTone noInventory weightsOf pointsOf ofBits
+under-fifth = refl
+
+-- under an accent that is not held, after a tone that is not
+under-none : gathered (held (first ∷ second ∷ [])) (record { accent = 6; tone = 1; prev = 7; last = 0 })
+    ≡ record { accent = false; prev = false; temperature = f32 one; threshold = f32 half; tolerance = noTolerance; listed = bothListed }
+unfolding gathered accentIn toneIn listings range turns slotted withTone noInventory weightsOf pointsOf ofBits
+under-none = refl
+
+-- and after one that is
+after-second : gathered (held (first ∷ second ∷ [])) (record { accent = 5; tone = 1; prev = 2; last = 0 }) .prev ≡ true
+unfolding gathered toneIn
+after-second = refl

@@ -1,21 +1,23 @@
-// What a shape is judged against: the listings of all inventory tones in a context, gathered tone by
-// tone from a pack, each component in its slot.
+// What a station gathers for a context, all that a query is judged by: from a pack, and what a sheet
+// shares of it.
 ghost use mathlib.Core.Path.{_≡_};
-ghost use Prim.Native.Nat.{ℕ, _+_, _*_, _≤_, _<_};
-ghost use lib.ListN.{length, replicate};
+ghost use mathlib.Core.Bool.{_||_};
+ghost use mathlib.Core.List.{[]};
+ghost use mathlib.Core.Option.{none};
+ghost use Prim.Native.Nat.{_+_, _≤_, _<_};
+ghost use lib.Dec.{eqb};
+ghost use lib.ListN.{length};
 ghost use lib.Seq.{sets};
 ghost use Rattle.tonekit_bytes.specs.Fields.{byteAt, f32At};
-ghost use Rattle.tonekit_pack.specs.Pack.{loaded, readPack};
-ghost use Rattle.tonekit_pack.specs.Held.{shown, Roomy};
-ghost use Rattle.tonekit_expect.specs.Lookup.{Listed};
-ghost use Rattle.tonekit_expect.specs.Source.{components, sourceOfPack};
+ghost use Rattle.tonekit_pack.specs.Held.{shown, Roomy, ReadFrom};
+ghost use Rattle.tonekit_expect.specs.Source.{components, given, accentIn, toneIn, sourceOfPack};
 ghost use Rattle.tonekit_inventory.specs.Fields.{regionAt, toleranceAt};
-ghost use Rattle.tonekit_inventory.specs.Gather.{f32, withTone, noInventory, weightsOf, pointsOf, gathered, listedOf, gatheringOf};
-ghost use Rattle.tonekit_judge.specs.Judge.{Sound};
-ghost use mathlib.Core.Bool.{true};
+ghost use Rattle.tonekit_inventory.specs.Gather.{withTone, noInventory, namedOf, givenOf, Blank, gradedOf};
+ghost use Rattle.tonekit_inventory.specs.Slots.{Slots, InSlots, Short, Looked, Lists, Gathers, nameOf};
 use tonekit_bytes::byte_at;
 use tonekit_bytes::f32_at;
 use tonekit_expect::Context;
+use tonekit_expect::Found;
 use tonekit_expect::Listing;
 use tonekit_expect::Look;
 use tonekit_judge::Inventory;
@@ -31,10 +33,21 @@ pub struct Named {
     pub count: u8,
 }
 
-// The inventory, where every tone has a listing; else what was gathered before one that has none.
+// What a query is judged by: whether its accent is held, and what stood before it or nothing did; the
+// settings, the accent's tolerances, and for each tone its listing, or a count of 0 where it has none.
 pub struct Gathered {
-    pub found: bool,
+    pub accent: bool,
+    pub prev: bool,
+    pub temperature: f32,
+    pub threshold: f32,
+    pub tolerance: Tolerance,
     pub inventory: Inventory,
+}
+
+// Whether an accent is held, and its tolerances; zeros where it is not.
+pub struct Graded {
+    pub held: bool,
+    pub tolerance: Tolerance,
 }
 
 // The region whose flag stands at an offset; of bytes that are not there, 0.
@@ -129,10 +142,39 @@ pub fn put_points(points: &mut [f32], at: usize, ten: [f32; 10])
     }
 }
 
+// No accent held: no tolerances.
+pub fn not_graded() -> Graded
+    ensures { λ r. ⌜ r ≡ gradedOf none ⌝ }
+{
+    let tolerance = Tolerance {
+        contour: 0.0,
+        onset: 0.0,
+        offset: 0.0,
+        turning: 0.0,
+    };
+    Graded {
+        held: false,
+        tolerance,
+    }
+}
+
+// The name of no listing.
+pub fn no_name() -> Named
+    ensures { λ r. ⌜ r ≡ namedOf [] ⌝ }
+{
+    Named {
+        owner: 0,
+        form: 0,
+        label: 0,
+        count: 0,
+    }
+}
+
 // Puts the components of tone t's listing into its slots.
 fn fill(s: &[u8], l: Listing, t: usize, weights: &mut [f32], points: &mut [f32])
-    requires { ⌜ (t < 8) × (l .count ≤ 4) × ((j : ℕ) → j < l .count → Listed (now s) l j) × (length (now weights) ≡ 32) × (length (now points) ≡ 320) ⌝ }
-    ensures { λ _. ⌜ (now (weights .exit) ≡ sets (now (weights .entry)) (4 * t) (weightsOf (components (now (s .entry)) l (l .count)))) × (now (points .exit) ≡ sets (now (points .entry)) (40 * t) (pointsOf (components (now (s .entry)) l (l .count)))) ⌝ }
+    requires { ⌜ (t < 8) × Short (now s) l × Slots (now weights) (now points) ⌝ }
+    ensures { λ _. ⌜ InSlots t (components (now (s .entry)) l (l .count))
+        (now (weights .entry)) (now (points .entry)) (now (weights .exit)) (now (points .exit)) ⌝ }
 {
     for j in 0..l.count {
         let c = tonekit_expect::component_at(s, l, j);
@@ -142,17 +184,41 @@ fn fill(s: &[u8], l: Listing, t: usize, weights: &mut [f32], points: &mut [f32])
     }
 }
 
-// The inventory with tone t of a pack, whose record stands at o, and what its lookup listed.
-fn with_pack_tone(i: Inventory, t: usize, s: &[u8], o: usize, l: Listing) -> Inventory
-    requires { ⌜ (t < 8) × (o < 65536) × (l .count ≤ 4) ⌝ }
-    ensures { λ r. ⌜ r ≡ withTone t (byteAt (now (s .entry)) (o + 1)) (f32At (now (s .entry)) (o + 2)) (regionAt (now (s .entry)) (o + 47)) (record { owner = l .owner; form = l .form; label = l .label; count = l .count }) i ⌝ }
+// Puts what a lookup listed into tone t's slots, and hands back its name; nothing where it found none.
+fn put_listing(s: &[u8], look: Look, t: usize, weights: &mut [f32], points: &mut [f32]) -> Named
+    requires { ⌜ (t < 8) × Looked (now s) look × Slots (now weights) (now points) ⌝ }
+    ensures { λ r. ⌜ (r ≡ namedOf (givenOf (given (now (s .entry)) look)))
+        × InSlots t (givenOf (given (now (s .entry)) look))
+        (now (weights .entry)) (now (points .entry)) (now (weights .exit)) (now (points .exit)) ⌝ }
 {
-    let name = Named {
+    match look {
+        Look::Found(l) => {
+            fill(s, l, t, weights, points);
+            name_of(l)
+        }
+        Look::Nothing => no_name(),
+    }
+}
+
+// A listing's name.
+fn name_of(l: Listing) -> Named
+    requires { ⌜ l .count ≤ 4 ⌝ }
+    ensures { λ r. ⌜ r ≡ nameOf l ⌝ }
+{
+    Named {
         owner: l.owner,
         form: l.form,
         label: l.label,
         count: l.count as u8,
-    };
+    }
+}
+
+// The inventory with tone t of a pack, whose record stands at o, and its listing's name.
+fn with_pack_tone(i: Inventory, t: usize, s: &[u8], o: usize, name: Named) -> Inventory
+    requires { ⌜ (t < 8) × (o < 65536) ⌝ }
+    ensures { λ r. ⌜ r ≡ withTone t (byteAt (now (s .entry)) (o + 1)) (f32At (now (s .entry)) (o + 2))
+        (regionAt (now (s .entry)) (o + 47)) name i ⌝ }
+{
     with_tone(
         i,
         t,
@@ -163,11 +229,11 @@ fn with_pack_tone(i: Inventory, t: usize, s: &[u8], o: usize, l: Listing) -> Inv
     )
 }
 
-// The listings of all tones of a pack that loads, in a context whose tone is not read; weights and
-// points hold zeros before, and the components in their slots after.
-pub fn gather(s: &[u8], p: Pack, c: Context, weights: &mut [f32], points: &mut [f32]) -> Gathered
-    requires { ⌜ Roomy p × ((e : ℕ) × (readPack (now s) ≡ loaded (shown p) e)) × (now weights ≡ replicate 32 (f32 0)) × (now points ≡ replicate 320 (f32 0)) ⌝ }
-    ensures { λ r. ⌜ (gatheringOf r (now (weights .exit)) (now (points .exit)) ≡ gathered (sourceOfPack (now (s .entry)) (shown p)) c) × (r .found ≡ true → Sound (listedOf r (now (weights .exit)) (now (points .exit)))) ⌝ }
+// The listings of all tones of a pack, in a context whose tone is not read; weights and points hold
+// zeros before, and the components in their slots after. The pack is one that was read from s.
+fn listings(s: &[u8], p: Pack, c: Context, weights: &mut [f32], points: &mut [f32]) -> Inventory
+    requires { ⌜ ReadFrom (now s) p × Blank (now weights) (now points) ⌝ }
+    ensures { λ r. ⌜ Lists (sourceOfPack (now (s .entry)) (shown p)) c r (now (weights .exit)) (now (points .exit)) ⌝ }
 {
     let offsets = p.toneat;
     let mut i = no_inventory(p.tones);
@@ -179,22 +245,57 @@ pub fn gather(s: &[u8], p: Pack, c: Context, weights: &mut [f32], points: &mut [
             prev: c.prev,
             last: c.last,
         };
-        match tonekit_expect::look_up(s, p, here) {
-            Look::Found(l) => {
-                fill(s, l, t, weights, points);
-                let next = with_pack_tone(i, t, s, o, l);
-                i = next;
-            }
-            Look::Nothing => {
-                return Gathered {
-                    found: false,
-                    inventory: i,
-                };
-            }
-        }
+        let name = put_listing(s, tonekit_expect::look_up(s, p, here), t, weights, points);
+        let next = with_pack_tone(i, t, s, o, name);
+        i = next;
     }
+    i
+}
+
+// Whether a pack holds an accent, and its tolerances.
+fn accent_held(s: &[u8], p: Pack, n: u8) -> Graded
+    requires { ⌜ Roomy p ⌝ }
+    ensures { λ r. ⌜ r ≡ gradedOf (accentIn (sourceOfPack (now (s .entry)) (shown p) .accents) n) ⌝ }
+{
+    let offsets = p.accentat;
+    match tonekit_expect::accent_index(s, p, n) {
+        Found::At(a) => Graded {
+            held: true,
+            tolerance: tolerance_at(s, offsets[a] as usize + 3),
+        },
+        Found::Nothing => not_graded(),
+    }
+}
+
+// Whether a pack holds the tone that stood before, or there was none.
+fn prev_held(s: &[u8], p: Pack, prev: u8) -> bool
+    requires { ⌜ Roomy p ⌝ }
+    ensures { λ r. ⌜ r ≡ (eqb prev 0 || toneIn (sourceOfPack (now (s .entry)) (shown p) .tones) prev) ⌝ }
+{
+    if prev == 0 {
+        return true;
+    }
+    match tonekit_expect::tone_index(s, p, prev) {
+        Found::At(_) => true,
+        Found::Nothing => false,
+    }
+}
+
+// What a station with a pack gathers for a context, of which the tone is not read. Weights and points
+// hold zeros before, and the components in their slots after. The pack is one that was read from s.
+pub fn gather(s: &[u8], p: Pack, c: Context, weights: &mut [f32], points: &mut [f32]) -> Gathered
+    requires { ⌜ ReadFrom (now s) p × Blank (now weights) (now points) ⌝ }
+    ensures { λ r. ⌜ Gathers (sourceOfPack (now (s .entry)) (shown p)) c r (now (weights .exit)) (now (points .exit)) ⌝ }
+{
+    let g = accent_held(s, p, c.accent);
+    let tolerance = g.tolerance;
+    let inventory = listings(s, p, c, weights, points);
     Gathered {
-        found: true,
-        inventory: i,
+        accent: g.held,
+        prev: prev_held(s, p, c.prev),
+        temperature: f32_at(s, 0, 1),
+        threshold: f32_at(s, 0, 5),
+        tolerance,
+        inventory,
     }
 }

@@ -7,7 +7,7 @@ use Rattle.tonekit_pack.specs.declared.Pack.{Pack}
 use Rattle.tonekit_pack.specs.declared.PackRead.{PackRead}
 use Rattle.tonekit_pack.specs.declared.PackRead.the-variants.{Good, Refused}
 use Rattle.tonekit_pack.specs.declared.Loaded.{Loaded}
-use Rattle.tonekit_pack.specs.Pack.{Pst, Out, loaded, refused}
+use Rattle.tonekit_pack.specs.Pack.{Pst, Out, loaded, refused, readPack}
 
 -- the first n, in order
 unfoldable pub inOrder : List ℕ → ℕ → List ℕ
@@ -45,3 +45,9 @@ pub record Roomy (p : Pack) : Type 0 where
   pub first-slots : length (p .firstrule) ≡ 8
   pub rule-slots : length (p .ruleat) ≡ 64
   pub few-before : (i : ℕ) → getD (p .firstrule) i 0 ≤ 64
+
+-- a pack as its reader handed it back for these bytes, which load
+pub record ReadFrom (s : List ℕ) (p : Pack) : Type 0 where
+  pub roomy : Roomy p
+  pub end : ℕ
+  pub reads : readPack s ≡ loaded (shown p) end

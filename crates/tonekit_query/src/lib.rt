@@ -215,7 +215,7 @@ pub fn check_query(query: &[u8]) -> Checked
 }
 
 // The lesser of two indices.
-fn lesser(a: usize, b: usize) -> usize
+pub fn lesser(a: usize, b: usize) -> usize
     ensures { λ r. ⌜ r ≡ min a b ⌝ }
 {
     if a <= b { a } else { b }

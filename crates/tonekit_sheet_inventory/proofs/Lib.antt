@@ -3,3 +3,4 @@ pub mod Rows
 pub mod Lookup
 pub mod Slots
 pub mod Tones
+pub mod Search

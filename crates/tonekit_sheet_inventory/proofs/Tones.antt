@@ -1,27 +1,44 @@
 -- A sheet's tones in the loop that gathers: what a turn of the definition does with one, and that the code's stores are that. Assumes nothing.
 use Prim.Native.Nat.{ℕ, _+_, _*_, _≤_, _<_}
-use mathlib.Core.Path.{_≡_, refl, ap, _∙_}
-use mathlib.Core.List.{List}
-use mathlib.Core.Option.{some}
+use mathlib.Core.Path.{_≡_, refl, sym, ap, _∙_}
+use mathlib.Core.List.{List, []}
 use native.Mathlib.Omega.{arith}
 use lib.Ieee.{Float}
 use lib.ListN.{length, getD, replicate, length-map}
 use lib.Seq.{sets}
 use Rattle.tonekit_bytes.specs.Fields.{byteAt, f32At}
 use Rattle.tonekit_expect.specs.declared.Context.{Context}
+use Rattle.tonekit_expect.specs.declared.Found.{Found}
 use Rattle.tonekit_expect.specs.declared.Found.the-variants as found
-use Rattle.tonekit_judge.specs.Judge.{Sound}
 use Rattle.tonekit_judge.specs.declared.Inventory.{Inventory}
 use Rattle.tonekit_inventory.specs.Fields.{regionAt}
-use Rattle.tonekit_inventory.specs.Gather.{regionOf, withTone, weightsOf, pointsOf, noTone, all, lacks, inContext, gathered, f32, noInventory}
-use Rattle.tonekit_inventory.proofs.Going.{map-at, going-starts, going-stops, going-ends, going-on}
+use Rattle.tonekit_inventory.specs.declared.Named.{Named}
+use Rattle.tonekit_inventory.specs.Slots.{InSlots, Lists}
+use Rattle.tonekit_inventory.specs.Gather.{regionOf, namedOf, withTone, weightsOf, pointsOf, noTone, givenOf, inContext, f32, noInventory}
+use Rattle.tonekit_inventory.proofs.Going.{map-at, going-starts, going-ends, going-on}
 use Rattle.tonekit_inventory.proofs.Going as going
 use Rattle.tonekit_sheet.specs.FromSheet.{toneAt, carriedFrom, lookSheet, sourceOfSheet}
 use Rattle.tonekit_sheet_read.specs.declared.Sheet.{Sheet}
 use Rattle.tonekit_sheet_read.specs.Held.{stepped, shown}
 use Rattle.tonekit_sheet_read.proofs.Stepped.{stepped-length, stepped-get}
-use Rattle.tonekit_sheet_inventory.specs.Look.{Looks, nameAt}
+use Rattle.tonekit_sheet_inventory.specs.Look.{Looks, ListThere, told, nameAt}
 use Rattle.tonekit_sheet_inventory.proofs.Slots.{list-named}
+
+-- ---- a list's name counts four components at most
+pub few-named : (s : List ℕ) (f : Found) → ListThere s f → namedOf (givenOf (told s f)) .count ≤ 4
+unfolding nameAt
+few-named s (found.At o) h = rw (list-named s o (h o refl .some)) (h o refl .few)
+few-named s found.Nothing h = omega arith
+
+-- what is put of a list, and of nothing
+module _ (s : List ℕ) (f : Found) (t : ℕ) (w ps : List Float) (name : Named) where
+  pub put-found : (o : ℕ) → f ≡ found.At o → ListThere s f → (v qs : List Float) → name ≡ nameAt s o → InSlots t (carriedFrom s o (byteAt s (o + 6))) w ps v qs
+      → (name ≡ namedOf (givenOf (told s f))) × InSlots t (givenOf (told s f)) w ps v qs
+  put-found o e h v qs n i = rw e (n ∙ sym (list-named s o (h o e .some)), i)
+
+  pub put-nothing : f ≡ found.Nothing → name ≡ namedOf [] → (name ≡ namedOf (givenOf (told s f))) × InSlots t (givenOf (told s f)) w ps w ps
+  unfolding weightsOf pointsOf
+  put-nothing e n = rw e (n, record { weighed = refl; pointed = refl })
 
 -- ---- a tone's values in its record
 region-is : (s : List ℕ) (o : ℕ) → regionAt s (o + 6) ≡ regionOf (toneAt s o)
@@ -54,21 +71,15 @@ module _ (s : List ℕ) (st : Sheet) (c : Context) where
   starts = going-starts (sourceOfSheet s (shown st)) (st .tones) c tones-many
 
   module _ (w ps : List Float) (i : Inventory) (t : ℕ) (g : Going s st c w ps i t) where
-    pub stops : t < st .tones → Looks s (shown st) (inContext c (byteAt s (9 + 15 * t + 1))) found.Nothing
-        → lacks (record { inventory = i; weights = w; points = ps }) ≡ gathered (sourceOfSheet s (shown st)) c
-    stops h l = going-stops (sourceOfSheet s (shown st)) (st .tones) c w ps i t g h (toneAt s (9 + 15 * t)) (tone-is t h) (look-is _ ∙ l .is)
-
-    pub ends : st .tones ≤ t → st .tones ≤ 8
-        → (all (record { inventory = i; weights = w; points = ps }) ≡ gathered (sourceOfSheet s (shown st)) c) × Sound (record { inventory = i; weights = w; points = ps })
+    pub ends : st .tones ≤ t → st .tones ≤ 8 → Lists (sourceOfSheet s (shown st)) c i w ps
     ends = going-ends (sourceOfSheet s (shown st)) (st .tones) c w ps i t g
 
-    pub goes : (v qs : List Float) (j : Inventory) (o : ℕ) → t < st .tones → Looks s (shown st) (inContext c (byteAt s (9 + 15 * t + 1))) (found.At o)
-        → j ≡ withTone t (byteAt s (9 + 15 * t + 1)) (f32At s (9 + 15 * t + 2)) (regionAt s (9 + 15 * t + 6)) (nameAt s o) i
-        → v ≡ sets w (4 * t) (weightsOf (carriedFrom s o (byteAt s (o + 6))))
-        → qs ≡ sets ps (40 * t) (pointsOf (carriedFrom s o (byteAt s (o + 6))))
+    pub goes : (v qs : List Float) (j : Inventory) (name : Named) → t < st .tones → (f : Found) → Looks s (shown st) (inContext c (byteAt s (9 + 15 * t + 1))) f
+        → name ≡ namedOf (givenOf (told s f)) → name .count ≤ 4
+        → j ≡ withTone t (byteAt s (9 + 15 * t + 1)) (f32At s (9 + 15 * t + 2)) (regionAt s (9 + 15 * t + 6)) name i
+        → InSlots t (givenOf (told s f)) w ps v qs
         → Going s st c v qs j (t + 1)
-    unfolding nameAt
-    goes v qs j o h l ej ev eq =
+    goes v qs j name h f l n few ej put =
         let at = 9 + 15 * t in
-        going-on (sourceOfSheet s (shown st)) (st .tones) c w ps i t g h (toneAt s at) (tone-is t h) (carriedFrom s o (byteAt s (o + 6))) (look-is _ ∙ l .is) (nameAt s o) (list-named s o (l .list o refl .some))
-        (regionAt s (at + 6)) (region-is s at) v qs j ej ev eq (l .list o refl .few)
+        going-on (sourceOfSheet s (shown st)) (st .tones) c w ps i t g h (toneAt s at) (tone-is t h) (givenOf (told s f)) (ap givenOf (look-is _ ∙ l .is)) name n
+        (regionAt s (at + 6)) (region-is s at) v qs j ej put few

@@ -33,9 +33,13 @@ pub record ShortList (s : List ℕ) (o : ℕ) : Type 0 where
   pub few : byteAt s (o + 6) ≤ 4
   pub near : o < 65536
 
+-- a lookup's list, where it found one
+abbrev pub ListThere : List ℕ → Found → Type 0
+ListThere s f = (o : ℕ) → f ≡ found.At o → ShortList s o
+
 pub record Looks (s : List ℕ) (st : Sst) (c : Context) (f : Found) : Type 0 where
   pub is : lookSheet s st c ≡ told s f
-  pub list : (o : ℕ) → f ≡ found.At o → ShortList s o
+  pub list : ListThere s f
 
 -- "21 list: number u8, owner u8, form u8, label u16, count u8": its name, and how many components it has
 unfoldable pub nameAt : List ℕ → ℕ → Named

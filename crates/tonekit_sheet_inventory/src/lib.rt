@@ -1,26 +1,27 @@
-// What a shape is judged against, gathered from a sheet: the listings of all inventory tones in a
-// context, found by position.
+// What a station gathers for a context from a sheet, as tonekit_inventory does from a pack; lists are
+// found by position.
 ghost use mathlib.Core.Path.{_≡_};
 ghost use mathlib.Core.List.{map};
-ghost use mathlib.Core.Bool.{true};
-ghost use Prim.Native.Nat.{ℕ, _+_, _*_, _≤_, _<_};
-ghost use lib.ListN.{length, replicate};
-ghost use lib.Seq.{sets};
+ghost use mathlib.Core.Bool.{_||_};
+ghost use Prim.Native.Nat.{_+_, _*_, _≤_, _<_};
+ghost use lib.Dec.{eqb};
 ghost use Rattle.tonekit_bytes.specs.Fields.{byteAt, f32At};
 ghost use Rattle.tonekit_expect.specs.Lookup.{indexOf};
-ghost use Rattle.tonekit_judge.specs.Judge.{Sound};
+ghost use Rattle.tonekit_expect.specs.Source.{accentIn, toneIn};
 ghost use Rattle.tonekit_inventory.specs.Fields.{regionAt};
-ghost use Rattle.tonekit_inventory.specs.Gather.{f32, withTone, weightsOf, pointsOf, gathered, listedOf, gatheringOf};
-ghost use Rattle.tonekit_sheet.specs.Reader.{loaded, rowAt, readSheet};
+ghost use Rattle.tonekit_inventory.specs.Gather.{f32, withTone, namedOf, givenOf, Blank, gradedOf};
+ghost use Rattle.tonekit_inventory.specs.Slots.{Slots, InSlots, Lists, Gathers};
+ghost use Rattle.tonekit_sheet.specs.Reader.{rowAt};
 ghost use Rattle.tonekit_sheet.specs.FromSheet.{bitsAt, rowPlace, finalPlace, prevFound, carriedFrom, sourceOfSheet};
-ghost use Rattle.tonekit_sheet_read.specs.Held.{stepped, shown, Roomy};
-ghost use Rattle.tonekit_sheet_inventory.specs.Look.{Placed, ShortList, Looks, nameAt};
+ghost use Rattle.tonekit_sheet_read.specs.Held.{stepped, shown, Roomy, ReadFrom};
+ghost use Rattle.tonekit_sheet_inventory.specs.Look.{Placed, ShortList, Looks, ListThere, told, nameAt};
 use tonekit_bytes::byte_at;
 use tonekit_bytes::f32_at;
 use tonekit_bytes::u16_at;
 use tonekit_expect::Context;
 use tonekit_expect::Found;
 use tonekit_inventory::Gathered;
+use tonekit_inventory::Graded;
 use tonekit_inventory::Named;
 use tonekit_judge::Inventory;
 use tonekit_sheet_read::Sheet;
@@ -106,7 +107,7 @@ fn list_place(st: Sheet, number: u8) -> Found
 // The offset of the list that a context takes in a sheet that loads, or none: the row by position, and
 // of its two lists the one for this place in the phrase.
 pub fn look_sheet(s: &[u8], st: Sheet, c: Context) -> Found
-    requires { ⌜ Roomy st × ((e : ℕ) × (readSheet (now s) ≡ loaded (shown st) e)) ⌝ }
+    requires { ⌜ ReadFrom (now s) st ⌝ }
     ensures { λ r. ⌜ Looks (now (s .entry)) (shown st) c r ⌝ }
 {
     let accent = accent_index(s, st, c.accent);
@@ -143,9 +144,10 @@ fn ten_at(s: &[u8], o: usize) -> [f32; 10]
 }
 
 // Puts the components of the list at o into tone t's slots.
-fn fill_sheet(s: &[u8], o: usize, t: usize, weights: &mut [f32], points: &mut [f32])
-    requires { ⌜ (t < 8) × ShortList (now s) o × (length (now weights) ≡ 32) × (length (now points) ≡ 320) ⌝ }
-    ensures { λ _. ⌜ (now (weights .exit) ≡ sets (now (weights .entry)) (4 * t) (weightsOf (carriedFrom (now (s .entry)) o (byteAt (now (s .entry)) (o + 6))))) × (now (points .exit) ≡ sets (now (points .entry)) (40 * t) (pointsOf (carriedFrom (now (s .entry)) o (byteAt (now (s .entry)) (o + 6))))) ⌝ }
+fn fill(s: &[u8], o: usize, t: usize, weights: &mut [f32], points: &mut [f32])
+    requires { ⌜ (t < 8) × ShortList (now s) o × Slots (now weights) (now points) ⌝ }
+    ensures { λ _. ⌜ InSlots t (carriedFrom (now (s .entry)) o (byteAt (now (s .entry)) (o + 6)))
+        (now (weights .entry)) (now (points .entry)) (now (weights .exit)) (now (points .exit)) ⌝ }
 {
     let count = byte_at(s, o, 6) as usize;
     for j in 0..count {
@@ -168,10 +170,28 @@ fn name_at(s: &[u8], o: usize) -> Named
     }
 }
 
-// The inventory with tone t of a sheet, whose record stands at o, and the list that its lookup found.
-fn with_sheet_tone(i: Inventory, t: usize, s: &[u8], o: usize, list: usize) -> Inventory
+// Puts the list that a lookup found into tone t's slots, and hands back its name; nothing where it
+// found none.
+fn put_list(s: &[u8], list: Found, t: usize, weights: &mut [f32], points: &mut [f32]) -> Named
+    requires { ⌜ (t < 8) × ListThere (now s) list × Slots (now weights) (now points) ⌝ }
+    ensures { λ r. ⌜ (r ≡ namedOf (givenOf (told (now (s .entry)) list)))
+        × InSlots t (givenOf (told (now (s .entry)) list))
+        (now (weights .entry)) (now (points .entry)) (now (weights .exit)) (now (points .exit)) ⌝ }
+{
+    match list {
+        Found::At(o) => {
+            fill(s, o, t, weights, points);
+            name_at(s, o)
+        }
+        Found::Nothing => tonekit_inventory::no_name(),
+    }
+}
+
+// The inventory with tone t of a sheet, whose record stands at o, and its list's name.
+fn with_sheet_tone(i: Inventory, t: usize, s: &[u8], o: usize, name: Named) -> Inventory
     requires { ⌜ (t < 8) × (o < 65536) ⌝ }
-    ensures { λ r. ⌜ r ≡ withTone t (byteAt (now (s .entry)) (o + 1)) (f32At (now (s .entry)) (o + 2)) (regionAt (now (s .entry)) (o + 6)) (nameAt (now (s .entry)) list) i ⌝ }
+    ensures { λ r. ⌜ r ≡ withTone t (byteAt (now (s .entry)) (o + 1)) (f32At (now (s .entry)) (o + 2))
+        (regionAt (now (s .entry)) (o + 6)) name i ⌝ }
 {
     tonekit_inventory::with_tone(
         i,
@@ -179,21 +199,15 @@ fn with_sheet_tone(i: Inventory, t: usize, s: &[u8], o: usize, list: usize) -> I
         byte_at(s, o, 1),
         f32_at(s, o, 2),
         tonekit_inventory::region_at(s, o + 6),
-        name_at(s, list),
+        name,
     )
 }
 
-// The listings of all tones of a sheet that loads, in a context whose tone is not read; weights and
-// points hold zeros before, and the components in their slots after.
-pub fn gather_sheet(
-    s: &[u8],
-    st: Sheet,
-    c: Context,
-    weights: &mut [f32],
-    points: &mut [f32],
-) -> Gathered
-    requires { ⌜ Roomy st × ((e : ℕ) × (readSheet (now s) ≡ loaded (shown st) e)) × (now weights ≡ replicate 32 (f32 0)) × (now points ≡ replicate 320 (f32 0)) ⌝ }
-    ensures { λ r. ⌜ (gatheringOf r (now (weights .exit)) (now (points .exit)) ≡ gathered (sourceOfSheet (now (s .entry)) (shown st)) c) × (r .found ≡ true → Sound (listedOf r (now (weights .exit)) (now (points .exit)))) ⌝ }
+// The listings of all tones of a sheet, in a context whose tone is not read; weights and points hold
+// zeros before, and the components in their slots after. The sheet is one that was read from s.
+fn listings(s: &[u8], st: Sheet, c: Context, weights: &mut [f32], points: &mut [f32]) -> Inventory
+    requires { ⌜ ReadFrom (now s) st × Blank (now weights) (now points) ⌝ }
+    ensures { λ r. ⌜ Lists (sourceOfSheet (now (s .entry)) (shown st)) c r (now (weights .exit)) (now (points .exit)) ⌝ }
 {
     let mut i = tonekit_inventory::no_inventory(st.tones);
     for t in 0..st.tones {
@@ -204,22 +218,56 @@ pub fn gather_sheet(
             prev: c.prev,
             last: c.last,
         };
-        match look_sheet(s, st, here) {
-            Found::At(list) => {
-                fill_sheet(s, list, t, weights, points);
-                let next = with_sheet_tone(i, t, s, o, list);
-                i = next;
-            }
-            Found::Nothing => {
-                return Gathered {
-                    found: false,
-                    inventory: i,
-                };
-            }
-        }
+        let name = put_list(s, look_sheet(s, st, here), t, weights, points);
+        let next = with_sheet_tone(i, t, s, o, name);
+        i = next;
     }
+    i
+}
+
+// Whether a sheet holds an accent, and its tolerances.
+fn accent_held(s: &[u8], st: Sheet, n: u8) -> Graded
+    requires { ⌜ Roomy st ⌝ }
+    ensures { λ r. ⌜ r ≡ gradedOf (accentIn (sourceOfSheet (now (s .entry)) (shown st) .accents) n) ⌝ }
+{
+    match accent_index(s, st, n) {
+        Found::At(a) => Graded {
+            held: true,
+            tolerance: tonekit_inventory::tolerance_at(s, 9 + 15 * st.tones + 18 * a + 2),
+        },
+        Found::Nothing => tonekit_inventory::not_graded(),
+    }
+}
+
+// Whether a sheet holds the tone that stood before, or there was none.
+fn prev_held(s: &[u8], st: Sheet, prev: u8) -> bool
+    requires { ⌜ Roomy st ⌝ }
+    ensures { λ r. ⌜ r ≡ (eqb prev 0 || toneIn (sourceOfSheet (now (s .entry)) (shown st) .tones) prev) ⌝ }
+{
+    if prev == 0 {
+        return true;
+    }
+    match tone_index(s, st, prev) {
+        Found::At(_) => true,
+        Found::Nothing => false,
+    }
+}
+
+// What a station with a sheet gathers for a context, of which the tone is not read. Weights and points
+// hold zeros before, and the components in their slots after. The sheet is one that was read from s.
+pub fn gather(s: &[u8], st: Sheet, c: Context, weights: &mut [f32], points: &mut [f32]) -> Gathered
+    requires { ⌜ ReadFrom (now s) st × Blank (now weights) (now points) ⌝ }
+    ensures { λ r. ⌜ Gathers (sourceOfSheet (now (s .entry)) (shown st)) c r (now (weights .exit)) (now (points .exit)) ⌝ }
+{
+    let g = accent_held(s, st, c.accent);
+    let tolerance = g.tolerance;
+    let inventory = listings(s, st, c, weights, points);
     Gathered {
-        found: true,
-        inventory: i,
+        accent: g.held,
+        prev: prev_held(s, st, c.prev),
+        temperature: f32_at(s, 0, 1),
+        threshold: f32_at(s, 0, 5),
+        tolerance,
+        inventory,
     }
 }

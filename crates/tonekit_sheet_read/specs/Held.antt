@@ -10,7 +10,7 @@ use Rattle.tonekit_sheet_read.specs.declared.Sheet.{Sheet}
 use Rattle.tonekit_sheet_read.specs.declared.SheetRead.{SheetRead}
 use Rattle.tonekit_sheet_read.specs.declared.SheetRead.the-variants.{Good, Refused}
 use Rattle.tonekit_sheet_read.specs.declared.Loaded.{Loaded}
-use Rattle.tonekit_sheet.specs.Reader.{Sst, Out, loaded, refused}
+use Rattle.tonekit_sheet.specs.Reader.{Sst, Out, loaded, refused, readSheet}
 
 -- n offsets from o on, each step behind the one before
 unfoldable pub stepped : ℕ → ℕ → ℕ → List ℕ
@@ -48,6 +48,12 @@ pub record Roomy (p : Sheet) : Type 0 where
   pub few-due : p .due ≤ 4
   pub few-in-all : p .total ≤ 192
   pub list-slots : length (p .listat) ≡ 128
+
+-- a sheet as its reader handed it back for these bytes, which load
+pub record ReadFrom (s : List ℕ) (p : Sheet) : Type 0 where
+  pub roomy : Roomy p
+  pub end : ℕ
+  pub reads : readSheet s ≡ loaded (shown p) end
 
 -- the record of kind k at o, a list of so many components, may follow what was read: it stands where it is shown to, and there is room for it
 pub record Follows (k o count : ℕ) (p : Sheet) : Type 0 where

@@ -1,6 +1,4 @@
-pub mod Search
 pub mod Ways
 pub mod Enough
-pub mod Input
 pub mod Depends
 pub mod Together

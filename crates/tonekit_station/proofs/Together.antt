@@ -1,13 +1,14 @@
 -- Document 01's bench cases, "Proved together", and its worked example.
-use Prim.Native.Nat.{ℕ}
+use Prim.Native.Nat.{ℕ, _≤_}
 use mathlib.Core.Path.{_≡_}
 use mathlib.Core.Bool.{true}
 use mathlib.Core.List.{List, [], _∷_, _++_}
 use lib.IntN.{pos, negsuc}
 use lib.ListN.{replicate}
 use lib.Ieee.{Float, binary32, binary64, ofInt, ofBits}
-use Rattle.tonekit_core.specs.Calls.{refused, written}
+use Rattle.tonekit_core.specs.Calls.{written}
 use Rattle.tonekit_core.specs.declared.Refusal.the-variants.{BadVariant}
+use Rattle.tonekit_core.specs.declared.Verdict.the-variants.{Fine, Refused}
 use Rattle.tonekit_core.specs.declared.DeltaKind.the-variants.{StartLower}
 use Rattle.tonekit_root.specs.Root.{rootOf}
 use Rattle.tonekit_root.specs.Bench as root
@@ -16,15 +17,14 @@ use Rattle.tonekit_fit.specs.Bench as chao
 use Rattle.tonekit_expect.specs.Knots.{expanded}
 use Rattle.tonekit_expect.specs.Bench as knots
 use Rattle.tonekit_query.specs.declared.Query.{Query}
-use Rattle.tonekit_shape.specs.declared.Extent.{Extent}
-use Rattle.tonekit_score.specs.declared.Tolerance.{Tolerance}
 use Rattle.tonekit_deltas.specs.Deltas.{noDelta, noDeltas}
 use Rattle.tonekit_deltas.specs.Bench as deltas
-use Rattle.tonekit_judge.specs.Judge.{Listed, rankingOf, heardOf}
+use Rattle.tonekit_judge.specs.Judge.{rankingOf, heardOf}
+use Rattle.tonekit_judge.specs.declared.Inventory.{Inventory}
 use Rattle.tonekit_judge.specs.Bench as heard
 use Rattle.tonekit_target.specs.Target.{variantsFine}
 use Rattle.tonekit_target.specs.Bench as variants
-use Rattle.tonekit_station.specs.Judgement.{scored, judgeOutcome}
+use Rattle.tonekit_station.specs.Judgement.{tonesVerdict, queryVerdict, judgeOutcome}
 use Rattle.tonekit_station.specs.Bench as station
 use Rattle.tonekit_station.proofs.Ways.{bad-variant}
 
@@ -54,8 +54,8 @@ pub record Together : Type 0 where
   pub root-of-2 : rootOf (ofBits binary64 0x4000_0000_0000_0000) ≡ ofBits binary64 0x3ff6_a09e_667f_3bcd
   -- "Variants 0.5 and 0.5+2^−20 pass; 0.5 and 0.5+2^−19 give 15."
   pub slack-passes : variantsFine (weighing 16) 2 ≡ true
-  pub slack-past : (temperature threshold : Float) (t : Tolerance) (l : Listed) (q : Query) (frames : List ℕ) (e : Extent)
-      → q .variants ≡ 2 → scored temperature threshold t l (weighing 32) q frames e ≡ refused BadVariant 0
+  pub slack-past : (voiced : ℕ) (i : Inventory) (q : Query) → 3 ≤ voiced → tonesVerdict (i .tones) (i .counts) ≡ Fine
+      → q .variants ≡ 2 → queryVerdict voiced true true i (weighing 32) q ≡ Refused BadVariant
   -- "Onset tolerance 0.5, unwidened: 0.5 high gives no delta, 0.75 StartLower."
   pub half-high : deltas.advice (bits 0x3f00_0000) (bits 0) ≡ noDeltas
   pub three-quarters-high : deltas.advice (bits 0x3f40_0000) (bits 0)
@@ -77,7 +77,7 @@ together = record {
   two-knots = knots.two-knots;
   root-of-2 = root.root-of-two;
   slack-passes = variants.slack-passes;
-  slack-past = λ temperature threshold t l q frames e two. bad-variant temperature threshold t l (weighing 32) q frames e (rw two variants.slack-past);
+  slack-past = λ voiced i q enough listed two. bad-variant voiced i (weighing 32) q enough listed (rw two variants.slack-past);
   half-high = deltas.half-high;
   three-quarters-high = deltas.three-quarters-high;
   equal-tones = heard.equal-tones;

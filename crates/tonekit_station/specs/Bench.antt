@@ -35,8 +35,8 @@ use Rattle.tonekit_judge.specs.Judge.{toneMixing, loglikAt, logliks, ranked, ra
 use Rattle.tonekit_judge.specs.Record.{deltaCount, kindOf, scoreBytes, oneBytes, deltaBytes, judgementBytes}
 use Rattle.tonekit_target.specs.Target as target
 use Rattle.tonekit_target.specs.Target.{targetsOf, placeOf, weightsFine, mainWeight, withTarget}
-use Rattle.tonekit_inventory.specs.Gather.{withTone, noInventory, weightsOf, pointsOf, slotted, gathered}
-use Rattle.tonekit_station.specs.Judgement.{scored, judgedBy, judgement, judgeOutcome}
+use Rattle.tonekit_inventory.specs.Gather.{withTone, noInventory, weightsOf, pointsOf, slotted, listings, gathered}
+use Rattle.tonekit_station.specs.Judgement.{tonesVerdict, queryVerdict, judgeGathered, judgement, judgeOutcome}
 
 -- the bits of 1, of a half and of a quarter
 abbrev one : List ℕ
@@ -73,7 +73,7 @@ unmeasured = fixed 8 (0 ∷ 0 ∷ 0xc0 ∷ 0x7f ∷ []) (0 ∷ 0 ∷ 0x40 ∷ 0x
 
 pub floor-nan : judgeOutcome pack unmeasured
     ≡ written ((0x31 ∷ 0x01 ∷ 0x01 ∷ 0x00 ∷ 0x24 ∷ 0x74 ∷ 0xc9 ∷ []) ++ (replicate 54 0 ++ (0x02 ∷ 0x40 ∷ 0x00 ∷ [])))
-unfolding judgeOutcome judgement judgedBy scored accentIn toneIn loadPack readPack loopTo loopOn reader.recordVerdict bodyVerdict settingsVerdict toneVerdict accentVerdict ruleVerdict partVerdict dueAfter sizeOf holds zeroOrHeld added aboveZero aShare knotFine weightFine slotFine knotsFine regionFine tolerancesFine range turns ofBits le lt loadQuery readQuery recordVerdict frameVerdict fieldsOf variantFine variantsFine rangeTo turnsTo frameAt extentOf gathered sourceOfPack lookUp findRule climbTurn bestRule indexOf components carried componentOf knotsAt firstPoints pointAt slotted withTone noInventory weightsOf pointsOf target.variantsFine weightsFine mainWeight targetsOf placeOf withTarget greater judgementBytes judgementOf usable shapeOf notMeasured listOf drawn chaoCurve holesFilled semitones hzToSt widthOf stToChao log2Of halfWidth reach curveAt stepOf meanOver rounded position wholePart roundUp while whileIf narrowed finite scoreBytes oneBytes deltaBytes deltaCount kindOf f32sBytes round neg toBits add sub mul div eq isNan ofInt lesser
+unfolding judgeOutcome judgement judgeGathered queryVerdict tonesVerdict accentIn toneIn loadPack readPack loopTo loopOn reader.recordVerdict bodyVerdict settingsVerdict toneVerdict accentVerdict ruleVerdict partVerdict dueAfter sizeOf holds zeroOrHeld added aboveZero aShare knotFine weightFine slotFine knotsFine regionFine tolerancesFine range turns ofBits le lt loadQuery readQuery recordVerdict frameVerdict fieldsOf variantFine variantsFine rangeTo turnsTo frameAt extentOf gathered listings sourceOfPack lookUp findRule climbTurn bestRule indexOf components carried componentOf knotsAt firstPoints pointAt slotted withTone noInventory weightsOf pointsOf target.variantsFine weightsFine mainWeight targetsOf placeOf withTarget greater judgementBytes judgementOf usable shapeOf notMeasured listOf drawn chaoCurve holesFilled semitones hzToSt widthOf stToChao log2Of halfWidth reach curveAt stepOf meanOver rounded position wholePart roundUp while whileIf narrowed finite scoreBytes oneBytes deltaBytes deltaCount kindOf f32sBytes round neg toBits add sub mul div eq isNan ofInt lesser
 floor-nan = refl
 
 -- three such frames in the register 0 to 24 lie on the citation: a log-likelihood of 3 ln 2, distance 0, the citation of accent 1, tone 1 heard, no
@@ -83,5 +83,5 @@ level = fixed 3 (replicate 4 0) (0 ∷ 0 ∷ 0xc0 ∷ 0x41 ∷ []) ++ (frames ++
 
 pub on-citation : judgeOutcome pack level
     ≡ written ((0x31 ∷ 0x01 ∷ 0x01 ∷ 0x92 ∷ 0x15 ∷ 0x05 ∷ 0x40 ∷ []) ++ (replicate 32 0 ++ ((1 ∷ 0 ∷ 0 ∷ 0 ∷ 0 ∷ 1 ∷ 1 ∷ 0 ∷ 0 ∷ 0 ∷ 1 ∷ []) ++ (replicate 11 0 ++ (0x01 ∷ 0x08 ∷ 0x00 ∷ [])))))
-unfolding judgeOutcome judgement judgedBy scored accentIn toneIn loadPack readPack loopTo loopOn reader.recordVerdict bodyVerdict settingsVerdict toneVerdict accentVerdict ruleVerdict partVerdict dueAfter sizeOf holds zeroOrHeld added aboveZero aShare knotFine weightFine slotFine knotsFine regionFine tolerancesFine range turns ofBits le lt loadQuery readQuery recordVerdict frameVerdict fieldsOf variantFine variantsFine rangeTo turnsTo frameAt extentOf gathered sourceOfPack lookUp findRule climbTurn bestRule indexOf components carried componentOf knotsAt firstPoints pointAt slotted withTone noInventory weightsOf pointsOf target.variantsFine weightsFine mainWeight targetsOf placeOf withTarget greater judgementBytes judgementOf usable shapeOf listOf drawn chaoCurve holesFilled semitones hzToSt widthOf stToChao log2Of halfWidth reach curveAt stepOf meanOver rounded position wholePart roundUp while whileIf narrowed finite scoreBytes oneBytes deltaBytes deltaCount kindOf f32sBytes round neg toBits add sub mul div eq isNan ofInt lesser united withIssue scoringOf widenFor clampLog addTo valueOf excused pointWeight squaresOf endTerm endsOf distanceOf logOf mixed mixTurn calibrate kept offer offerEnd offerTurn endDeltas deltasOf rootOf expOf lnOf toneMixing loglikAt logliks ranked rankingOf heardOf weighed partMixing targetMixing llrOf plainOf distanceFrom adviceOf partOf withBest judgedOf magnitude
+unfolding judgeOutcome judgement judgeGathered queryVerdict tonesVerdict accentIn toneIn loadPack readPack loopTo loopOn reader.recordVerdict bodyVerdict settingsVerdict toneVerdict accentVerdict ruleVerdict partVerdict dueAfter sizeOf holds zeroOrHeld added aboveZero aShare knotFine weightFine slotFine knotsFine regionFine tolerancesFine range turns ofBits le lt loadQuery readQuery recordVerdict frameVerdict fieldsOf variantFine variantsFine rangeTo turnsTo frameAt extentOf gathered listings sourceOfPack lookUp findRule climbTurn bestRule indexOf components carried componentOf knotsAt firstPoints pointAt slotted withTone noInventory weightsOf pointsOf target.variantsFine weightsFine mainWeight targetsOf placeOf withTarget greater judgementBytes judgementOf usable shapeOf listOf drawn chaoCurve holesFilled semitones hzToSt widthOf stToChao log2Of halfWidth reach curveAt stepOf meanOver rounded position wholePart roundUp while whileIf narrowed finite scoreBytes oneBytes deltaBytes deltaCount kindOf f32sBytes round neg toBits add sub mul div eq isNan ofInt lesser united withIssue scoringOf widenFor clampLog addTo valueOf excused pointWeight squaresOf endTerm endsOf distanceOf logOf mixed mixTurn calibrate kept offer offerEnd offerTurn endDeltas deltasOf rootOf expOf lnOf toneMixing loglikAt logliks ranked rankingOf heardOf weighed partMixing targetMixing llrOf plainOf distanceFrom adviceOf partOf withBest judgedOf magnitude
 on-citation = refl

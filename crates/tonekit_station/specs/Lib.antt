@@ -1,3 +1,2 @@
 pub mod Judgement
-pub mod Held
 pub mod Bench

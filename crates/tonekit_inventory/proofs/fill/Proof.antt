@@ -22,17 +22,18 @@ abbrev μ-loop : tie.MeasureT-loop
 
 loop-holds : tie.Need-loop-holds Inv-loop μ-loop
 loop-holds c =
-    let a = c .before .before .before .args in (
+    let x = c .before .before .before in
+    let a = x .args in (
       search needs,
       search needs,
-      search needs,
-      search needs,
+      x .pre .2 .weighed,
+      x .pre .2 .pointed,
       ap (sets (a .weights .now) (4 * a .t)) (weights-none (a .s .now) (a .l)),
       ap (sets (a .points .now) (40 * a .t)) (points-none (a .s .now) (a .l)),
     )
 
 component-at-requires : tie.Need-component-at-requires Inv-loop μ-loop
-component-at-requires c κs = c .before .before .before .before .before .pre .2 (c .before .loop .j) (search needs)
+component-at-requires c κs = c .before .before .before .before .before .pre .1 .each (c .before .loop .j) (search needs)
 
 loop-again : tie.Need-loop-again Inv-loop μ-loop
 loop-again c =
@@ -53,7 +54,7 @@ returns c =
     let l = c .before .loop in
     let a = c .before .before .before .before .before .args in
     let e : l .j ≡ a .l .count = omega arith in
-    (rw e at (l .inv .4), rw e at (l .inv .5))
+    record { weighed = rw e at (l .inv .4); pointed = rw e at (l .inv .5) }
 
 pub fill-spec : {M : Type 1} → statement M
 fill-spec =

@@ -11,7 +11,6 @@ pub with-pack-tone-spec : {M : Type 1} → statement M
 with-pack-tone-spec =
     tie.close
     (tie.spec
-    (λ c. search needs)
     (λ c κs. search needs)
     (λ c κs. search needs)
     (λ c. search needs)

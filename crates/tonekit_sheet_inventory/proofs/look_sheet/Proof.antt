@@ -42,23 +42,23 @@ prev-is k = sym (k .before .before .before .before .before .before .before .befo
 list-number-requires : tie.Need-list-number-requires
 list-number-requires c κs =
     let x = c .before .before .before .before .before .before .before .before .before .before .before .before .before in
-    (x .pre .0, accent-held _ (x .args .st) _ _ (accent-is c), tone-held _ (x .args .st) _ _ (tone-is c), prev-held (x .args .s .now) (x .args .st) (x .args .c .prev) _ (prev-is c))
+    (x .pre .roomy, accent-held _ (x .args .st) _ _ (accent-is c), tone-held _ (x .args .st) _ _ (tone-is c), prev-held (x .args .s .now) (x .args .st) (x .args .c .prev) _ (prev-is c))
 
 few : (c : tie.After-list-number) → c .list-number .result ≤ length (shown (c .before .before .before .before .before .before .before .before .before .before .before .before .before .before .args .st) .lists)
 few c =
     let k = c .before in
     let x = k .before .before .before .before .before .before .before .before .before .before .before .before .before in
-    rw (c .list-number .ensures) (number-held (x .args .s .now) (shown (x .args .st)) (x .pre .1 .0) (x .pre .1 .1) (x .args .c) _ _ _ (index-found _ _ _ _ (accent-is k) .inside) (index-found _ _ _ _ (tone-is k) .inside) (prev-inside (x .args .s .now) (shown (x .args .st)) (x .args .c .prev) _ (prev-is k)))
+    rw (c .list-number .ensures) (number-held (x .args .s .now) (shown (x .args .st)) (x .pre .end) (x .pre .reads) (x .args .c) _ _ _ (index-found _ _ _ _ (accent-is k) .inside) (index-found _ _ _ _ (tone-is k) .inside) (prev-inside (x .args .s .now) (shown (x .args .st)) (x .args .c .prev) _ (prev-is k)))
 
 list-place-requires : tie.Need-list-place-requires
-list-place-requires c κs = let x = c .before .before .before .before .before .before .before .before .before .before .before .before .before .before in (x .pre .0, omega (arith, few c, order-length (x .args .st .listat) (x .args .st .lists)))
+list-place-requires c κs = let x = c .before .before .before .before .before .before .before .before .before .before .before .before .before .before in (x .pre .roomy, omega (arith, few c, order-length (x .args .st .listat) (x .args .st .lists)))
 
 returns-4 : tie.Need-returns-4
 returns-4 c =
     let n = c .before in
     let k = c .before .before in
     let x = k .before .before .before .before .before .before .before .before .before .before .before .before .before in
-    looked (x .args .s .now) (shown (x .args .st)) (x .pre .1 .0) (x .pre .1 .1) (x .args .c) (n .list-number .result) _
+    looked (x .args .s .now) (shown (x .args .st)) (x .pre .end) (x .pre .reads) (x .args .c) (n .list-number .result) _
     (number-is (x .args .s .now) (shown (x .args .st)) (x .args .c) _ (accent-is k) _ (tone-is k) _ (prev-is k) ∙ ap (listNumbered (x .args .s .now) (shown (x .args .st))) (sym (n .list-number .ensures)))
     (few n) (c .list-place .ensures)
 

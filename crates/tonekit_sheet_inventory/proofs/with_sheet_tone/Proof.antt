@@ -1,11 +1,11 @@
--- `with_sheet_tone` meets its contract: the values that were read are those of the record at o and of the list.
+-- `with_sheet_tone` meets its contract: the values that were read are those of the record at o.
 use mathlib.Core.Path.{_∙_}
 use borrow.Author.Needs.{needs}
 use Rattle.tonekit_sheet_inventory.proofs.with_sheet_tone.Statement.{statement}
 use Rattle.tonekit_sheet_inventory.proofs.with_sheet_tone.Tie as tie
 
 returns : tie.Need-returns
-returns c = c .with-tone .ensures ∙ simp (c .before .name-at .ensures, c .before .before .region-at .ensures, c .before .before .before .f32-at .ensures, c .before .before .before .before .byte-at .ensures)
+returns c = c .with-tone .ensures ∙ simp (c .before .region-at .ensures, c .before .before .f32-at .ensures, c .before .before .before .byte-at .ensures)
 
 pub with-sheet-tone-spec : {M : Type 1} → statement M
 with-sheet-tone-spec =
@@ -14,7 +14,6 @@ with-sheet-tone-spec =
     (λ c κs. search needs)
     (λ c κs. search needs)
     (λ c. search needs)
-    (λ c κs. search needs)
     (λ c κs. search needs)
     (λ c κs. search needs)
     returns)

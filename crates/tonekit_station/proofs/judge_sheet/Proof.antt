@@ -1,25 +1,59 @@
 -- `judge_sheet` meets its contract, by the ways through its code.
+use mathlib.Core.Path.{sym, _∙_, ap}
 use borrow.Author.Needs.{needs}
 use Rattle.tonekit_core.proofs.Calls.{delivers-refused, delivers-same}
-use Rattle.tonekit_station.proofs.Ways.{sheet-loads, sheet-good, sheet-bad}
-use Rattle.tonekit_sheet_read.proofs.Single.{loads-alone}
+use Rattle.tonekit_query.proofs.Laws.{load-reads, read-holds}
+use Rattle.tonekit_sheet_read.specs.Held.{shown}
+use Rattle.tonekit_sheet.specs.FromSheet.{sourceOfSheet}
+use Rattle.tonekit_expect.specs.declared.Context.{Context}
+use Rattle.tonekit_inventory.specs.Gather.{Gathering, gathered}
+use Rattle.tonekit_station.specs.Judgement.{judgeGathered}
+use Rattle.tonekit_station.proofs.Ways.{query-good, query-bad, sheet-read-from, sheet-good, sheet-bad}
 use Rattle.tonekit_station.proofs.judge_sheet.Statement.{statement}
 use Rattle.tonekit_station.proofs.judge_sheet.Tie as tie
 
 returns : tie.Need-returns
 returns c =
-    let l = c .before .before .before .before .before .before .before in
-    delivers-same _ _ _ _ _ (sheet-good _ (l .load-sheet .result) (l .load-sheet .ensures .0) _ _ (c .before .before .before .before .enum-told .given .1)) (c .before .before .judge-sheet-loaded .ensures)
-
-returns-2 : tie.Need-returns-2
-returns-2 c =
     let l = c .before .before .before .before in
     delivers-refused _ _ _ _ (sheet-bad _ (l .load-sheet .result) (l .load-sheet .ensures .0) _ _ _ (c .before .read .given .1))
 
-judge-sheet-loaded-requires : tie.Need-judge-sheet-loaded-requires
-judge-sheet-loaded-requires c κs =
-    let l = c .before .before .before .before in
-    (l .load-sheet .ensures .1, (c .before .enum-told .given .0 .0, loads-alone _ _ _ (sheet-loads _ (l .load-sheet .result) (l .load-sheet .ensures .0) _ (c .before .enum-told .given .1)) .0))
+gather-requires : tie.Need-gather-requires
+gather-requires c κs =
+    let k = c .before .before .before .before .before .before .before in
+    let l = k .before .before .before in
+    (sheet-read-from _ (l .load-sheet .result) (l .load-sheet .ensures .0) (l .load-sheet .ensures .1) _ (k .enum-told .given .1), search needs)
+
+judge-gathered-requires : tie.Need-judge-gathered-requires
+judge-gathered-requires c κs =
+    let g = c .before .before .before .before .before in
+    let q = g .before .before .before .before .before in
+    let h = read-holds _ _ (load-reads _ _ (sym (q .before .before .load-query .ensures) ∙ q .q .given .1)) in
+    (g .gather .ensures .sound, h .count, h .variants)
+
+returns-2 : tie.Need-returns-2
+returns-2 c =
+    let g = c .before .before .before .before .before .before .before .before in
+    let x = g .before .before .before in
+    let q = x .before .before in
+    let k = q .before .before .before in
+    let l = k .before .before .before in
+    let s = l .before .before .before .before .args in
+    let src = sourceOfSheet (s .sheet .now) (shown (l .load-sheet .result .sheet)) in
+    delivers-same _ _ _ _ _
+    (ap (λ (y : Gathering). judgeGathered y (s .query .now) (q .q .given .0 .0)) (g .gather .ensures .is)
+    ∙ (ap (λ (y : Context). judgeGathered (gathered src y) (s .query .now) (q .q .given .0 .0)) (x .context-of .ensures)
+    ∙ (query-good src (s .query .now) (q .q .given .0 .0) (sym (q .before .before .load-query .ensures) ∙ q .q .given .1)
+    ∙ sheet-good (s .sheet .now) (l .load-sheet .result) (l .load-sheet .ensures .0) (s .query .now) _ (k .enum-told .given .1))))
+    (c .before .before .judge-gathered .ensures)
+
+returns-3 : tie.Need-returns-3
+returns-3 c =
+    let k = c .before .before .before .before in
+    let l = k .before .before .before in
+    let s = l .before .before .before .before .args in
+    delivers-refused _ _ _ _
+    (sym (sheet-good (s .sheet .now) (l .load-sheet .result) (l .load-sheet .ensures .0) (s .query .now) _ (k .enum-told .given .1))
+    ∙ query-bad _ _ _ _ (sym (c .before .before .before .load-query .ensures) ∙ c .before .r .given .1))
 
 pub judge-sheet-spec : {M : Type 1} → statement M
 judge-sheet-spec =
@@ -27,8 +61,18 @@ judge-sheet-spec =
     (tie.spec
     (λ c κs. search needs)
     (λ c. search needs)
-    judge-sheet-loaded-requires
-    (λ c. search needs)
-    (λ c. search needs)
     returns
-    returns-2)
+    (λ c. search needs)
+    (λ c κs. search needs)
+    (λ c. search needs)
+    (λ c κs. search needs)
+    (λ c. search needs)
+    (λ c. search needs)
+    gather-requires
+    (λ c. search needs)
+    (λ c. search needs)
+    judge-gathered-requires
+    (λ c. search needs)
+    (λ c. search needs)
+    returns-2
+    returns-3)
