@@ -6,6 +6,7 @@ use mathlib.Core.List.{List, [], _∷_, map}
 use mathlib.Core.Option.{Option, none, some}
 use lib.Dec.{eqb, ltb}
 use lib.ListN.{length, getD}
+use Rattle.tonekit_core.specs.Layout.{toneKnotCount, accentParent, ruleSize, ruleTone, rulePrev, ruleFinal}
 use Rattle.tonekit_core.specs.Loop.{fold}
 use Rattle.tonekit_bytes.specs.Fields.{byteAt}
 use Rattle.tonekit_pack.specs.Pack.{Pst, numberAt, partsFrom}
@@ -111,10 +112,10 @@ tabulate f (suc k) i = f i ∷ tabulate f k (i + 1)
 
 -- the tone, and the rule with the parts behind it, of the records at an offset
 abbrev pub bookToneAt : List ℕ → ℕ → BookTone
-bookToneAt s o = record { tone = toneAt s o; cited = λ n. cond (eqb (byteAt s (o + 6)) 0) none (some (components s (citation n o) 1)) }
+bookToneAt s o = record { tone = toneAt s o; cited = λ n. cond (eqb (byteAt s (o + toneKnotCount)) 0) none (some (components s (citation n o) 1)) }
 
 abbrev pub ruleAt : List ℕ → ℕ → ℕ → Rule
-ruleAt s owner o = record { tone = byteAt s (o + 3); prev = byteAt s (o + 4); final = byteAt s (o + 5); gives = components s (ruleListing s owner o) (partsFrom 4 s (o + 7)) }
+ruleAt s owner o = record { tone = byteAt s (o + ruleTone); prev = byteAt s (o + rulePrev); final = byteAt s (o + ruleFinal); gives = components s (ruleListing s owner o) (partsFrom 4 s (o + ruleSize)) }
 
 -- tone i and accent i of the pack
 abbrev pub packTone : List ℕ → Pst → ℕ → BookTone
@@ -123,7 +124,7 @@ packTone s st i = bookToneAt s (getD (st .tones) i 0)
 abbrev pub packAccent : List ℕ → Pst → ℕ → BookAccent
 packAccent s st i =
     let o = getD (st .accents) i 0 in
-    record { accent = accentAt s o; parent = byteAt s (o + 2); rules = tabulate (λ k. ruleAt s (numberAt s o) (getD (st .rules) k 0)) (toRule st i - fromRule st i) (fromRule st i) }
+    record { accent = accentAt s o; parent = byteAt s (o + accentParent); rules = tabulate (λ k. ruleAt s (numberAt s o) (getD (st .rules) k 0)) (toRule st i - fromRule st i) (fromRule st i) }
 
 unfoldable pub bookOf : List ℕ → Pst → Book
 unfolding tabulate

@@ -3,6 +3,7 @@ use Prim.Native.Nat.{ℕ}
 use mathlib.Core.Bool.{cond}
 use mathlib.Core.List.{List, [], _∷_, _++_, map}
 use lib.Dec.{eqb}
+use Rattle.tonekit_core.specs.Layout.{toneKind, accentKind, accentParent, ruleKind, partKind}
 use Rattle.tonekit_bytes.specs.Fields.{byteAt}
 use Rattle.tonekit_pack.specs.Pack.{numberAt}
 use Rattle.tonekit_expect.specs.Source.{settingsAt, accentAt}
@@ -23,9 +24,9 @@ pub record Groups : Type 0 where
 -- one record more in front
 abbrev pub groupedWith : List ℕ → Groups → Groups
 groupedWith r g =
-    cond (eqb (kind r) 3) (record { parts = []; rules = []; accents = record { head = r; rules = g .rules } ∷ g .accents })
-    (cond (eqb (kind r) 4) (record { parts = []; rules = (r ++ recordsBytes (g .parts)) ∷ g .rules; accents = g .accents })
-    (cond (eqb (kind r) 5) (record { parts = r ∷ g .parts; rules = g .rules; accents = g .accents })
+    cond (eqb (kind r) accentKind) (record { parts = []; rules = []; accents = record { head = r; rules = g .rules } ∷ g .accents })
+    (cond (eqb (kind r) ruleKind) (record { parts = []; rules = (r ++ recordsBytes (g .parts)) ∷ g .rules; accents = g .accents })
+    (cond (eqb (kind r) partKind) (record { parts = r ∷ g .parts; rules = g .rules; accents = g .accents })
     (record { parts = []; rules = g .rules; accents = g .accents })))
 
 unfoldable pub grouped : List (List ℕ) → Groups
@@ -34,12 +35,12 @@ grouped (r ∷ rs) = groupedWith r (grouped rs)
 
 -- the accent of a group
 abbrev pub accentOfGroup : AccentGroup → BookAccent
-accentOfGroup g = record { accent = accentAt (g .head) 0; parent = byteAt (g .head) 2; rules = map (λ (r : List ℕ). ruleAt r (numberAt (g .head) 0) 0) (g .rules) }
+accentOfGroup g = record { accent = accentAt (g .head) 0; parent = byteAt (g .head) accentParent; rules = map (λ (r : List ℕ). ruleAt r (numberAt (g .head) 0) 0) (g .rules) }
 
 -- the tones' records, in order
 unfoldable pub toneRecords : List (List ℕ) → List (List ℕ)
 toneRecords [] = []
-toneRecords (r ∷ rs) = cond (eqb (kind r) 2) (r ∷ toneRecords rs) (toneRecords rs)
+toneRecords (r ∷ rs) = cond (eqb (kind r) toneKind) (r ∷ toneRecords rs) (toneRecords rs)
 
 abbrev pub toneOfRecord : List ℕ → BookTone
 toneOfRecord r = bookToneAt r 0

@@ -6,6 +6,8 @@ use mathlib.Core.Bool.{Bool, true, false, cond, not, _&&_, _||_}
 use mathlib.Core.List.{List, [], _∷_, _++_}
 use lib.Dec.{eqb, leb, ltb}
 use lib.ListN.{length}
+use Rattle.tonekit_core.specs.Layout.{settingsKind, toneKind, toneKnotCount, accentKind, accentParent}
+use Rattle.tonekit_core.specs.Layout.{ruleKind, ruleTone, rulePrev, ruleForm, partKind, partKnotCount, endKind}
 use Rattle.tonekit_core.specs.declared.Refusal.the-variants.{Misplaced}
 use Rattle.tonekit_core.specs.declared.Verdict.{Verdict}
 use Rattle.tonekit_core.specs.declared.Verdict.the-variants as verdict
@@ -41,13 +43,13 @@ kind r = byteAt r 0
 
 -- ---- the verdict on a record r that is due, after the tally t. It stands at offset 0 of its own bytes
 abbrev pub toneVerdictOf : List ℕ → Tally → Verdict
-toneVerdictOf r t = inTurn (leb 8 (length (t .tones)) || ltb 10 (byteAt r 6)) (toneFine r 0) (not (among (t .tones) (numberAt r 0))) true
+toneVerdictOf r t = inTurn (leb 8 (length (t .tones)) || ltb 10 (byteAt r toneKnotCount)) (toneFine r 0) (not (among (t .tones) (numberAt r 0))) true
 
 abbrev pub accentVerdictOf : List ℕ → Tally → Verdict
-accentVerdictOf r t = inTurn (leb 8 (length (t .accents))) (accentFine r 0) (not (among (t .accents) (numberAt r 0))) (zeroOrAmong (t .accents) (byteAt r 2))
+accentVerdictOf r t = inTurn (leb 8 (length (t .accents))) (accentFine r 0) (not (among (t .accents) (numberAt r 0))) (zeroOrAmong (t .accents) (byteAt r accentParent))
 
 abbrev pub ruleVerdictOf : List ℕ → Tally → Verdict
-ruleVerdictOf r t = inTurn (leb 64 (t .rules)) (ruleFine r 0) true (zeroOrAmong (t .tones) (byteAt r 3) && zeroOrAmong (t .tones) (byteAt r 4))
+ruleVerdictOf r t = inTurn (leb 64 (t .rules)) (ruleFine r 0) true (zeroOrAmong (t .tones) (byteAt r ruleTone) && zeroOrAmong (t .tones) (byteAt r rulePrev))
 
 -- "Form 2 is single": the last rule's
 abbrev pub lastSingle : Tally → Bool
@@ -56,18 +58,18 @@ lastSingle t = eqb (t .form) 2
 abbrev pub partVerdictOf : List ℕ → Tally → Verdict
 partVerdictOf r t =
     inTurn
-    (leb 4 (t .parts) || (leb 128 (t .total) || ((lastSingle t && leb 1 (t .parts)) || ltb 10 (byteAt r 5))))
+    (leb 4 (t .parts) || (leb 128 (t .total) || ((lastSingle t && leb 1 (t .parts)) || ltb 10 (byteAt r partKnotCount))))
     (partFine (lastSingle t) r 0)
     true
     true
 
 unfoldable pub bodyVerdictOf : List ℕ → Tally → Verdict
 bodyVerdictOf r t =
-    cond (eqb (kind r) 1) (settingsVerdict r 0)
-    (cond (eqb (kind r) 2) (toneVerdictOf r t)
-    (cond (eqb (kind r) 3) (accentVerdictOf r t)
-    (cond (eqb (kind r) 4) (ruleVerdictOf r t)
-    (cond (eqb (kind r) 5) (partVerdictOf r t) verdict.Fine))))
+    cond (eqb (kind r) settingsKind) (settingsVerdict r 0)
+    (cond (eqb (kind r) toneKind) (toneVerdictOf r t)
+    (cond (eqb (kind r) accentKind) (accentVerdictOf r t)
+    (cond (eqb (kind r) ruleKind) (ruleVerdictOf r t)
+    (cond (eqb (kind r) partKind) (partVerdictOf r t) verdict.Fine))))
 
 -- the verdict on any whole record
 unfoldable pub recordVerdictOf : List ℕ → Tally → Verdict
@@ -77,16 +79,16 @@ recordVerdictOf r t = cond (not (dueAfter (t .last) (kind r))) (verdict.Refused 
 -- the tally once r is fine
 unfoldable pub tallied : List ℕ → Tally → Tally
 tallied r t =
-    cond (eqb (kind r) 2) (record { last = kind r; tones = t .tones ++ (numberAt r 0 ∷ []); accents = t .accents; rules = t .rules; form = t .form; parts = t .parts; total = t .total })
-    (cond (eqb (kind r) 3) (record { last = kind r; tones = t .tones; accents = t .accents ++ (numberAt r 0 ∷ []); rules = t .rules; form = t .form; parts = t .parts; total = t .total })
-    (cond (eqb (kind r) 4) (record { last = kind r; tones = t .tones; accents = t .accents; rules = t .rules + 1; form = byteAt r 6; parts = 0; total = t .total })
-    (cond (eqb (kind r) 5) (record { last = kind r; tones = t .tones; accents = t .accents; rules = t .rules; form = t .form; parts = t .parts + 1; total = t .total + 1 })
+    cond (eqb (kind r) toneKind) (record { last = kind r; tones = t .tones ++ (numberAt r 0 ∷ []); accents = t .accents; rules = t .rules; form = t .form; parts = t .parts; total = t .total })
+    (cond (eqb (kind r) accentKind) (record { last = kind r; tones = t .tones; accents = t .accents ++ (numberAt r 0 ∷ []); rules = t .rules; form = t .form; parts = t .parts; total = t .total })
+    (cond (eqb (kind r) ruleKind) (record { last = kind r; tones = t .tones; accents = t .accents; rules = t .rules + 1; form = byteAt r ruleForm; parts = 0; total = t .total })
+    (cond (eqb (kind r) partKind) (record { last = kind r; tones = t .tones; accents = t .accents; rules = t .rules; form = t .form; parts = t .parts + 1; total = t .total + 1 })
     (record { last = kind r; tones = t .tones; accents = t .accents; rules = t .rules; form = t .form; parts = t .parts; total = t .total }))))
 
 -- from the tally t, records that are whole and fine one after the other, none of them End, read on to the tally u
 pub data ReadsOn : Tally → List (List ℕ) → Tally → Type 0 where
   none : {t : Tally} → ReadsOn t [] t
-  more : {t u : Tally} {r : List ℕ} {rs : List (List ℕ)} → length r ≡ sizeOf (kind r) → (kind r ≡ 6 → ⊥) → recordVerdictOf r t ≡ verdict.Fine
+  more : {t u : Tally} {r : List ℕ} {rs : List (List ℕ)} → length r ≡ sizeOf (kind r) → (kind r ≡ endKind → ⊥) → recordVerdictOf r t ≡ verdict.Fine
       → ReadsOn (tallied r t) rs u → ReadsOn t (r ∷ rs) u
 
 -- the bytes of records, one behind the other
