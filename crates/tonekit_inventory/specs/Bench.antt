@@ -60,8 +60,11 @@ looked tone =
 abbrev fifth : Accent
 fifth = record { number = 5; contour = half; onset = one; offset = two; turning = four }
 
+abbrev ninth : Accent
+ninth = record { number = 9; contour = one; onset = half; offset = half; turning = half }
+
 abbrev held : List Tone → Source
-held tones = record { settings = record { temperature = one; threshold = half }; tones = tones; accents = fifth ∷ []; look = λ c. looked (c .tone) }
+held tones = record { settings = record { temperature = one; threshold = half }; tones = tones; accents = fifth ∷ ninth ∷ []; look = λ c. looked (c .tone) }
 
 -- whatever tone the context has
 abbrev here : Context
@@ -133,3 +136,8 @@ under-none = refl
 after-second : gathered (held (first ∷ second ∷ [])) (record { accent = 5; tone = 1; prev = 2; last = 0 }) .prev ≡ true
 unfolding gathered toneIn
 after-second = refl
+
+-- "Tolerances are the graded accent's, also for inherited rules": the rule is accent 9's
+owner-elsewhere : gathered (held (second ∷ [])) here .tolerance ≡ fifths
+unfolding gathered accentIn ofBits
+owner-elsewhere = refl

@@ -8,6 +8,7 @@ ghost use Prim.Native.Nat.{_+_, _≤_, _<_};
 ghost use lib.Dec.{eqb};
 ghost use lib.ListN.{length};
 ghost use lib.Seq.{sets};
+ghost use Rattle.tonekit_core.specs.Layout.{ownNumber, tonePrior, toneRegion};
 ghost use Rattle.tonekit_bytes.specs.Fields.{byteAt, f32At};
 ghost use Rattle.tonekit_pack.specs.Held.{shown, Roomy, ReadFrom};
 ghost use Rattle.tonekit_expect.specs.Source.{components, given, accentIn, toneIn, sourceOfPack};
@@ -16,6 +17,7 @@ ghost use Rattle.tonekit_inventory.specs.Gather.{withTone, noInventory, 
 ghost use Rattle.tonekit_inventory.specs.Slots.{Slots, InSlots, Short, Looked, Lists, Gathers, nameOf};
 use tonekit_bytes::byte_at;
 use tonekit_bytes::f32_at;
+use tonekit_core::layout;
 use tonekit_expect::Context;
 use tonekit_expect::Found;
 use tonekit_expect::Listing;
@@ -56,8 +58,8 @@ pub fn region_at(s: &[u8], o: usize) -> Region
 {
     Region {
         flag: byte_at(s, o, 0),
-        from: f32_at(s, o, 1),
-        to: f32_at(s, o, 5),
+        from: f32_at(s, o, layout::REGION_FROM),
+        to: f32_at(s, o, layout::REGION_TO),
     }
 }
 
@@ -67,9 +69,9 @@ pub fn tolerance_at(s: &[u8], o: usize) -> Tolerance
 {
     Tolerance {
         contour: f32_at(s, o, 0),
-        onset: f32_at(s, o, 4),
-        offset: f32_at(s, o, 8),
-        turning: f32_at(s, o, 12),
+        onset: f32_at(s, o, layout::TOLERANCE_ONSET),
+        offset: f32_at(s, o, layout::TOLERANCE_OFFSET),
+        turning: f32_at(s, o, layout::TOLERANCE_TURNING),
     }
 }
 
@@ -216,15 +218,15 @@ fn name_of(l: Listing) -> Named
 // The inventory with tone t of a pack, whose record stands at o, and its listing's name.
 fn with_pack_tone(i: Inventory, t: usize, s: &[u8], o: usize, name: Named) -> Inventory
     requires { ⌜ (t < 8) × (o < 65536) ⌝ }
-    ensures { λ r. ⌜ r ≡ withTone t (byteAt (now (s .entry)) (o + 1)) (f32At (now (s .entry)) (o + 2))
-        (regionAt (now (s .entry)) (o + 47)) name i ⌝ }
+    ensures { λ r. ⌜ r ≡ withTone t (byteAt (now (s .entry)) (o + ownNumber)) (f32At (now (s .entry)) (o + tonePrior))
+        (regionAt (now (s .entry)) (o + toneRegion)) name i ⌝ }
 {
     with_tone(
         i,
         t,
-        byte_at(s, o, 1),
-        f32_at(s, o, 2),
-        region_at(s, o + 47),
+        byte_at(s, o, layout::OWN_NUMBER),
+        f32_at(s, o, layout::TONE_PRIOR),
+        region_at(s, o + layout::TONE_REGION),
         name,
     )
 }
@@ -241,7 +243,7 @@ fn listings(s: &[u8], p: Pack, c: Context, weights: &mut [f32], points: &mut [f3
         let o = offsets[t] as usize;
         let here = Context {
             accent: c.accent,
-            tone: byte_at(s, o, 1),
+            tone: byte_at(s, o, layout::OWN_NUMBER),
             prev: c.prev,
             last: c.last,
         };
@@ -261,7 +263,7 @@ fn accent_held(s: &[u8], p: Pack, n: u8) -> Graded
     match tonekit_expect::accent_index(s, p, n) {
         Found::At(a) => Graded {
             held: true,
-            tolerance: tolerance_at(s, offsets[a] as usize + 3),
+            tolerance: tolerance_at(s, offsets[a] as usize + layout::ACCENT_CONTOUR),
         },
         Found::Nothing => not_graded(),
     }
@@ -293,8 +295,8 @@ pub fn gather(s: &[u8], p: Pack, c: Context, weights: &mut [f32], points: &mut [
     Gathered {
         accent: g.held,
         prev: prev_held(s, p, c.prev),
-        temperature: f32_at(s, 0, 1),
-        threshold: f32_at(s, 0, 5),
+        temperature: f32_at(s, 0, layout::SETTINGS_TEMPERATURE),
+        threshold: f32_at(s, 0, layout::SETTINGS_THRESHOLD),
         tolerance,
         inventory,
     }

@@ -5,6 +5,7 @@ use mathlib.Core.Bool.{true}
 use mathlib.Core.List.{List}
 use mathlib.Core.Option.{none}
 use native.Mathlib.Omega.{arith}
+use Rattle.tonekit_core.specs.Layout.{sheetAccentAt}
 use Rattle.tonekit_expect.specs.Lookup.{indexOf}
 use Rattle.tonekit_expect.specs.Source.{accentIn}
 use Rattle.tonekit_expect.specs.declared.Found.the-variants as found
@@ -28,12 +29,12 @@ tolerance s o =
     rw (onset, offset, turning)
 
 module _ (s : List ℕ) (st : Sheet) (n : ℕ) where
-  pub graded-found : (i : ℕ) → i < st .accents → indexOf s (shown st .accents) n ≡ found.At i → (t : Tolerance) → t ≡ toleranceAt s (9 + 15 * st .tones + 18 * i + 2)
+  pub graded-found : (i : ℕ) → i < st .accents → indexOf s (shown st .accents) n ≡ found.At i → (o : ℕ) → o ≡ sheetAccentAt (st .tones) i → (t : Tolerance) → t ≡ toleranceAt s (o + 2)
       → record { held = true; tolerance = t } ≡ gradedOf (accentIn (sourceOfSheet s (shown st) .accents) n)
   unfolding sourceOfSheet
-  graded-found i h e t q =
+  graded-found i h e o o-is t q =
       rw (accent-found s (shown st .accents) n (accentAt s) (λ o. refl) i e, stepped-get (9 + 15 * st .tones) 18 (st .accents) i h)
-      (ap (λ (x : Tolerance). record { held = true; tolerance = x }) (q ∙ tolerance s (9 + 15 * st .tones + 18 * i)))
+      (ap (λ (x : Tolerance). record { held = true; tolerance = x }) (q ∙ (tolerance s o ∙ ap (λ (y : ℕ). toleranceOf (accentAt s y)) o-is)))
 
   pub graded-none : indexOf s (shown st .accents) n ≡ found.Nothing → gradedOf none ≡ gradedOf (accentIn (sourceOfSheet s (shown st) .accents) n)
   unfolding sourceOfSheet

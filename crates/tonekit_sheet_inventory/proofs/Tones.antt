@@ -6,6 +6,7 @@ use native.Mathlib.Omega.{arith}
 use lib.Ieee.{Float}
 use lib.ListN.{length, getD, replicate, length-map}
 use lib.Seq.{sets}
+use Rattle.tonekit_core.specs.Layout.{sheetToneAt}
 use Rattle.tonekit_bytes.specs.Fields.{byteAt, f32At}
 use Rattle.tonekit_expect.specs.declared.Context.{Context}
 use Rattle.tonekit_expect.specs.declared.Found.{Found}
@@ -74,12 +75,11 @@ module _ (s : List ℕ) (st : Sheet) (c : Context) where
     pub ends : st .tones ≤ t → st .tones ≤ 8 → Lists (sourceOfSheet s (shown st)) c i w ps
     ends = going-ends (sourceOfSheet s (shown st)) (st .tones) c w ps i t g
 
-    pub goes : (v qs : List Float) (j : Inventory) (name : Named) → t < st .tones → (f : Found) → Looks s (shown st) (inContext c (byteAt s (9 + 15 * t + 1))) f
+    pub goes : (v qs : List Float) (j : Inventory) (name : Named) → t < st .tones → (o : ℕ) → o ≡ sheetToneAt t → (f : Found) → Looks s (shown st) (inContext c (byteAt s (o + 1))) f
         → name ≡ namedOf (givenOf (told s f)) → name .count ≤ 4
-        → j ≡ withTone t (byteAt s (9 + 15 * t + 1)) (f32At s (9 + 15 * t + 2)) (regionAt s (9 + 15 * t + 6)) name i
+        → j ≡ withTone t (byteAt s (o + 1)) (f32At s (o + 2)) (regionAt s (o + 6)) name i
         → InSlots t (givenOf (told s f)) w ps v qs
         → Going s st c v qs j (t + 1)
-    goes v qs j name h f l n few ej put =
-        let at = 9 + 15 * t in
-        going-on (sourceOfSheet s (shown st)) (st .tones) c w ps i t g h (toneAt s at) (tone-is t h) (givenOf (told s f)) (ap givenOf (look-is _ ∙ l .is)) name n
-        (regionAt s (at + 6)) (region-is s at) v qs j ej put few
+    goes v qs j name h o o-is f l n few ej put =
+        going-on (sourceOfSheet s (shown st)) (st .tones) c w ps i t g h (toneAt s o) (tone-is t h ∙ ap (toneAt s) (sym o-is)) (givenOf (told s f)) (ap givenOf (look-is _ ∙ l .is)) name n
+        (regionAt s (o + 6)) (region-is s o) v qs j ej put few

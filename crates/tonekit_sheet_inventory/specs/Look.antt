@@ -4,6 +4,7 @@ use mathlib.Core.Path.{_≡_}
 use mathlib.Core.List.{List}
 use mathlib.Core.Option.{Option, none, some}
 use lib.ListN.{getD}
+use Rattle.tonekit_core.specs.Layout.{sheetListOwner, sheetListForm, sheetListLabel, sheetListCount}
 use Rattle.tonekit_bytes.specs.Fields.{byteAt, u16At}
 use Rattle.tonekit_expect.specs.Source.{Carried}
 use Rattle.tonekit_expect.specs.declared.Context.{Context}
@@ -24,13 +25,13 @@ pub record Placed (st : Sst) (n : ℕ) (f : Found) : Type 0 where
 
 -- what the list at an offset gives
 abbrev pub told : List ℕ → Found → Option (List Carried)
-told s (found.At o) = some (carriedFrom s o (byteAt s (o + 6)))
+told s (found.At o) = some (carriedFrom s o (byteAt s (o + sheetListCount)))
 told s found.Nothing = none
 
 -- a list of one to four components, at an offset that two bytes hold
 pub record ShortList (s : List ℕ) (o : ℕ) : Type 0 where
-  pub some : 1 ≤ byteAt s (o + 6)
-  pub few : byteAt s (o + 6) ≤ 4
+  pub some : 1 ≤ byteAt s (o + sheetListCount)
+  pub few : byteAt s (o + sheetListCount) ≤ 4
   pub near : o < 65536
 
 -- a lookup's list, where it found one
@@ -43,4 +44,4 @@ pub record Looks (s : List ℕ) (st : Sst) (c : Context) (f : Found) : Type 0 wh
 
 -- "21 list: number u8, owner u8, form u8, label u16, count u8": its name, and how many components it has
 unfoldable pub nameAt : List ℕ → ℕ → Named
-nameAt s o = record { owner = byteAt s (o + 2); form = byteAt s (o + 3); label = u16At s (o + 4); count = byteAt s (o + 6) }
+nameAt s o = record { owner = byteAt s (o + sheetListOwner); form = byteAt s (o + sheetListForm); label = u16At s (o + sheetListLabel); count = byteAt s (o + sheetListCount) }

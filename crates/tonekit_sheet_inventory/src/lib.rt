@@ -5,6 +5,7 @@ ghost use mathlib.Core.List.{map};
 ghost use mathlib.Core.Bool.{_||_};
 ghost use Prim.Native.Nat.{_+_, _*_, _≤_, _<_};
 ghost use lib.Dec.{eqb};
+ghost use Rattle.tonekit_core.specs.Layout.{ownNumber, sheetTonePrior, sheetToneRegion, sheetListCount};
 ghost use Rattle.tonekit_bytes.specs.Fields.{byteAt, f32At};
 ghost use Rattle.tonekit_expect.specs.Lookup.{indexOf};
 ghost use Rattle.tonekit_expect.specs.Source.{accentIn, toneIn};
@@ -18,6 +19,7 @@ ghost use Rattle.tonekit_sheet_inventory.specs.Look.{Placed, ShortList, 
 use tonekit_bytes::byte_at;
 use tonekit_bytes::f32_at;
 use tonekit_bytes::u16_at;
+use tonekit_core::layout;
 use tonekit_expect::Context;
 use tonekit_expect::Found;
 use tonekit_inventory::Gathered;
@@ -33,7 +35,7 @@ fn index_from(s: &[u8], o: usize, step: usize, count: usize, n: u8) -> Found
     ensures { λ r. ⌜ r ≡ indexOf (now (s .entry)) (stepped o step count) n ⌝ }
 {
     for i in 0..count {
-        if byte_at(s, o + step * i, 1) == n {
+        if byte_at(s, o + step * i, layout::OWN_NUMBER) == n {
             return Found::At(i);
         }
     }
@@ -46,14 +48,26 @@ pub fn accent_index(s: &[u8], st: Sheet, n: u8) -> Found
     requires { ⌜ Roomy st ⌝ }
     ensures { λ r. ⌜ r ≡ indexOf (now (s .entry)) (shown st .accents) n ⌝ }
 {
-    index_from(s, 9 + 15 * st.tones, 18, st.accents, n)
+    index_from(
+        s,
+        layout::sheet_tone_at(st.tones),
+        layout::SHEET_ACCENT_SIZE,
+        st.accents,
+        n,
+    )
 }
 
 pub fn tone_index(s: &[u8], st: Sheet, n: u8) -> Found
     requires { ⌜ Roomy st ⌝ }
     ensures { λ r. ⌜ r ≡ indexOf (now (s .entry)) (shown st .tones) n ⌝ }
 {
-    index_from(s, 9, 15, st.tones, n)
+    index_from(
+        s,
+        layout::SETTINGS_SIZE,
+        layout::SHEET_TONE_SIZE,
+        st.tones,
+        n,
+    )
 }
 
 // The place of what stood before among a row's: none first, then the tones.
@@ -84,11 +98,11 @@ fn list_number(s: &[u8], st: Sheet, a: usize, t: usize, p: usize, c: Context) ->
     ensures { λ r. ⌜ r ≡ byteAt (now (s .entry)) (rowAt (shown st) (rowPlace (shown st) a t p) + finalPlace c) ⌝ }
 {
     let row = row_place(st, a, t, p);
-    let o = 9 + 15 * st.tones + 18 * st.accents + 6 * row;
+    let o = layout::sheet_row_at(st.tones, st.accents, row);
     if c.last == 0 {
-        return byte_at(s, o, 4);
+        return byte_at(s, o, layout::SHEET_ROW_LIST);
     }
-    byte_at(s, o, 5)
+    byte_at(s, o, layout::SHEET_ROW_FINAL_LIST)
 }
 
 // The offset of the list with a number, of at most as many as there are.
@@ -146,14 +160,14 @@ fn ten_at(s: &[u8], o: usize) -> [f32; 10]
 // Puts the components of the list at o into tone t's slots.
 fn fill(s: &[u8], o: usize, t: usize, weights: &mut [f32], points: &mut [f32])
     requires { ⌜ (t < 8) × ShortList (now s) o × Slots (now weights) (now points) ⌝ }
-    ensures { λ _. ⌜ InSlots t (carriedFrom (now (s .entry)) o (byteAt (now (s .entry)) (o + 6)))
+    ensures { λ _. ⌜ InSlots t (carriedFrom (now (s .entry)) o (byteAt (now (s .entry)) (o + sheetListCount)))
         (now (weights .entry)) (now (points .entry)) (now (weights .exit)) (now (points .exit)) ⌝ }
 {
-    let count = byte_at(s, o, 6) as usize;
+    let count = byte_at(s, o, layout::SHEET_LIST_COUNT) as usize;
     for j in 0..count {
-        let at = o + 7 + 45 * j;
-        let ten = ten_at(s, at + 5);
-        weights[4 * t + j] = f32_at(s, at, 1);
+        let at = o + layout::SHEET_LIST_SIZE + layout::SHEET_COMPONENT_SIZE * j;
+        let ten = ten_at(s, at + layout::SHEET_COMPONENT_POINTS);
+        weights[4 * t + j] = f32_at(s, at, layout::SHEET_COMPONENT_WEIGHT);
         tonekit_inventory::put_points(points, 40 * t + 10 * j, ten);
     }
 }
@@ -163,10 +177,10 @@ fn name_at(s: &[u8], o: usize) -> Named
     ensures { λ r. ⌜ r ≡ nameAt (now (s .entry)) o ⌝ }
 {
     Named {
-        owner: byte_at(s, o, 2),
-        form: byte_at(s, o, 3),
-        label: u16_at(s, o, 4),
-        count: byte_at(s, o, 6),
+        owner: byte_at(s, o, layout::SHEET_LIST_OWNER),
+        form: byte_at(s, o, layout::SHEET_LIST_FORM),
+        label: u16_at(s, o, layout::SHEET_LIST_LABEL),
+        count: byte_at(s, o, layout::SHEET_LIST_COUNT),
     }
 }
 
@@ -190,15 +204,15 @@ fn put_list(s: &[u8], list: Found, t: usize, weights: &mut [f32], points: &mut [
 // The inventory with tone t of a sheet, whose record stands at o, and its list's name.
 fn with_sheet_tone(i: Inventory, t: usize, s: &[u8], o: usize, name: Named) -> Inventory
     requires { ⌜ (t < 8) × (o < 65536) ⌝ }
-    ensures { λ r. ⌜ r ≡ withTone t (byteAt (now (s .entry)) (o + 1)) (f32At (now (s .entry)) (o + 2))
-        (regionAt (now (s .entry)) (o + 6)) name i ⌝ }
+    ensures { λ r. ⌜ r ≡ withTone t (byteAt (now (s .entry)) (o + ownNumber)) (f32At (now (s .entry)) (o + sheetTonePrior))
+        (regionAt (now (s .entry)) (o + sheetToneRegion)) name i ⌝ }
 {
     tonekit_inventory::with_tone(
         i,
         t,
-        byte_at(s, o, 1),
-        f32_at(s, o, 2),
-        tonekit_inventory::region_at(s, o + 6),
+        byte_at(s, o, layout::OWN_NUMBER),
+        f32_at(s, o, layout::SHEET_TONE_PRIOR),
+        tonekit_inventory::region_at(s, o + layout::SHEET_TONE_REGION),
         name,
     )
 }
@@ -211,10 +225,10 @@ fn listings(s: &[u8], st: Sheet, c: Context, weights: &mut [f32], points: &mut [
 {
     let mut i = tonekit_inventory::no_inventory(st.tones);
     for t in 0..st.tones {
-        let o = 9 + 15 * t;
+        let o = layout::sheet_tone_at(t);
         let here = Context {
             accent: c.accent,
-            tone: byte_at(s, o, 1),
+            tone: byte_at(s, o, layout::OWN_NUMBER),
             prev: c.prev,
             last: c.last,
         };
@@ -231,10 +245,13 @@ fn accent_held(s: &[u8], st: Sheet, n: u8) -> Graded
     ensures { λ r. ⌜ r ≡ gradedOf (accentIn (sourceOfSheet (now (s .entry)) (shown st) .accents) n) ⌝ }
 {
     match accent_index(s, st, n) {
-        Found::At(a) => Graded {
-            held: true,
-            tolerance: tonekit_inventory::tolerance_at(s, 9 + 15 * st.tones + 18 * a + 2),
-        },
+        Found::At(a) => {
+            let o = layout::sheet_accent_at(st.tones, a);
+            Graded {
+                held: true,
+                tolerance: tonekit_inventory::tolerance_at(s, o + layout::SHEET_ACCENT_CONTOUR),
+            }
+        }
         Found::Nothing => tonekit_inventory::not_graded(),
     }
 }
@@ -265,8 +282,8 @@ pub fn gather(s: &[u8], st: Sheet, c: Context, weights: &mut [f32], points: &mut
     Gathered {
         accent: g.held,
         prev: prev_held(s, st, c.prev),
-        temperature: f32_at(s, 0, 1),
-        threshold: f32_at(s, 0, 5),
+        temperature: f32_at(s, 0, layout::SETTINGS_TEMPERATURE),
+        threshold: f32_at(s, 0, layout::SETTINGS_THRESHOLD),
         tolerance,
         inventory,
     }

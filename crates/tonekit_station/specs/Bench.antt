@@ -3,9 +3,12 @@ use Prim.Native.Nat.{ℕ}
 use mathlib.Core.Path.{_≡_, refl}
 use mathlib.Core.List.{List, [], _∷_, _++_}
 use lib.ListN.{replicate}
-use lib.Ieee.{add, sub, mul, div, lt, le, eq, neg, ofBits, toBits, ofInt, round, isNan}
+use mathlib.Core.Bool.{false}
+use lib.Ieee.{binary32, add, sub, mul, div, lt, le, eq, neg, ofBits, toBits, ofInt, round, isNan}
 use lib.Ieee.Scale.{finite}
-use Rattle.tonekit_core.specs.Calls.{written}
+use Rattle.tonekit_core.specs.Calls.{refused, written}
+use Rattle.tonekit_core.specs.declared.Refusal.the-variants.{CutShort, UnknownAccent}
+use Rattle.tonekit_core.specs.declared.Verdict.the-variants.{Refused}
 use Rattle.tonekit_core.specs.Loop.{turns, range, turnsTo, rangeTo, loopOn, loopTo, while, whileIf}
 use Rattle.tonekit_float.specs.Narrow.{narrowed}
 use Rattle.tonekit_float.specs.Whole.{wholePart, roundUp}
@@ -15,6 +18,8 @@ use Rattle.tonekit_log.specs.Log.{lnOf, log2Of}
 use Rattle.tonekit_bytes.specs.Fields.{f32sBytes}
 use Rattle.tonekit_contour.specs.Position.{position}
 use Rattle.tonekit_query.specs.Frames.{frameAt}
+use Rattle.tonekit_query.specs.declared.Query.{Query}
+use Rattle.tonekit_judge.specs.declared.Inventory.{Inventory}
 use Rattle.tonekit_query.specs.Query.{variantFine, variantsFine, recordVerdict, frameVerdict, fieldsOf, readQuery, loadQuery}
 use Rattle.tonekit_pack.specs.Ranges.{aboveZero, aShare, knotFine, weightFine, slotFine, knotsFine, regionFine, tolerancesFine}
 use Rattle.tonekit_pack.specs.Pack.{dueAfter, sizeOf, holds, zeroOrHeld, settingsVerdict, toneVerdict, accentVerdict, ruleVerdict, partVerdict, bodyVerdict, added, readPack, loadPack}
@@ -85,3 +90,19 @@ pub on-citation : judgeOutcome pack level
     ≡ written ((0x31 ∷ 0x01 ∷ 0x01 ∷ 0x92 ∷ 0x15 ∷ 0x05 ∷ 0x40 ∷ []) ++ (replicate 32 0 ++ ((1 ∷ 0 ∷ 0 ∷ 0 ∷ 0 ∷ 1 ∷ 1 ∷ 0 ∷ 0 ∷ 0 ∷ 1 ∷ []) ++ (replicate 11 0 ++ (0x01 ∷ 0x08 ∷ 0x00 ∷ [])))))
 unfolding judgeOutcome judgement judgeGathered queryVerdict tonesVerdict accentIn toneIn loadPack readPack loopTo loopOn reader.recordVerdict bodyVerdict settingsVerdict toneVerdict accentVerdict ruleVerdict partVerdict dueAfter sizeOf holds zeroOrHeld added aboveZero aShare knotFine weightFine slotFine knotsFine regionFine tolerancesFine range turns ofBits le lt loadQuery readQuery recordVerdict frameVerdict fieldsOf variantFine variantsFine rangeTo turnsTo frameAt extentOf gathered listings sourceOfPack lookUp findRule climbTurn bestRule indexOf components carried componentOf knotsAt firstPoints pointAt slotted withTone noInventory weightsOf pointsOf target.variantsFine weightsFine mainWeight targetsOf placeOf withTarget greater judgementBytes judgementOf usable shapeOf listOf drawn chaoCurve holesFilled semitones hzToSt widthOf stToChao log2Of halfWidth reach curveAt stepOf meanOver rounded position wholePart roundUp while whileIf narrowed finite scoreBytes oneBytes deltaBytes deltaCount kindOf f32sBytes round neg toBits add sub mul div eq isNan ofInt lesser united withIssue scoringOf widenFor clampLog addTo valueOf excused pointWeight squaresOf endTerm endsOf distanceOf logOf mixed mixTurn calibrate kept offer offerEnd offerTurn endDeltas deltasOf rootOf expOf lnOf toneMixing loglikAt logliks ranked rankingOf heardOf weighed partMixing targetMixing llrOf plainOf distanceFrom adviceOf partOf withBest judgedOf magnitude
 on-citation = refl
+
+-- "Pack or sheet comes before query": a pack that is cut short at 0, and a query whose first kind is misplaced there
+pub pack-first : judgeOutcome [] (1 ∷ []) ≡ refused CutShort 0
+unfolding judgeOutcome loadPack readPack loopTo loopOn reader.recordVerdict
+pack-first = refl
+
+-- "12" before "13 for prev", with three voiced frames
+abbrev nothing : Inventory
+nothing = record { tones = 0; numbers = []; priors = []; regions = []; counts = []; owners = []; forms = []; labels = [] }
+
+abbrev asked : Query
+asked = record { accent = 0; tone = 0; prev = 0; last = 0; start = 0; end = 0; floor = ofBits binary32 0; ceil = ofBits binary32 0; issues = 0; variants = 0; count = 3 }
+
+pub accent-first : queryVerdict 3 false false nothing [] asked ≡ Refused UnknownAccent
+unfolding queryVerdict
+accent-first = refl

@@ -14,24 +14,22 @@ few c =
     let x = c .before .before .before .before .args in
     accent-held (x .s .now) (x .st) (x .n) _ (sym (c .before .before .accent-index .ensures) ∙ c .a .given .1)
 
-mul-tolerance-at-2 : tie.Need-mul-tolerance-at-2
-mul-tolerance-at-2 c = record { fits = omega (arith, few (c .before .before), c .before .before .before .before .before .before .pre .few-accents) }
-
-add-tolerance-at-2 : tie.Need-add-tolerance-at-2
-add-tolerance-at-2 c =
+sheet-accent-at-requires : tie.Need-sheet-accent-at-requires
+sheet-accent-at-requires c κs =
     let x = c .before .before .before .before .before .before .pre in
-    record { fits = omega (arith, few (c .before .before), x .few-accents, x .few-tones) }
+    (x .few-tones, omega (arith, few (c .before .before), x .few-accents))
 
-add-tolerance-at-3 : tie.Need-add-tolerance-at-3
-add-tolerance-at-3 c =
-    let x = c .before .before .before .before .before .before .pre in
-    record { fits = omega (arith, few (c .before .before), x .few-accents, x .few-tones) }
+add-tolerance-at : tie.Need-add-tolerance-at
+add-tolerance-at c =
+    let x = c .before .before .before .before .before .before .before .pre in
+    record { fits = omega (arith, c .sheet-accent-at .ensures, few (c .before .before .before), x .few-accents, x .few-tones) }
 
 returns : tie.Need-returns
 returns c =
-    let a = c .before .before .before in
+    let o = c .before in
+    let a = o .before .before .before in
     let x = a .before .before .before .before .args in
-    graded-found (x .s .now) (x .st) (x .n) _ (few a) (sym (a .before .before .accent-index .ensures) ∙ a .a .given .1) _ (c .tolerance-at .ensures)
+    graded-found (x .s .now) (x .st) (x .n) _ (few a) (sym (a .before .before .accent-index .ensures) ∙ a .a .given .1) (o .sheet-accent-at .result) (o .sheet-accent-at .ensures) _ (c .tolerance-at .ensures)
 
 returns-2 : tie.Need-returns-2
 returns-2 c =
@@ -45,11 +43,8 @@ accent-held-spec =
     (tie.spec
     (λ c κs. search needs)
     (λ c. search needs)
-    (λ c. search needs)
-    (λ c. search needs)
-    mul-tolerance-at-2
-    add-tolerance-at-2
-    add-tolerance-at-3
+    sheet-accent-at-requires
+    add-tolerance-at
     (λ c κs. search needs)
     (λ c. search needs)
     (λ c κs. search needs)

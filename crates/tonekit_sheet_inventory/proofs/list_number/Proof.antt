@@ -7,22 +7,21 @@ use Rattle.tonekit_sheet_inventory.proofs.list_number.Statement.{statem
 use Rattle.tonekit_sheet_inventory.proofs.list_number.Tie as tie
 
 returns : tie.Need-returns
-returns c = c .byte-at .ensures ∙ simp (c .before .before .before .before .before .row-place .ensures .0, stepped-length, eq-eqb _ _ (c .before .if1 .taken))
+returns c =
+    let o = c .before .before in
+    c .byte-at .ensures ∙ simp (o .sheet-row-at .ensures, o .before .row-place .ensures .0, stepped-length, eq-eqb _ _ (c .before .if1 .taken))
 
 returns-2 : tie.Need-returns-2
-returns-2 c = c .byte-at2 .ensures ∙ simp (c .before .before .before .before .before .row-place .ensures .0, stepped-length, ne-eqb _ _ (c .before .if1 .left))
+returns-2 c =
+    let o = c .before .before in
+    c .byte-at2 .ensures ∙ simp (o .sheet-row-at .ensures, o .before .row-place .ensures .0, stepped-length, ne-eqb _ _ (c .before .if1 .left))
 
 pub list-number-spec : {M : Type 1} → statement M
 list-number-spec =
     tie.close
     (tie.spec
     (λ c κs. search needs)
-    (λ c. search needs)
-    (λ c. search needs)
-    (λ c. search needs)
-    (λ c. search needs)
-    (λ c. search needs)
-    (λ c. search needs)
+    (λ c κs. search needs)
     (λ c κs. search needs)
     returns
     (λ c κs. search needs)

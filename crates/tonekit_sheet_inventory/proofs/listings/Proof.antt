@@ -27,36 +27,35 @@ loop-holds c =
 below : (c : tie.In-loop Inv-loop μ-loop) → c .before .loop .t < 8
 below c = omega (arith, c .before .before .before .before .before .before .pre .0 .roomy .few-tones)
 
-mul-o : tie.Need-mul-o Inv-loop μ-loop
-mul-o c = record { fits = omega (arith, below c) }
-
-add-o : tie.Need-add-o Inv-loop μ-loop
-add-o c = record { fits = omega (arith, below c) }
+sheet-tone-at-requires : tie.Need-sheet-tone-at-requires Inv-loop μ-loop
+sheet-tone-at-requires c κs = omega (arith, below c)
 
 put-list-requires : tie.Need-put-list-requires Inv-loop μ-loop
 put-list-requires c κs =
     let k = c .before .before in
-    let g = k .before .before .before .loop .inv .1 in
-    (below (k .before .before), k .look-sheet .ensures .list, record { weighed = g .weighed; pointed = g .pointed })
+    let g = k .before .before .before .before .loop .inv .1 in
+    (below (k .before .before .before), k .look-sheet .ensures .list, record { weighed = g .weighed; pointed = g .pointed })
 
 with-sheet-tone-requires : tie.Need-with-sheet-tone-requires Inv-loop μ-loop
 with-sheet-tone-requires c κs =
-    let l = below (c .before .before .before .before .before .before .before .before .before) in
-    (l, omega (arith, l))
+    let t = c .before .before .before .before .before .before .before .before .before in
+    let l = below (t .before) in
+    (l, omega (arith, l, t .sheet-tone-at .ensures))
 
 add-t : tie.Need-add-t Inv-loop μ-loop
-add-t c = record { fits = omega (arith, below (c .before .before .before .before .before .before .before .before .before .before)) }
+add-t c = record { fits = omega (arith, below (c .before .before .before .before .before .before .before .before .before .before .before)) }
 
 loop-again : tie.Need-loop-again Inv-loop μ-loop
 loop-again c =
     let p = c .before .before .before .before .before in
     let k = p .before .before .before in
-    let l = k .before .before .before in
+    let o = k .before .before in
+    let l = o .before .before in
     let x = l .before .before .before .before .before in
     let n = p .put-list .ensures .0 in
-    let h : Looks (x .args .s .now) (shown (x .args .st)) (inContext (x .args .c) (byteAt (x .args .s .now) (9 + 15 * l .loop .t + 1))) (k .look-sheet .result) = rw (← (k .before .byte-at .ensures)) (k .look-sheet .ensures) in (
+    let h : Looks (x .args .s .now) (shown (x .args .st)) (inContext (x .args .c) (byteAt (x .args .s .now) (o .sheet-tone-at .result + 1))) (k .look-sheet .result) = rw (← (k .before .byte-at .ensures)) (k .look-sheet .ensures) in (
       refl,
-      goes (x .args .s .now) (x .args .st) (x .args .c) _ _ _ (l .loop .t) (l .loop .inv .1) _ _ _ _ (search needs) (k .look-sheet .result) h n (rw n (few-named (x .args .s .now) (k .look-sheet .result) (h .list))) (c .with-sheet-tone .ensures) (p .put-list .ensures .1),
+      goes (x .args .s .now) (x .args .st) (x .args .c) _ _ _ (l .loop .t) (l .loop .inv .1) _ _ _ _ (search needs) (o .sheet-tone-at .result) (o .sheet-tone-at .ensures) (k .look-sheet .result) h n (rw n (few-named (x .args .s .now) (k .look-sheet .result) (h .list))) (c .with-sheet-tone .ensures) (p .put-list .ensures .1),
     )
 
 same-length : tie.Need-same-length Inv-loop μ-loop
@@ -79,8 +78,7 @@ listings-spec =
     μ-loop
     (λ c κs. search needs)
     loop-holds
-    mul-o
-    add-o
+    sheet-tone-at-requires
     (λ c κs. search needs)
     (λ c κs. search needs)
     put-list-requires
