@@ -1,11 +1,13 @@
-# Sourced by run and figures: finds what is needed, gets the module of the proved library, retargets it, and builds images.
-# Everything goes to target/controller. The flags that make the module right on 32 bits are in `object`.
+# Sourced by run and figures: finds what is needed, has the library made by tools/controller, and builds images.
+# Everything goes to target/controller.
 here=$(cd "$(dirname "${BASH_SOURCE[0]}")" && pwd)
 root=$(cd "$here/../.." && pwd)
 out=$root/target/controller
 calls='tonekit_check_pack tonekit_check_query tonekit_check_sheet tonekit_write_shape tonekit_write_sheet tonekit_judge tonekit_judge_sheet'
+export PYTHONDONTWRITEBYTECODE=1
 ulimit -c 0
 mkdir -p "$out"
+touch "$out/began"
 
 # Stops unless these commands are there, and names the Debian package of each that is not.
 need() {
@@ -23,48 +25,17 @@ need() {
     fi
 }
 
-# Proves and builds libtonekit_c.a with a copy of the kit, all links but for clang: a script that keeps the module
-# which it is given, and runs the kit's clang. The module's text is then in module.ll.
-module() {
-    local real kit=$out/kit machine tools part
-    real=$(cd "$(dirname "$(rt doc)")/.." && pwd -P)
-    machine=$(uname -m)
-    tools=$real/on/$machine/toolchain
-    clang=$tools/bin/clang
-    rm -rf "$kit" "$out/module.bc"
-    mkdir -p "$kit/on/$machine/toolchain/bin"
-    for part in "$real"/* "$real/on/$machine"/* "$tools"/lib "$tools"/bin/*; do
-        [ -e "$kit${part#"$real"}" ] || ln -s "$part" "$kit${part#"$real"}"
-    done
-    rm "$kit/on/$machine/toolchain/bin/clang"
-    cat >"$kit/on/$machine/toolchain/bin/clang" <<END
-#!/bin/sh
-for word; do
-    case \$word in *module.bc) cp "\$word" '$out/module.bc' ;; esac
-done
-exec '$clang' "\$@"
-END
-    chmod +x "$kit/on/$machine/toolchain/bin/clang"
-    if ! (cd "$root" && RATTLE_HOME=$kit rt staticlib tonekit_c) >"$out/module.log" 2>&1; then
-        tail -n 20 "$out/module.log"
-        exit 1
+# library CORE LEVEL [WORDS..]: the archive as a firmware links it, with more words for clang; prints its name. tools/controller
+# makes it, once in a run; at -O3 with no more words it is the one in target/controller.
+library() {
+    local core=$1 level=$2 folder=$out
+    shift 2
+    [ "$level" = O3 ] || folder=$out/$level
+    [ $# -eq 0 ] || folder=$out/other
+    if [ ! "$folder/$core/libtonekit_c.a" -nt "$out/began" ]; then
+        "$root/tools/controller" -o "$folder" "-$level" "$core" -- "$@" >/dev/null || return 1
     fi
-    [ -f "$out/module.bc" ] || { echo "the build gave no module: $out/module.log" >&2; exit 1; }
-    "$clang" -x ir "$out/module.bc" -S -emit-llvm -O0 -Xclang -disable-llvm-passes -o "$out/module.ll"
-}
-
-# object ARCH CPU LEVEL [WORDS..]: the module for a 32-bit Arm, with more words for clang. Layouts in it are absolute, usize stays 64 bits and pointers stand in
-# slots of 8 bytes, so that another data layout, triple and processor are all it takes. Prints the object's name.
-object() {
-    local arch=$1 cpu=$2 level=$3 name=$out/tonekit-$1-$3
-    shift 3
-    [ $# -eq 0 ] || name+=-other
-    sed -e 's/^target datalayout = .*/target datalayout = "e-m:e-p:32:32-Fi8-i64:64-v128:64:128-a:0:32-n32-S64"/' \
-        -e "s/^target triple = .*/target triple = \"$arch-unknown-none-eabi\"/" \
-        -e '/^attributes #/ s/ "\(target-cpu\|target-features\|tune-cpu\)"="[^"]*"//g' "$out/module.ll" >"$name.ll"
-    "$clang" --target="$arch-none-eabi" -mcpu="$cpu" -mfloat-abi=soft -ffunction-sections -fdata-sections -fstack-size-section \
-        -mllvm -trap-unreachable -mllvm -no-trap-after-noreturn -Werror "$@" -c -x ir "$name.ll" "-$level" -o "$name.o"
-    echo "$name.o"
+    echo "$folder/$core/libtonekit_c.a"
 }
 
 # image NAME CPU RAM STACK SPARE ARENA LIBGCC FILES..: links files with the start-up; prints the image's name.
@@ -78,7 +49,8 @@ image() {
     echo "$name"
 }
 
-# The x86-64 program of a source, and of libraries.
+# The x86-64 program of a source, and of libraries; x86_64 is the library of the same module for it.
+x86_64=$out/x86-64/libtonekit_c.a
 host() {
     gcc -std=c99 -O2 -Wall -Wextra -DARENA=24576 -I"$root/include" -I"$here" "$here/host.c" "$@"
 }

@@ -1,6 +1,7 @@
 #!/usr/bin/env python3
-"""cases.py HOST FILE [ARENA]: writes the cases that harness.c makes, those that fit into an arena of so many bytes (24,576 if not
-said), and prints how many there are of each call. HOST is the x86-64 harness, which gives the sheets that cases begin from.
+"""cases.py HOST FILE [ARENA [STEP]]: writes the cases that harness.c makes, those that fit into an arena of so many bytes (24,576 if
+not said), or every STEPth of them, and prints how many there are of each call. HOST is the x86-64 harness, which gives the sheets
+that cases begin from.
 The recorded calls (crates/replay/data: refusals of every kind, damaged inputs, -0, NaN) come with rooms exact, short and long;
 then packs, sheets and queries made here, up to the largest that load, whole and damaged."""
 import os
@@ -184,6 +185,7 @@ def all_cases(host, arena):
 
 if __name__ == '__main__':
     cases, left = all_cases(sys.argv[1], int(sys.argv[3]) if len(sys.argv) > 3 else ARENA)
+    cases = cases[::int(sys.argv[4]) if len(sys.argv) > 4 else 1]
     with open(sys.argv[2], 'wb') as out:
         out.write(b''.join(cases))
     counts = {}

@@ -40,22 +40,24 @@ def instruction(f, name, words):
     elif name == 'blx' and re.match(r'r\d|ip', words):
         sys.exit(f'{f.name} calls through a register: {words}')
     if name[0] == 'b' or name in ('cbz', 'cbnz'):
-        for target in re.findall(r'<([^>+]+)(?:\+0x[0-9a-f]+)?>', words):
-            if target != f.name:
+        for address, within in re.findall(r'([0-9a-f]+) <[^>+]+(?:\+0x([0-9a-f]+))?>', words):
+            target = int(address, 16) - int(within or '0', 16)
+            if target != f.address:
                 f.calls.add((target, name in ('bl', 'blx')))
     if name != 'nop' and not (name == 'movs' and words.replace(' ', '') == 'r0,r0'):
         f.goes_on = not (name in ('b', 'bx', 'udf') or name in ('pop', 'ldmia', 'ldm') and 'pc' in words)
 
 
 def read_functions(image):
+    """The functions of an image by address: two may have one name, in the library and beside it."""
     text = subprocess.run(['arm-none-eabi-objdump', '-d', '--no-show-raw-insn', image], capture_output=True, text=True, check=True).stdout
     functions, f = {}, None
     for line in text.splitlines():
         if m := re.match(r'([0-9a-f]+) <(.+)>:$', line):
             after, f = f, Function(m[2], int(m[1], 16))
             if after:
-                after.falls = f.name
-            functions.setdefault(f.name, f)
+                after.falls = f.address
+            functions[f.address] = f
         elif f and (m := re.match(r'\s+[0-9a-f]+:\t([a-z]\S*)\t?([^@;]*)', line)):
             instruction(f, m[1], m[2].strip())
     return functions
@@ -91,30 +93,31 @@ def bounds(functions, sizes):
             sys.exit(f'{f.name} takes {f.frame} bytes by its code, {size} by .stack_sizes')
         return f.frame if size is None else size
 
-    def bound(name):
+    def bound(address):
         """The bound and the chain that reaches it."""
-        if name in known:
-            return known[name]
-        if name in open_:
-            sys.exit(f'{name} calls itself, by {" > ".join(open_[open_.index(name):])}')
-        f = functions[name]
-        open_.append(name)
+        if address in known:
+            return known[address]
+        f = functions[address]
+        if address in open_:
+            sys.exit(f'{f.name} calls itself, by {" > ".join(functions[a].name for a in open_[open_.index(address):])}')
+        open_.append(address)
         proved = f.address in sizes
         next_ = {c for c, called in f.calls if called or proved or c not in open_}
         if f.goes_on and f.falls and not proved:
             next_.add(f.falls)
         below = max((bound(c) for c in sorted(next_)), default=(0, []), key=lambda b: b[0])
         open_.pop()
-        total = (frame(f) + below[0], [(name, frame(f))] + below[1])
+        total = (frame(f) + below[0], [(f.name, frame(f))] + below[1])
         if proved:
-            known[name] = total
+            known[address] = total
         return total
 
     return bound
 
 
 if __name__ == '__main__':
-    bound = bounds(read_functions(sys.argv[1]), read_sizes(sys.argv[1]))
+    functions = read_functions(sys.argv[1])
+    bound = bounds(functions, read_sizes(sys.argv[1]))
     for root in sys.argv[2:]:
-        total, chain = bound(root)
+        total, chain = bound(next(f.address for f in functions.values() if f.name == root))
         print(f'{root}: at most {total} bytes: ' + ' > '.join(f'{name} {size}' for name, size in chain))

@@ -66,18 +66,21 @@ __attribute__((noinline)) void paint_stack(void)
         *p = PAINT;
 }
 
-__attribute__((noinline)) uint32_t stack_used(uint32_t from)
-{
-    const uint32_t *p = &_stack_bottom;
-    while (*p == PAINT)
-        p++;
-    return from - (uint32_t)p;
-}
-
 static void fault(void)
 {
     host(PRINT, "FAULT\n");
     leave(FAILED);
+}
+
+/* A stack that was written down to its bottom ends the run: it may have gone on below, which not every emulated board sees. */
+__attribute__((noinline)) uint32_t stack_used(uint32_t from)
+{
+    const uint32_t *p = &_stack_bottom;
+    if (*p != PAINT)
+        fault();
+    while (*p == PAINT)
+        p++;
+    return from - (uint32_t)p;
 }
 
 __attribute__((section(".vectors"), used)) static const void *const vectors[16] = {
