@@ -2,6 +2,7 @@
 use Prim.Native.Nat.{ℕ, _+_}
 use mathlib.Core.Bool.{Bool, cond}
 use mathlib.Core.List.{List, [], _∷_, _++_}
+use Rattle.tonekit_core.specs.Layout.{judgementKind}
 use Rattle.tonekit_core.specs.Words.{deltaNumber}
 use Rattle.tonekit_bytes.specs.Fields.{le16, f32Bytes, f32sBytes}
 use Rattle.tonekit_deltas.specs.declared.Delta.{Delta}
@@ -21,7 +22,7 @@ deltaCount ds = oneIf (ds .first .some) + oneIf (ds .second .some)
 
 -- kind, expected, tone count
 abbrev pub headBytes : ℕ → ℕ → List ℕ
-headBytes expected tones = 49 ∷ expected ∷ tones ∷ []
+headBytes expected tones = judgementKind ∷ expected ∷ tones ∷ []
 
 -- llr, distance flag and value, owner, form, label, part, heard
 unfoldable pub scoreBytes : ToneJudgement → List ℕ
