@@ -16,18 +16,18 @@ few c =
 
 sheet-accent-at-requires : tie.Need-sheet-accent-at-requires
 sheet-accent-at-requires c κs =
-    let x = c .before .before .before .before .before .before .pre in
-    (x .few-tones, omega (arith, few (c .before .before), x .few-accents))
+    let x = c .before .before .before .before .before .pre in
+    (x .few-tones, omega (arith, few (c .before), x .few-accents))
 
 add-tolerance-at : tie.Need-add-tolerance-at
 add-tolerance-at c =
-    let x = c .before .before .before .before .before .before .before .pre in
-    record { fits = omega (arith, c .sheet-accent-at .ensures, few (c .before .before .before), x .few-accents, x .few-tones) }
+    let x = c .before .before .before .before .before .before .pre in
+    record { fits = omega (arith, c .sheet-accent-at .ensures, few (c .before .before), x .few-accents, x .few-tones) }
 
 returns : tie.Need-returns
 returns c =
     let o = c .before in
-    let a = o .before .before .before in
+    let a = o .before .before in
     let x = a .before .before .before .before .args in
     graded-found (x .s .now) (x .st) (x .n) _ (few a) (sym (a .before .before .accent-index .ensures) ∙ a .a .given .1) (o .sheet-accent-at .result) (o .sheet-accent-at .ensures) _ (c .tolerance-at .ensures)
 

@@ -8,12 +8,12 @@ use Rattle.tonekit_sheet_inventory.proofs.list_number.Tie as tie
 
 returns : tie.Need-returns
 returns c =
-    let o = c .before .before in
+    let o = c .before .before .before in
     c .byte-at .ensures ∙ simp (o .sheet-row-at .ensures, o .before .row-place .ensures .0, stepped-length, eq-eqb _ _ (c .before .if1 .taken))
 
 returns-2 : tie.Need-returns-2
 returns-2 c =
-    let o = c .before .before in
+    let o = c .before .before .before in
     c .byte-at2 .ensures ∙ simp (o .sheet-row-at .ensures, o .before .row-place .ensures .0, stepped-length, ne-eqb _ _ (c .before .if1 .left))
 
 pub list-number-spec : {M : Type 1} → statement M
