@@ -2,12 +2,14 @@
 // standard input, and so is no FILE at all. No sheet has more bytes than are read. README.md
 // describes the text.
 ghost use Prim.Native.Nat.{_<_, _≤_};
+ghost use Rattle.tonekit_core.specs.Layout.{sheetToneAt, sheetAccentAt};
 ghost use Rattle.tonekit_sheet_read.specs.Held.{Roomy};
 use libc::STDIN_FILENO;
 use libc::STDOUT_FILENO;
 use tonekit_bytes::byte_at;
 use tonekit_bytes::u16_at;
 use tonekit_bytes::u32_at;
+use tonekit_core::layout;
 use tonekit_sheet_read::Sheet;
 use tonekit_sheet_read::SheetRead;
 
@@ -77,20 +79,34 @@ fn add_float(page: &mut [u8; 4096], n: usize, text: &[u8], s: &[u8], o: usize, k
 }
 
 fn add_settings(page: &mut [u8; 4096], n: usize, s: &[u8]) -> usize {
-    let n = add_float(page, n, b"tonekit sheet\n\nsettings: temperature ", s, 0, 1);
-    let n = add_float(page, n, b", heard threshold ", s, 0, 5);
+    let n = add_float(
+        page,
+        n,
+        b"tonekit sheet\n\nsettings: temperature ",
+        s,
+        0,
+        layout::SETTINGS_TEMPERATURE,
+    );
+    let n = add_float(
+        page,
+        n,
+        b", heard threshold ",
+        s,
+        0,
+        layout::SETTINGS_THRESHOLD,
+    );
     add(page, n, b"\n\n")
 }
 
 // The tone at o.
 fn add_tone(page: &mut [u8; 4096], n: usize, s: &[u8], o: usize) -> usize {
-    let n = add_whole(page, n, b"tone ", byte_at(s, o, 1) as u16);
-    let n = add_float(page, n, b": prior ", s, o, 2);
-    if byte_at(s, o, 6) == 0 {
+    let n = add_whole(page, n, b"tone ", byte_at(s, o, layout::OWN_NUMBER) as u16);
+    let n = add_float(page, n, b": prior ", s, o, layout::SHEET_TONE_PRIOR);
+    if byte_at(s, o, layout::SHEET_TONE_REGION) == 0 {
         return add(page, n, b", no region\n");
     }
-    let n = add_float(page, n, b", region ", s, o, 7);
-    let n = add_float(page, n, b" to ", s, o, 11);
+    let n = add_float(page, n, b", region ", s, o, layout::SHEET_TONE_FROM);
+    let n = add_float(page, n, b" to ", s, o, layout::SHEET_TONE_TO);
     add(page, n, b"\n")
 }
 
@@ -99,28 +115,40 @@ fn add_tones(page: &mut [u8; 4096], n: usize, s: &[u8], tones: usize) -> usize
 {
     let mut at = n;
     for t in 0..tones {
-        at = add_tone(page, at, s, 9 + 15 * t);
+        at = add_tone(page, at, s, layout::sheet_tone_at(t));
     }
     at
 }
 
 // The accent at o.
 fn add_accent(page: &mut [u8; 4096], n: usize, s: &[u8], o: usize) -> usize {
-    let n = add_whole(page, n, b"accent ", byte_at(s, o, 1) as u16);
-    let n = add_float(page, n, b": tolerances contour ", s, o, 2);
-    let n = add_float(page, n, b", onset ", s, o, 6);
-    let n = add_float(page, n, b", offset ", s, o, 10);
-    let n = add_float(page, n, b", turning ", s, o, 14);
+    let n = add_whole(
+        page,
+        n,
+        b"accent ",
+        byte_at(s, o, layout::OWN_NUMBER) as u16,
+    );
+    let n = add_float(
+        page,
+        n,
+        b": tolerances contour ",
+        s,
+        o,
+        layout::SHEET_ACCENT_CONTOUR,
+    );
+    let n = add_float(page, n, b", onset ", s, o, layout::SHEET_ACCENT_ONSET);
+    let n = add_float(page, n, b", offset ", s, o, layout::SHEET_ACCENT_OFFSET);
+    let n = add_float(page, n, b", turning ", s, o, layout::SHEET_ACCENT_TURNING);
     add(page, n, b"\n")
 }
 
 // The accents from o on.
 fn add_accents(page: &mut [u8; 4096], n: usize, s: &[u8], o: usize, accents: usize) -> usize
-    requires { ⌜ (o ≤ 129) × (accents ≤ 8) ⌝ }
+    requires { ⌜ (o ≤ sheetToneAt 8) × (accents ≤ 8) ⌝ }
 {
     let mut at = add(page, n, b"\n");
     for a in 0..accents {
-        at = add_accent(page, at, s, o + 18 * a);
+        at = add_accent(page, at, s, o + layout::SHEET_ACCENT_SIZE * a);
     }
     at
 }
@@ -131,8 +159,9 @@ fn add_accents(page: &mut [u8; 4096], n: usize, s: &[u8], o: usize, accents: usi
 fn taken(s: &[u8], o: usize, p: usize, x: u8) -> u8
     requires { ⌜ p < 9 ⌝ }
 {
-    let inside = byte_at(s, o, 6 * p + 4) == x;
-    let last = byte_at(s, o, 6 * p + 5) == x;
+    let row = layout::SHEET_ROW_SIZE * p;
+    let inside = byte_at(s, o, row + layout::SHEET_ROW_LIST) == x;
+    let last = byte_at(s, o, row + layout::SHEET_ROW_FINAL_LIST) == x;
     if inside & last {
         return 3;
     }
@@ -170,7 +199,7 @@ fn add_preceding(
         return n;
     }
     let n = add_either(page, n, some_taken(s, o, p, x, so), b", ", words);
-    let preceding = byte_at(s, o, 6 * p + 3);
+    let preceding = byte_at(s, o, layout::SHEET_ROW_SIZE * p + layout::SHEET_ROW_PREV);
     if preceding == 0 {
         return add(page, n, b"none");
     }
@@ -236,10 +265,11 @@ fn add_contexts(page: &mut [u8; 4096], n: usize, s: &[u8], o: usize, rows: usize
 fn taken_by(s: &[u8], o: usize, p: usize, last: bool) -> u8
     requires { ⌜ p < 9 ⌝ }
 {
+    let row = layout::SHEET_ROW_SIZE * p;
     if last {
-        return byte_at(s, o, 6 * p + 5);
+        return byte_at(s, o, row + layout::SHEET_ROW_FINAL_LIST);
     }
-    byte_at(s, o, 6 * p + 4)
+    byte_at(s, o, row + layout::SHEET_ROW_LIST)
 }
 
 // Whether a context before names list x: an earlier row, or row p not at the end of a phrase where
@@ -281,11 +311,21 @@ fn add_entry(
 fn add_table(page: &mut [u8; 4096], n: usize, s: &[u8], o: usize, rows: usize) -> usize
     requires { ⌜ rows ≤ 9 ⌝ }
 {
-    if byte_at(s, o, 3) != 0 {
+    if byte_at(s, o, layout::SHEET_ROW_PREV) != 0 {
         return n;
     }
-    let n = add_whole(page, n, b"\naccent ", byte_at(s, o, 1) as u16);
-    let n = add_whole(page, n, b", tone ", byte_at(s, o, 2) as u16);
+    let n = add_whole(
+        page,
+        n,
+        b"\naccent ",
+        byte_at(s, o, layout::SHEET_ROW_ACCENT) as u16,
+    );
+    let n = add_whole(
+        page,
+        n,
+        b", tone ",
+        byte_at(s, o, layout::SHEET_ROW_TONE) as u16,
+    );
     let mut at = add(page, n, b"\n");
     for p in 0..rows {
         at = add_entry(page, at, s, o, rows, p, false);
@@ -303,7 +343,7 @@ fn add_tables(
     rows: usize,
     each: usize,
 ) -> usize
-    requires { ⌜ (o ≤ 273) × (rows ≤ 576) × (each ≤ 9) ⌝ }
+    requires { ⌜ (o ≤ sheetAccentAt 8 8) × (rows ≤ 576) × (each ≤ 9) ⌝ }
 {
     let mut at = add(
         page,
@@ -311,7 +351,7 @@ fn add_tables(
         b"\ncontexts, by preceding tone (none: no tone precedes), at the end of a phrase or not:\n",
     );
     for r in 0..rows {
-        at = add_table(page, at, s, o + 6 * r, each);
+        at = add_table(page, at, s, o + layout::SHEET_ROW_SIZE * r, each);
     }
     at
 }
@@ -322,7 +362,7 @@ fn add_points(page: &mut [u8; 4096], n: usize, s: &[u8], o: usize, k: usize) -> 
 {
     let mut at = add_float(page, n, b"    points ", s, o, k);
     for i in 1..10 {
-        at = add_float(page, at, b", ", s, o, k + 4 * i);
+        at = add_float(page, at, b", ", s, o, k + layout::F32_SIZE * i);
     }
     add(page, at, b"\n")
 }
@@ -331,11 +371,18 @@ fn add_points(page: &mut [u8; 4096], n: usize, s: &[u8], o: usize, k: usize) -> 
 fn add_components(page: &mut [u8; 4096], n: usize, s: &[u8], o: usize, count: u8) -> usize {
     let mut at = n;
     for j in 0..count {
-        let k = 7 + 45 * (j as usize);
+        let k = layout::SHEET_LIST_SIZE + layout::SHEET_COMPONENT_SIZE * (j as usize);
         at = add_whole(page, at, b"  component ", j as u16);
-        at = add_float(page, at, b": weight ", s, o, k + 1);
+        at = add_float(
+            page,
+            at,
+            b": weight ",
+            s,
+            o,
+            k + layout::SHEET_COMPONENT_WEIGHT,
+        );
         at = add(page, at, b"\n");
-        at = add_points(page, at, s, o, k + 5);
+        at = add_points(page, at, s, o, k + layout::SHEET_COMPONENT_POINTS);
     }
     at
 }
@@ -351,12 +398,22 @@ fn add_form(page: &mut [u8; 4096], n: usize, form: u8) -> usize {
 // The list at an offset.
 fn add_list(page: &mut [u8; 4096], n: usize, s: &[u8], offset: u16) -> usize {
     let o = offset as usize;
-    let n = add_whole(page, n, b"\nlist ", byte_at(s, o, 1) as u16);
-    let n = add_whole(page, n, b": owner accent ", byte_at(s, o, 2) as u16);
-    let n = add_form(page, n, byte_at(s, o, 3));
-    let n = add_whole(page, n, b"", u16_at(s, o, 4));
+    let n = add_whole(
+        page,
+        n,
+        b"\nlist ",
+        byte_at(s, o, layout::OWN_NUMBER) as u16,
+    );
+    let n = add_whole(
+        page,
+        n,
+        b": owner accent ",
+        byte_at(s, o, layout::SHEET_LIST_OWNER) as u16,
+    );
+    let n = add_form(page, n, byte_at(s, o, layout::SHEET_LIST_FORM));
+    let n = add_whole(page, n, b"", u16_at(s, o, layout::SHEET_LIST_LABEL));
     let n = add(page, n, b"\n");
-    add_components(page, n, s, o, byte_at(s, o, 6))
+    add_components(page, n, s, o, byte_at(s, o, layout::SHEET_LIST_COUNT))
 }
 
 // The lists at these offsets.
@@ -379,8 +436,8 @@ fn write_text(s: &[u8], st: Sheet)
     requires { ⌜ Roomy st ⌝ }
 {
     let mut page = [0u8; 4096];
-    let accents = 9 + 15 * st.tones;
-    let rows = accents + 18 * st.accents;
+    let accents = layout::sheet_tone_at(st.tones);
+    let rows = layout::sheet_accent_at(st.tones, st.accents);
     let offsets = st.listat;
     let n = add_settings(&mut page, 0, s);
     let n = add_tones(&mut page, n, s, st.tones);

@@ -17,8 +17,7 @@ add-tones-spec =
     Inv-loop
     μ-loop
     (λ c. search needs)
-    (λ c. search needs)
-    (λ c. search needs)
+    (λ c κs. search needs)
     (λ c κs. search needs)
     (λ c. search needs)
     (λ c. search needs)
