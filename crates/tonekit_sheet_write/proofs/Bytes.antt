@@ -21,16 +21,16 @@ use Rattle.tonekit_expect.specs.declared.Look.{Look}
 use Rattle.tonekit_expect.proofs.Carried.{named, components-length, components-at}
 use Rattle.tonekit_sheet.specs.Gather.{pieces, gather, gather-length, Wrote}
 use Rattle.tonekit_sheet.specs.Number.{numberIn}
-use Rattle.tonekit_sheet.specs.Sheet.{noTone, noAccent, noCarried, toneBytes, accentBytes, rowBytes, rowContext, bitsBytes, componentBytes, componentsBytes, listBytes, tonePiece, rowPiece, listPiece}
+use Rattle.tonekit_sheet.specs.Sheet.{noTone, noAccent, noCarried, toneBytes, accentBytes, rowBytes, rowContext, bitsBytes, componentBytes, componentsBytes, listBytes, tonePiece, rowPiece}
 use Rattle.tonekit_sheet_plan.specs.declared.Sorted.{Sorted}
 use Rattle.tonekit_sheet_plan.specs.Rows.{packView, tonesOf, accentsOf, Ordered}
 use Rattle.tonekit_sheet_plan.specs.Listings.{carriedBy, Kept}
-use Rattle.tonekit_sheet_plan.specs.Plans.{planned, listAt, ListsFine}
+use Rattle.tonekit_sheet_plan.specs.Plans.{listAt, ListsFine}
 use Rattle.tonekit_sheet_plan.proofs.Ascend.{map-get}
 use Rattle.tonekit_sheet_plan.proofs.Alike.{points-ten}
 use Rattle.tonekit_sheet_plan.proofs.Memo.{planned-get}
 use Rattle.tonekit_sheet_plan.proofs.Views.{view-tones, view-sorted}
-use Rattle.tonekit_sheet_write.specs.Pieces.{headOf, componentPiece, sortedPiece, componentsPart}
+use Rattle.tonekit_sheet_write.specs.Pieces.{headOf, componentPiece, sortedPiece, plannedList, componentsPart}
 
 -- bytes written to the start of a part are written at its place
 pub wrote-part : (bs l ys : List ℕ) (at r : ℕ) → at + length bs ≤ length l → r ≡ at + length bs → ys ≡ sets (take (length l - at) (drop at l)) 0 bs
@@ -109,12 +109,12 @@ head-is s l n k =
     rw (components-at s l noCarried (l .count) 0 (k .some), named s l 0 .owner, named s l 0 .form, named s l 0 .label, components-length s l (l .count))
 
 module _ (s lists : List ℕ) (n i : ℕ) (h : i < n) (k : Kept s (listAt s lists i)) where
-  list-piece : listPiece (planned s lists n) i ≡ headOf (i + 1) (listAt s lists i) ++ componentsPart s (listAt s lists i)
+  list-piece : plannedList s lists n i ≡ headOf (i + 1) (listAt s lists i) ++ componentsPart s (listAt s lists i)
   list-piece =
       ap (listBytes (i + 1)) (planned-get s lists n i h)
       ∙ ap₂ (λ (a b : List ℕ). a ++ b) (head-is s (listAt s lists i) (i + 1) k) (components-gather s (listAt s lists i))
 
-  list-length : 7 + 45 * listAt s lists i .count ≡ length (listPiece (planned s lists n) i)
+  list-length : 7 + 45 * listAt s lists i .count ≡ length (plannedList s lists n i)
   list-length =
       let l = listAt s lists i in
       omega (arith, ap length list-piece, length-append (headOf (i + 1) l) (componentsPart s l), components-size s l)
@@ -131,13 +131,13 @@ module _ (s lists : List ℕ) (n : ℕ) (g : ListsFine s lists n) (i : ℕ) (h :
   pub list-kept : Kept s l
   list-kept = rw e (g .each i h)
 
-  pub list-is : headOf (i + 1) l ++ componentsPart s l ≡ listPiece (planned s lists n) i
+  pub list-is : headOf (i + 1) l ++ componentsPart s l ≡ plannedList s lists n i
   list-is = rw e (sym (list-piece s lists n i h (g .each i h)))
 
-  pub list-size : 7 + 45 * l .count ≡ length (listPiece (planned s lists n) i)
+  pub list-size : 7 + 45 * l .count ≡ length (plannedList s lists n i)
   list-size = rw e (list-length s lists n i h (g .each i h))
 
-  pub list-room : (at m : ℕ) → at + length (listPiece (planned s lists n) i) ≤ m → at + length (headOf (i + 1) l ++ componentsPart s l) ≤ m
+  pub list-room : (at m : ℕ) → at + length (plannedList s lists n i) ≤ m → at + length (headOf (i + 1) l ++ componentsPart s l) ≤ m
   list-room at m r = omega (arith, r, ap length list-is)
 
 -- ---- a row

@@ -2,14 +2,16 @@
 ghost use mathlib.Core.List.{[], _∷_};
 ghost use Prim.Native.Nat.{_+_, _≤_, _<_};
 ghost use lib.ListN.{length};
-ghost use Rattle.tonekit_pack.specs.Held.{shown, Roomy};
+ghost use Rattle.tonekit_pack.specs.Held.{Roomy};
 ghost use Rattle.tonekit_expect.specs.Source.{settingsAt, toneAt, accentAt};
 ghost use Rattle.tonekit_sheet.specs.Gather.{Wrote};
-ghost use Rattle.tonekit_sheet.specs.Sheet.{settingsBytes, toneBytes, accentBytes, rowPiece, listPiece};
-ghost use Rattle.tonekit_sheet_plan.specs.Rows.{packView, Slots};
+ghost use Rattle.tonekit_sheet.specs.Sheet.{settingsBytes, toneBytes, accentBytes};
+ghost use Rattle.tonekit_sheet_plan.specs.Rows.{Slots};
 ghost use Rattle.tonekit_sheet_plan.specs.Listings.{Kept};
-ghost use Rattle.tonekit_sheet_plan.specs.Plans.{planned, ListsFine};
-ghost use Rattle.tonekit_sheet_write.specs.Pieces.{Planned, headOf, componentPiece, tonesPart, accentsPart, rowsPart, listsPart, componentsPart};
+ghost use Rattle.tonekit_sheet_plan.specs.Plans.{ListsFine};
+ghost use Rattle.tonekit_sheet_write.specs.Pieces.{Planned, Lent, headOf, componentPiece, plannedRow};
+ghost use Rattle.tonekit_sheet_write.specs.Pieces.{plannedList, tonesPart, accentsPart, rowsPart};
+ghost use Rattle.tonekit_sheet_write.specs.Pieces.{listsPart, componentsPart};
 use crate::records::put_accent;
 use crate::records::put_component;
 use crate::records::put_head;
@@ -56,7 +58,7 @@ fn write_tone(s: &[u8], o: usize, out: &mut [u8], at: usize) -> usize
 
 // All tones, in pack order.
 pub fn write_tones(s: &[u8], p: Pack, out: &mut [u8], at: usize) -> usize
-    requires { ⌜ Roomy p × (at + length (tonesPart (now s) p) ≤ length (now out)) ⌝ }
+    requires { ⌜ Roomy p × Lent (tonesPart (now s) p) at (now out) ⌝ }
     ensures { λ r. ⌜ Wrote (tonesPart (now (s .entry)) p) at (now (out .entry)) (now (out .exit)) r ⌝ }
 {
     let mut o = at;
@@ -82,7 +84,7 @@ fn write_accent(s: &[u8], o: usize, out: &mut [u8], at: usize) -> usize
 
 // All accents, ascending.
 pub fn write_accents(s: &[u8], a: Sorted, out: &mut [u8], at: usize) -> usize
-    requires { ⌜ Slots a × (at + length (accentsPart (now s) a) ≤ length (now out)) ⌝ }
+    requires { ⌜ Slots a × Lent (accentsPart (now s) a) at (now out) ⌝ }
     ensures { λ r. ⌜ Wrote (accentsPart (now (s .entry)) a) at (now (out .entry)) (now (out .exit)) r ⌝ }
 {
     let mut o = at;
@@ -105,7 +107,8 @@ fn write_row(
     at: usize,
 ) -> usize
     requires { ⌜ Planned (now s) p a (now lists) (now memo) n × (at + 6 ≤ length (now out)) ⌝ }
-    ensures { λ e. ⌜ Wrote (rowPiece (packView (now (s .entry)) (shown p)) (planned (now (s .entry)) (now (lists .entry)) (n .lists)) r) at (now (out .entry)) (now (out .exit)) e ⌝ }
+    ensures { λ e. ⌜ Wrote (plannedRow (now (s .entry)) p (now (lists .entry)) (n .lists) r) at
+        (now (out .entry)) (now (out .exit)) e ⌝ }
 {
     let c = row_context(s, p, a, r, 0);
     let first = number_of(s, lists, memo, n, look_row(s, p, a, r, 0));
@@ -125,8 +128,10 @@ pub fn write_rows(
     out: &mut [u8],
     at: usize,
 ) -> usize
-    requires { ⌜ Planned (now s) p a (now lists) (now memo) n × (at + length (rowsPart (now s) p a (now lists) (n .lists)) ≤ length (now out)) ⌝ }
-    ensures { λ r. ⌜ Wrote (rowsPart (now (s .entry)) p a (now (lists .entry)) (n .lists)) at (now (out .entry)) (now (out .exit)) r ⌝ }
+    requires { ⌜ Planned (now s) p a (now lists) (now memo) n
+        × Lent (rowsPart (now s) p a (now lists) (n .lists)) at (now out) ⌝ }
+    ensures { λ r. ⌜ Wrote (rowsPart (now (s .entry)) p a (now (lists .entry)) (n .lists)) at
+        (now (out .entry)) (now (out .exit)) r ⌝ }
 {
     let mut o = at;
     for i in 0..row_count(a.count, p.tones) {
@@ -147,7 +152,7 @@ fn write_component(s: &[u8], l: Listing, j: usize, out: &mut [u8], at: usize) ->
 
 // All components of a listing.
 fn write_components(s: &[u8], l: Listing, out: &mut [u8], at: usize) -> usize
-    requires { ⌜ Kept (now s) l × (at + length (componentsPart (now s) l) ≤ length (now out)) ⌝ }
+    requires { ⌜ Kept (now s) l × Lent (componentsPart (now s) l) at (now out) ⌝ }
     ensures { λ r. ⌜ Wrote (componentsPart (now (s .entry)) l) at (now (out .entry)) (now (out .exit)) r ⌝ }
 {
     let mut o = at;
@@ -168,8 +173,9 @@ fn write_head(l: Listing, i: usize, out: &mut [u8], at: usize) -> usize
 
 // List i with its components.
 fn write_list(s: &[u8], lists: &[u32; 128], n: usize, i: usize, out: &mut [u8], at: usize) -> usize
-    requires { ⌜ ListsFine (now s) (now lists) n × (i < n) × (at + length (listPiece (planned (now s) (now lists) n) i) ≤ length (now out)) ⌝ }
-    ensures { λ r. ⌜ Wrote (listPiece (planned (now (s .entry)) (now (lists .entry)) n) i) at (now (out .entry)) (now (out .exit)) r ⌝ }
+    requires { ⌜ ListsFine (now s) (now lists) n × (i < n) × Lent (plannedList (now s) (now lists) n i) at (now out) ⌝ }
+    ensures { λ r. ⌜ Wrote (plannedList (now (s .entry)) (now (lists .entry)) n i) at
+        (now (out .entry)) (now (out .exit)) r ⌝ }
 {
     let l = list_at(s, lists, i);
     let o = write_head(l, i, out, at);
@@ -178,8 +184,9 @@ fn write_list(s: &[u8], lists: &[u32; 128], n: usize, i: usize, out: &mut [u8], 
 
 // All lists, by number.
 pub fn write_lists(s: &[u8], lists: &[u32; 128], n: usize, out: &mut [u8], at: usize) -> usize
-    requires { ⌜ ListsFine (now s) (now lists) n × (at + length (listsPart (now s) (now lists) n) ≤ length (now out)) ⌝ }
-    ensures { λ r. ⌜ Wrote (listsPart (now (s .entry)) (now (lists .entry)) n) at (now (out .entry)) (now (out .exit)) r ⌝ }
+    requires { ⌜ ListsFine (now s) (now lists) n × Lent (listsPart (now s) (now lists) n) at (now out) ⌝ }
+    ensures { λ r. ⌜ Wrote (listsPart (now (s .entry)) (now (lists .entry)) n) at
+        (now (out .entry)) (now (out .exit)) r ⌝ }
 {
     let mut o = at;
     for i in 0..n {
