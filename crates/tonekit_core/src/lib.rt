@@ -3,6 +3,7 @@ ghost use mathlib.Core.Path.{_≡_};
 ghost use Rattle.tonekit_core.specs.Words.{refusalNumber, issueBit, hasIssue, withIssue, deltaNumber, measuredNumber};
 
 pub mod kinds;
+pub mod layout;
 pub mod limits;
 
 // Why an input or a query is turned back: the words of document 01's table, in its order.

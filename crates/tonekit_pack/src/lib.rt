@@ -9,7 +9,7 @@ pub mod read;
 use tonekit_core::Checked;
 use tonekit_core::Refusal;
 use tonekit_core::Verdict;
-use tonekit_core::kinds;
+use tonekit_core::layout;
 
 // What was read of a pack: how many of each, and the offsets of the records.
 pub struct Pack {
@@ -51,7 +51,7 @@ pub fn read_pack(pack: &[u8]) -> Loaded
             };
         }
         let k = pack[at];
-        if k == kinds::END {
+        if k == layout::END_KIND {
             return Loaded {
                 read: PackRead::Good(at + 1),
                 pack: st,

@@ -13,7 +13,7 @@ use tonekit_bytes::u32_at;
 use tonekit_core::Checked;
 use tonekit_core::Refusal;
 use tonekit_core::Verdict;
-use tonekit_core::kinds;
+use tonekit_core::layout;
 use tonekit_core::limits;
 
 // How many bytes the fixed record takes, and a frame.
@@ -90,7 +90,7 @@ fn record_verdict(query: &[u8]) -> Verdict
     if query.len() == 0 {
         return Verdict::Refused(Refusal::CutShort);
     }
-    if byte_at(query, 0, 0) != kinds::QUERY {
+    if byte_at(query, 0, 0) != layout::QUERY_KIND {
         return Verdict::Refused(Refusal::Misplaced);
     }
     if query.len() < RECORD_SIZE {
@@ -122,7 +122,7 @@ fn frame_verdict(query: &[u8], at: usize) -> Verdict
     if query.len() <= at {
         return Verdict::Refused(Refusal::CutShort);
     }
-    if query[at] != kinds::FRAME {
+    if query[at] != layout::FRAME_KIND {
         return Verdict::Refused(Refusal::Misplaced);
     }
     if query.len() - at < FRAME_SIZE {
