@@ -7,6 +7,7 @@ use native.Mathlib.Nat.{add-zero, zero-add}
 use lib.Ieee.{Float, binary32, toBits}
 use lib.ListN.{length, getD, take, drop, length-append, length-map}
 use lib.Seq.{sets, length-sets}
+use Rattle.tonekit_core.specs.Layout.{sheetListKind, sheetListSize, sheetComponentSize}
 use Rattle.tonekit_bytes.specs.Fields.{le16, f32Bytes, f32sBytes}
 use Rattle.tonekit_bytes.proofs.Write.{part-put}
 use Rattle.tonekit_pack.specs.Held.{inOrder, shown}
@@ -62,18 +63,18 @@ module _ (s : List ℕ) (l : Listing) where
   unfolding carried
   ten j = length-map (componentOf s l j .points) (toBits binary32) ∙ points-ten s l j refl
 
-  pub component-length : (j : ℕ) → length (componentPiece s l j) ≡ 45
+  pub component-length : (j : ℕ) → length (componentPiece s l j) ≡ sheetComponentSize
   component-length j = omega (arith, bits-length (carried (componentOf s l j) .points), ten j)
 
   -- of a component that was read
   pub component-is : {c : Component} (j : ℕ) → c ≡ componentOf s l j → componentBytes (carried c) ≡ componentPiece s l j
   component-is j e = ap (λ (c : Component). componentBytes (carried c)) e
 
-  pub component-size : {c : Component} (j : ℕ) → c ≡ componentOf s l j → length (componentBytes (carried c)) ≡ 45
+  pub component-size : {c : Component} (j : ℕ) → c ≡ componentOf s l j → length (componentBytes (carried c)) ≡ sheetComponentSize
   component-size j e = ap length (component-is j e) ∙ component-length j
 
-  pub components-size : length (componentsPart s l) ≡ 45 * l .count
-  components-size = let q : l .count - 0 ≡ l .count = omega arith in rw q at (gather-length (componentPiece s l) 45 component-length 0 (l .count))
+  pub components-size : length (componentsPart s l) ≡ sheetComponentSize * l .count
+  components-size = let q : l .count - 0 ≡ l .count = omega arith in rw q at (gather-length (componentPiece s l) sheetComponentSize component-length 0 (l .count))
 
 -- pieces from the front, and one more behind them
 module _ (f : ℕ → List ℕ) where
@@ -104,7 +105,7 @@ unfolding gather
 components-gather s l = components-pieces s l (l .count) ∙ (let q : l .count - 0 ≡ l .count = omega arith in rw q)
 
 -- ---- lists
-head-is : (s : List ℕ) (l : Listing) (n : ℕ) → Kept s l → (21 ∷ n ∷ getD (carriedBy s l) 0 noCarried .owner ∷ getD (carriedBy s l) 0 noCarried .form ∷ []) ++ (le16 (getD (carriedBy s l) 0 noCarried .label) ++ (length (carriedBy s l) ∷ [])) ≡ headOf n l
+head-is : (s : List ℕ) (l : Listing) (n : ℕ) → Kept s l → (sheetListKind ∷ n ∷ getD (carriedBy s l) 0 noCarried .owner ∷ getD (carriedBy s l) 0 noCarried .form ∷ []) ++ (le16 (getD (carriedBy s l) 0 noCarried .label) ++ (length (carriedBy s l) ∷ [])) ≡ headOf n l
 head-is s l n k =
     rw (components-at s l noCarried (l .count) 0 (k .some), named s l 0 .owner, named s l 0 .form, named s l 0 .label, components-length s l (l .count))
 
@@ -114,7 +115,7 @@ module _ (s lists : List ℕ) (n i : ℕ) (h : i < n) (k : Kept s (listAt s list
       ap (listBytes (i + 1)) (planned-get s lists n i h)
       ∙ ap₂ (λ (a b : List ℕ). a ++ b) (head-is s (listAt s lists i) (i + 1) k) (components-gather s (listAt s lists i))
 
-  list-length : 7 + 45 * listAt s lists i .count ≡ length (plannedList s lists n i)
+  list-length : sheetListSize + sheetComponentSize * listAt s lists i .count ≡ length (plannedList s lists n i)
   list-length =
       let l = listAt s lists i in
       omega (arith, ap length list-piece, length-append (headOf (i + 1) l) (componentsPart s l), components-size s l)
@@ -134,7 +135,7 @@ module _ (s lists : List ℕ) (n : ℕ) (g : ListsFine s lists n) (i : ℕ) (h :
   pub list-is : headOf (i + 1) l ++ componentsPart s l ≡ plannedList s lists n i
   list-is = rw e (sym (list-piece s lists n i h (g .each i h)))
 
-  pub list-size : 7 + 45 * l .count ≡ length (plannedList s lists n i)
+  pub list-size : sheetListSize + sheetComponentSize * l .count ≡ length (plannedList s lists n i)
   list-size = rw e (list-length s lists n i h (g .each i h))
 
   pub list-room : (at m : ℕ) → at + length (plannedList s lists n i) ≤ m → at + length (headOf (i + 1) l ++ componentsPart s l) ≤ m

@@ -4,6 +4,7 @@ use mathlib.Core.Path.{_≡_, refl, _∙_, ap, ap₂}
 use mathlib.Core.List.{List, [], _∷_, _++_}
 use native.Mathlib.Omega.{arith}
 use lib.ListN.{length, getD, length-append, length-map}
+use Rattle.tonekit_core.specs.Layout.{sheetToneSize, sheetAccentSize, sheetRowSize, sheetEndKind, sheetEndSize, sheetRowAt}
 use Rattle.tonekit_pack.specs.Held.{inOrder, shown}
 use Rattle.tonekit_pack.specs.declared.Pack.{Pack}
 use Rattle.tonekit_pack.proofs.InOrder.{order-length}
@@ -35,7 +36,7 @@ module _ (s : List ℕ) (p : Pack) (a : Sorted) (lists : List ℕ) (n : ℕ) whe
   E = listsPart s lists n
 
   abbrev pub F : List ℕ
-  F = 23 ∷ []
+  F = sheetEndKind ∷ []
 
   abbrev pub Whole : List ℕ
   Whole = plannedSheet s p lists n
@@ -66,12 +67,12 @@ module _ (s : List ℕ) (p : Pack) (a : Sorted) (lists : List ℕ) (n : ℕ) whe
         ap₂ (λ (x y : List ℕ). x ++ y) (ap settingsBytes settings-are)
         (ap₂ (λ (x y : List ℕ). x ++ y) b (ap₂ (λ (x y : List ℕ). x ++ y) accents-are (ap₂ (λ (x y : List ℕ). x ++ y) d (ap (λ (x : List ℕ). x ++ F) e))))
 
-    -- "9 + 15 T + 18 A + 6 R", the lists, and the end
-    pub sheet-length : (r z : ℕ) → r ≡ rowCount (a .count) (p .tones) → z ≡ length E → 9 + 15 * p .tones + 18 * a .count + 6 * r + z + 1 ≡ length Whole
-    sheet-length r z h k =
-        let b : length B ≡ 15 * (p .tones - 0) = gather-length (tonePiece (packView s (shown p))) 15 (λ i. refl) 0 (p .tones) in
-        let c : length C ≡ 18 * (a .count - 0) = gather-length (sortedPiece s a) 18 (λ i. refl) 0 (a .count) in
-        let d : length D ≡ 6 * (rowCount (a .count) (p .tones) - 0) = gather-length (plannedRow s p lists n) 6 (λ i. refl) 0 (rowCount (a .count) (p .tones)) in
+    -- what stands before a row past the last, the lists, and the end
+    pub sheet-length : (r o z : ℕ) → r ≡ rowCount (a .count) (p .tones) → o ≡ sheetRowAt (p .tones) (a .count) r → z ≡ length E → o + z + sheetEndSize ≡ length Whole
+    sheet-length r o z h at k =
+        let b : length B ≡ sheetToneSize * (p .tones - 0) = gather-length (tonePiece (packView s (shown p))) sheetToneSize (λ i. refl) 0 (p .tones) in
+        let c : length C ≡ sheetAccentSize * (a .count - 0) = gather-length (sortedPiece s a) sheetAccentSize (λ i. refl) 0 (a .count) in
+        let d : length D ≡ sheetRowSize * (rowCount (a .count) (p .tones) - 0) = gather-length (plannedRow s p lists n) sheetRowSize (λ i. refl) 0 (rowCount (a .count) (p .tones)) in
         omega
         (arith, ap length parts, length-append A (B ++ (C ++ (D ++ (E ++ F)))), length-append B (C ++ (D ++ (E ++ F))), length-append C (D ++ (E ++ F)), length-append D (E ++ F), length-append E F)
 
@@ -112,7 +113,7 @@ module _ (s : List ℕ) (p : Pack) (a : Sorted) (lists : List ℕ) (n : ℕ) whe
               fifth = room-first E F r₄ (length o₄) room₄
 
               module _ {o₅ : List ℕ} {r₅ : ℕ} (w₅ : Wrote E r₄ o₄ o₅ r₅) where
-                pub last : r₅ + 1 ≤ length o₅
+                pub last : r₅ + sheetEndSize ≤ length o₅
                 last = room-then F w₅ room₄
 
                 pub all-written : {o₆ : List ℕ} {r₆ : ℕ} → Wrote F r₅ o₅ o₆ r₆ → Wrote Whole 0 o₀ o₆ r₆

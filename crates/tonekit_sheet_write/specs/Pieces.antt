@@ -1,9 +1,10 @@
 -- The pieces of a pack's sheet, as they are written, and what the writer goes by.
-use Prim.Native.Nat.{ℕ, _+_, _≤_}
+use Prim.Native.Nat.{ℕ, _+_, _*_, _≤_}
 use mathlib.Core.Path.{_≡_}
 use mathlib.Core.List.{List, [], _∷_, _++_}
 use lib.ListN.{length, getD}
 use lib.Seq.{sets}
+use Rattle.tonekit_core.specs.Layout.{sheetListKind, sheetListSize, sheetComponentSize}
 use Rattle.tonekit_bytes.specs.Fields.{le16}
 use Rattle.tonekit_pack.specs.Held.{shown}
 use Rattle.tonekit_pack.specs.declared.Pack.{Pack}
@@ -32,7 +33,11 @@ Fronted bs before after = after ≡ sets before 0 bs
 
 -- the head of a listing's list, under a number
 abbrev pub headOf : ℕ → Listing → List ℕ
-headOf n l = (21 ∷ n ∷ l .owner ∷ l .form ∷ []) ++ (le16 (l .label) ++ (l .count ∷ []))
+headOf n l = (sheetListKind ∷ n ∷ l .owner ∷ l .form ∷ []) ++ (le16 (l .label) ++ (l .count ∷ []))
+
+-- the most bytes that a list takes: it has at most four components
+abbrev pub listMost : ℕ
+listMost = sheetListSize + sheetComponentSize * 4
 
 -- component j of a listing
 abbrev pub componentPiece : List ℕ → Listing → ℕ → List ℕ

@@ -3,6 +3,7 @@ use Prim.Native.Nat.{_+_}
 use mathlib.Core.Path.{refl}
 use mir.Syntax.{w64}
 use mir.Val.{Fits}
+use Rattle.tonekit_core.specs.Layout.{sheetRowSize}
 use Rattle.tonekit_sheet_plan.specs.Plans.{planned}
 use Rattle.tonekit_sheet_plan.proofs.Views.{some-tone}
 use Rattle.tonekit_sheet_write.proofs.Bytes.{wrote-part, wrote-as, row-is}
@@ -16,7 +17,7 @@ row-context-requires c κs =
     (g .roomy, some-tone (start .args .s .now) (start .args .p) (g .reads), g .ordered .slots)
 
 -- the row ends within the buffer
-fits : (c : tie.Start) → Fits w64 (c .args .at + 6)
+fits : (c : tie.Start) → Fits w64 (c .args .at + sheetRowSize)
 fits c = search needs
 
 add-result : tie.Need-add-result
