@@ -157,16 +157,6 @@ pub fn max_f64(a: f64, b: f64) -> f64
 }
 
 // x with its sign cleared, a zero's too; a NaN gives the NaN.
-pub fn abs_f32(x: f32) -> f32
-    ensures { λ r. ⌜ r ≡ magnitude x ⌝ }
-{
-    if x != x {
-        return x;
-    }
-    f32::from_bits(f32::to_bits(x) % 0x8000_0000)
-}
-
-// x with its sign cleared, as `abs_f32`.
 pub fn abs_f64(x: f64) -> f64
     ensures { λ r. ⌜ r ≡ magnitude x ⌝ }
 {

@@ -12,7 +12,7 @@ use Rattle.tonekit_score.specs.declared.Mixture.{Mixture}
 use Rattle.tonekit_score.specs.declared.Tolerance.{Tolerance}
 use Rattle.tonekit_shape.specs.declared.ToneShape.{ToneShape}
 use Rattle.tonekit_core.proofs.LoopLaws.{range-same}
-use Rattle.tonekit_judge.specs.Judge.{Listed, Counted, Placed, Filled, cell, distanceAt, plainOf, judgedOf, toneTurn, toneMixing, loglikAt, loglikTurn, logliks, partTurn, partMixing, targetTurn, targetMixing}
+use Rattle.tonekit_judge.specs.Judge.{Listed, Counted, Placed, Filled, cell, distanceAt, plainOf, judgedOf, judgedAgainst, toneTurn, toneMixing, loglikAt, loglikTurn, logliks, partTurn, partMixing, targetTurn, targetMixing}
 use Rattle.tonekit_judge.specs.declared.Inventory.{Inventory}
 use Rattle.tonekit_judge.specs.declared.Targets.{Targets}
 use Rattle.tonekit_judge.specs.declared.ToneJudgement.{ToneJudgement}
@@ -61,7 +61,7 @@ plain-same s threshold i weights d e m issues same = rw (logliks-same s (i .tone
 pub judged-same : (x : ToneShape) (s : Scoring) (threshold : Float) (t : Tolerance) (l : Listed) (ds : List Float) (g : Targets) (issues : ℕ) {r : ToneJudgement}
     → Counted (l .inventory .tones) (l .inventory .counts) → Placed (l .inventory .tones) g
     → Filled (distanceAt x s (l .inventory .regions) (l .points)) (l .inventory .counts) (4 * l .inventory .tones) ds
-    → r ≡ judgedOf x s threshold t l (cell ds) g issues → r ≡ judgedOf x s threshold t l (distanceAt x s (l .inventory .regions) (l .points)) g issues
+    → r ≡ judgedOf x s threshold t l (cell ds) g issues → r ≡ judgedAgainst x s threshold t l g issues
 unfolding judgedOf
 judged-same x s threshold t l ds g issues n p f e =
     let d = distanceAt x s (l .inventory .regions) (l .points) in

@@ -39,6 +39,10 @@ pub record Listed : Type 0 where
   pub weights : List Float
   pub points : List Float
 
+-- an inventory with what is lent of its components: weights, and points
+abbrev pub listing : Inventory → List Float → List Float → Listed
+listing i weights points = record { inventory = i; weights = weights; points = points }
+
 -- at most 8 tones, each with at most 4 components
 pub record Counted (tones : ℕ) (counts : List ℕ) : Type 0 where
   pub few : tones ≤ 8
@@ -211,6 +215,10 @@ judgedOf x s threshold t l d g issues =
     let m = mixtureOf (targetMixing s (l .inventory .counts) (l .weights) d g) in
     bestOf x s t l issues (plainOf s threshold (l .inventory) (l .weights) d m issues) m
 
+-- each component at its distance from the shape
+abbrev pub judgedAgainst : ToneShape → Scoring → Float → Tolerance → Listed → Targets → ℕ → ToneJudgement
+judgedAgainst x s threshold t l g issues = judgedOf x s threshold t l (distanceAt x s (l .inventory .regions) (l .points)) g issues
+
 -- `check_shape`: usable where every point of the contour and every weight is finite
 abbrev pub usableTurn : List Float → List Float → ℕ → Bool → Bool
 usableTurn contour weights k ok = ok && (finite (getD contour k nan) && finite (getD weights k nan))
@@ -242,5 +250,5 @@ unfoldable pub judgementOf : ToneShape → Float → Float → Tolerance → Lis
 judgementOf x temperature threshold t l g issues =
     let s = scoringOf temperature t issues in
     cond (usable x)
-    (judgedOf x s threshold t l (distanceAt x s (l .inventory .regions) (l .points)) g issues)
+    (judgedAgainst x s threshold t l g issues)
     (notMeasured (l .inventory .tones))

@@ -5,7 +5,11 @@ ghost use mathlib.Core.Bool.{_&&_};
 ghost use Prim.Native.Nat.{_+_, _*_, _≤_, _<_};
 ghost use lib.ListN.{length, getD};
 ghost use lib.Ieee.Scale.{finite};
-ghost use Rattle.tonekit_judge.specs.Judge.{Counted, Sound, Placed, Filled, cell, distanceAt, toneMixing, loglikAt, logliks, ranked, rankingOf, heardOf, weighed, partMixing, targetMixing, llrOf, measuredOf, plainOf, distanceFrom, adviceOf, partOf, withBest, judgedOf, usable, notMeasured, judgementOf};
+ghost use Rattle.tonekit_judge.specs.Judge.{Counted, Sound, Placed, Filled, listing, cell, distanceAt};
+ghost use Rattle.tonekit_judge.specs.Judge.{toneMixing, loglikAt, logliks, ranked, rankingOf, heardOf};
+ghost use Rattle.tonekit_judge.specs.Judge.{weighed, partMixing, targetMixing, llrOf, measuredOf, plainOf};
+ghost use Rattle.tonekit_judge.specs.Judge.{distanceFrom, adviceOf, partOf, withBest, judgedAgainst};
+ghost use Rattle.tonekit_judge.specs.Judge.{usable, notMeasured, judgementOf};
 ghost use Rattle.tonekit_core.specs.Words.{measuredNumber};
 
 pub mod record;
@@ -234,7 +238,8 @@ fn part_mixing(
     weight: f32,
 ) -> Mixing
     requires { ⌜ (t < 8) × (count ≤ 4) × (length (now weights) ≡ 32) × (before .index < 32) ⌝ }
-    ensures { λ r. ⌜ (r ≡ partMixing s (now (weights .entry)) (cell (now (d .entry))) count t weight before) × (r .index < 32) ⌝ }
+    ensures { λ r. ⌜ (r ≡ partMixing s (now (weights .entry)) (cell (now (d .entry))) count t weight before)
+        × (r .index < 32) ⌝ }
 {
     let mut m = before;
     let n = wide(count);
@@ -409,8 +414,9 @@ fn judged_of(
     g: Targets,
     issues: u16,
 ) -> ToneJudgement
-    requires { ⌜ Sound (record { inventory = inventory; weights = now weights; points = now points }) × Placed (inventory .tones) g ⌝ }
-    ensures { λ r. ⌜ r ≡ judgedOf x s threshold t (record { inventory = inventory; weights = now (weights .entry); points = now (points .entry) }) (distanceAt x s (inventory .regions) (now (points .entry))) g issues ⌝ }
+    requires { ⌜ Sound (listing inventory (now weights) (now points)) × Placed (inventory .tones) g ⌝ }
+    ensures { λ r. ⌜ r ≡ judgedAgainst x s threshold t
+        (listing inventory (now (weights .entry)) (now (points .entry))) g issues ⌝ }
 {
     let counts = inventory.counts;
     let regions = inventory.regions;
@@ -462,8 +468,9 @@ pub fn judge(
     targets: Targets,
     issues: u16,
 ) -> ToneJudgement
-    requires { ⌜ Sound (record { inventory = inventory; weights = now weights; points = now points }) × Placed (inventory .tones) targets ⌝ }
-    ensures { λ r. ⌜ r ≡ judgementOf x temperature threshold t (record { inventory = inventory; weights = now (weights .entry); points = now (points .entry) }) targets issues ⌝ }
+    requires { ⌜ Sound (listing inventory (now weights) (now points)) × Placed (inventory .tones) targets ⌝ }
+    ensures { λ r. ⌜ r ≡ judgementOf x temperature threshold t
+        (listing inventory (now (weights .entry)) (now (points .entry))) targets issues ⌝ }
 {
     if usable(x) {
         let s = tonekit_score::scoring_of(temperature, t, issues);

@@ -10,6 +10,7 @@ use lib.Dec.{eqb}
 use lib.ListN.{length, drop, length-append, length-map, drop-of-length-le}
 use lib.Seq.{drop-cons}
 use borrow.Author.Tests.{eqb-true}
+use Rattle.tonekit_core.specs.Layout.{sheetMost}
 use Rattle.tonekit_pack.specs.Pack.{Pst, loaded, readPack}
 use Rattle.tonekit_pack.proofs.Split.{split}
 use Rattle.tonekit_pack.proofs.Loads.{loads}
@@ -18,6 +19,7 @@ use Rattle.tonekit_expect.specs.Lookup.{componentOf}
 use Rattle.tonekit_expect.specs.Source.{Accent, Carried, accentIn, carried, components, toneAt, accentAt, sourceOfPack}
 use Rattle.tonekit_sheet.specs.Gather.{pieces, gather, gather-length}
 use Rattle.tonekit_sheet.specs.Sheet.{orSkip, ascFrom, ascending, View, rowsOf, viewOf, listsOf, bitsBytes, componentBytes, componentsBytes, tonePiece, accentPiece, rowPiece, listPiece, bytesWith, bytesOf, sheet}
+use Rattle.tonekit_sheet_fit.specs.Room.{Suffices}
 use Rattle.tonekit_sheet_fit.proofs.Budget.{sum-scaled, weigh}
 use Rattle.tonekit_sheet_fit.proofs.Bits.{carried-ten}
 use Rattle.tonekit_sheet_fit.proofs.Drawn.{ruleOf, citationOf}
@@ -101,7 +103,7 @@ module _ (v : View) (lists : List (List Carried)) (few-tones : length (v .tones)
   few-rows : rowsOf v ≤ 576
   few-rows = mul-le-mul few-accents (mul-le-mul few-tones (let n : length (v .tones) + 1 ≤ 9 = omega arith in n))
 
-  bytes-most : weigh listSize lists ≤ 9536 → length (bytesWith v lists) ≤ 13266
+  bytes-most : weigh listSize lists ≤ 9536 → length (bytesWith v lists) ≤ sheetMost
   unfolding bytesWith
   bytes-most h =
       let tones = gather (tonePiece v) 0 (length (v .tones)) in
@@ -135,10 +137,14 @@ module _ (s : List ℕ) (st : Pst) (e : ℕ) (p : readPack s ≡ loaded st e) wh
         sum-scaled (λ i. listSize (citationList s st i)) (λ i. 0) 52 0 64 (λ i h. ap (λ (n : ℕ). 7 + n) (components-bytes s (citationOf s st (i / 8) (i % 8)) 1)),
       )
 
-  pub sheet-most : length (sheet (sourceOfPack s st)) ≤ 13266
+  sheet-most : length (sheet (sourceOfPack s st)) ≤ sheetMost
   unfolding sheet bytesOf viewOf sourceOfPack
   sheet-most =
       let l = loads s st e p in
       let v = viewOf (sourceOfPack s st) in
       bytes-most v (listsOf v) (omega (arith, l .kept .few-tones, length-map (st .tones) (toneAt s)))
       (omega (arith, l .kept .few-accents, length-map (st .accents) (accentAt s), few-ascending (map (accentAt s) (st .accents)))) lists-most
+
+-- "13,266 bytes always suffice"
+pub suffices : Suffices sheetMost
+suffices = record { number = refl; enough = sheet-most }

@@ -18,8 +18,8 @@ use Rattle.tonekit_sheet.proofs.Same.{place-more, seen-more, seen-last, place-l
 use Rattle.tonekit_sheet_plan.specs.declared.Counts.{Counts}
 use Rattle.tonekit_sheet_plan.specs.Listings.{carriedBy, recordOf, listingFrom, Kept}
 use Rattle.tonekit_sheet_plan.specs.Marks.{markOf}
-use Rattle.tonekit_sheet_plan.specs.Plans.{keyOf, entryOf, keyListing, listAt, planned, ListsFine, MemoFine, Sane, knownAfter, memoAfter}
-use Rattle.tonekit_sheet_plan.proofs.Placing.{Placing, Placed, placing-out}
+use Rattle.tonekit_sheet_plan.specs.Plans.{keyOf, entryOf, keyListing, listAt, planned, FirstPlace, ListsFine, MemoFine, Sane, PlanOf, knownAfter, memoAfter}
+use Rattle.tonekit_sheet_plan.proofs.Placing.{Placing, placing-out}
 
 -- ---- a listing and its number
 module _ (s : List ℕ) (l : Listing) (k : Kept s l) (byte : l .owner < 256) where
@@ -165,37 +165,38 @@ module _ (s lists memo : List ℕ) (n : Counts) (l : Listing) (g : Sane s lists 
     known : (seenIn its before ≡ true) × (getD memo i 0 / 16777216 ≡ suc (placeIn its before))
     known = rw (again s l k byte (getD memo i 0) e) at (g .memo-fine .right i h)
 
-    pub way-known : (before ≡ noted before (some its)) × Sane s lists memo n
-    way-known = (sym (noted-old before its (known .0)), g)
+    pub way-known : PlanOf (noted before (some its)) s lists memo n
+    way-known = record { same = sym (noted-old before its (known .0)); sane = g }
 
     pub number-known : getD memo i 0 / 16777216 ≡ numberIn before (some its)
     number-known = known .1 ∙ number-some before its
 
-  module _ (j : ℕ) (place : j ≡ placeIn its before) (seen : seenIn its before ≡ ltb j (n .lists)) where
+  module _ (j : ℕ) (place : FirstPlace its before (n .lists) j) where
     pub number-place : j + 1 ≡ numberIn before (some its)
-    number-place = add-one j ∙ ap suc place ∙ number-some before its
+    number-place = add-one j ∙ ap suc (place .first) ∙ number-some before its
 
     abbrev memo' : List ℕ
     memo' = memoAfter memo (n .known) (entryOf (keyOf l) (j + 1))
 
     -- it is one of the lists
-    pub way-found : j < n .lists → (before ≡ noted before (some its)) × Sane s lists memo' (record { lists = n .lists; known = knownAfter (n .known) })
+    pub way-found : j < n .lists → PlanOf (noted before (some its)) s lists memo' (record { lists = n .lists; known = knownAfter (n .known) })
     way-found h =
-        let t : seenIn its before ≡ true = seen ∙ lt-ltb j (n .lists) h in (
-          sym (noted-old before its t),
-          record {
+        let t : seenIn its before ≡ true = place .seen ∙ lt-ltb j (n .lists) h in
+        record {
+          same = sym (noted-old before its t);
+          sane = record {
             lists-fine = g .lists-fine;
-            memo-fine = memo-more s lists (n .lists) memo (n .known) (g .memo-fine) l (keyOf l) (j + 1) (key-small s l k byte) (again s l k byte) t (add-one j ∙ ap suc place);
-          },
-        )
+            memo-fine = memo-more s lists (n .lists) memo (n .known) (g .memo-fine) l (keyOf l) (j + 1) (key-small s l k byte) (again s l k byte) t (add-one j ∙ ap suc (place .first));
+          };
+        }
 
     -- it is new
-    module _ (h : n .lists ≤ j) (few : j ≤ n .lists) (room : length (noted before (some its)) ≤ 128) where
+    module _ (h : n .lists ≤ j) (room : length (noted before (some its)) ≤ 128) where
       fresh : seenIn its before ≡ false
-      fresh = seen ∙ le-ltb j (n .lists) h
+      fresh = place .seen ∙ le-ltb j (n .lists) h
 
       at-end : j ≡ n .lists
-      at-end = omega arith
+      at-end = omega (arith, place .few)
 
       pub way-room : j < 128
       way-room =
@@ -207,22 +208,23 @@ module _ (s lists memo : List ℕ) (n : Counts) (l : Listing) (g : Sane s lists 
         abbrev entered : ℕ
         entered = entryOf (keyOf l) mark
 
-        pub way-new : (planned s (set lists j entered) (j + 1) ≡ noted before (some its)) × Sane s (set lists j entered) memo' (record { lists = j + 1; known = knownAfter (n .known) })
+        pub way-new : PlanOf (noted before (some its)) s (set lists j entered) memo' (record { lists = j + 1; known = knownAfter (n .known) })
         way-new =
             let small = key-small s l k byte in
             let same : keyListing s entered ≡ l = again s l k byte entered (entry-key (keyOf l) mark small) in
             let lf : ListsFine s lists j = subst (ListsFine s lists) (sym at-end) (g .lists-fine) in
             let mf : MemoFine s lists j memo (n .known) = subst (λ (m : ℕ). MemoFine s lists m memo (n .known)) (sym at-end) (g .memo-fine) in
             let p : planned s (set lists j entered) (j + 1) ≡ before ++ (its ∷ []) =
-            planned-more s lists j lf entered way-room ∙ ap₂ (λ (a : List (List Carried)) (v : Listing). a ++ (carriedBy s v ∷ [])) (ap (planned s lists) at-end) same in (
-              p ∙ sym (noted-new before its fresh),
-              record {
+            planned-more s lists j lf entered way-room ∙ ap₂ (λ (a : List (List Carried)) (v : Listing). a ++ (carriedBy s v ∷ [])) (ap (planned s lists) at-end) same in
+            record {
+              same = p ∙ sym (noted-new before its fresh);
+              sane = record {
                 lists-fine = lists-more s lists j lf entered way-room (rw same k) (entry-number (keyOf l) mark small ∙ marked ∙ ap (λ (v : Listing). markOf (carriedBy s v)) (sym same));
                 memo-fine =
                     memo-more s (set lists j entered) (j + 1) memo (n .known) (memo-kept s lists j lf entered way-room memo (n .known) mf) l (keyOf l) (j + 1) small (again s l k byte)
                     (rw p (seen-last its before)) (rw p (add-one j ∙ ap suc (at-end ∙ sym (planned-length s lists (n .lists)) ∙ sym (place-last its before fresh))));
-              },
-            )
+              };
+            }
 
 -- ---- a turn of the search for a place
 module _ (s lists : List ℕ) (n : ℕ) (v : List Carried) where
@@ -232,13 +234,13 @@ module _ (s lists : List ℕ) (n : ℕ) (v : List Carried) where
   pub below : {i : ℕ} → i < n → i < length (planned s lists n)
   below h = omega (arith, h, planned-length s lists n)
 
-  pub placed : (r : ℕ) → Placed v (planned s lists n) r → (r ≡ placeIn v (planned s lists n)) × (seenIn v (planned s lists n) ≡ ltb r n) × (r ≤ n)
-  placed r t = let m = planned-length s lists n in (t .place, t .seen ∙ ap (ltb r) m, omega (arith, t .few, m))
+  pub placed : (r : ℕ) → FirstPlace v (planned s lists n) (length (planned s lists n)) r → FirstPlace v (planned s lists n) n r
+  placed r t = subst (λ (m : ℕ). FirstPlace v (planned s lists n) m r) (planned-length s lists n) t
 
-  pub passed : {i : ℕ} → Placing v (planned s lists n) i → n ≤ i → (n ≡ placeIn v (planned s lists n)) × (seenIn v (planned s lists n) ≡ ltb n n) × (n ≤ n)
+  pub passed : {i : ℕ} → Placing v (planned s lists n) i → n ≤ i → FirstPlace v (planned s lists n) n n
   passed {i} g h =
       let m = planned-length s lists n in
-      placed n (subst (Placed v (planned s lists n)) m (placing-out v (planned s lists n) g (omega (arith, h, m))))
+      placed n (subst (FirstPlace v (planned s lists n) (length (planned s lists n))) m (placing-out v (planned s lists n) g (omega (arith, h, m))))
 
 -- ---- no list yet
 pub none-planned : (s lists : List ℕ) → planned s lists 0 ≡ []

@@ -6,12 +6,12 @@ use mathlib.Core.List.{List, []}
 use native.Mathlib.Omega.{arith}
 use native.Mathlib.Nat.{add-zero, zero-add}
 use native.Mathlib.Numerals.{add-one}
-use lib.Dec.{ltb}
 use lib.ListN.{length, getD, drop, drop-of-length-le}
 use lib.Seq.{drop-cons}
 use borrow.Author.Tests.{lt-ltb, le-ltb}
 use Rattle.tonekit_expect.specs.Source.{Carried}
 use Rattle.tonekit_sheet.specs.Number.{same, seenIn, placeIn}
+use Rattle.tonekit_sheet_plan.specs.Plans.{FirstPlace}
 
 module _ (v : List Carried) (xs : List (List Carried)) where
   -- what is left has the list where the whole has it
@@ -19,11 +19,6 @@ module _ (v : List Carried) (xs : List (List Carried)) where
     pub few : i ≤ length xs
     pub place : placeIn v xs ≡ i + placeIn v (drop i xs)
     pub seen : seenIn v xs ≡ seenIn v (drop i xs)
-
-  pub record Placed (r : ℕ) : Type 0 where
-    pub place : r ≡ placeIn v xs
-    pub seen : seenIn v xs ≡ ltb r (length xs)
-    pub few : r ≤ length xs
 
   pub placing-begun : Placing 0
   placing-begun = record { few = omega arith; place = sym (zero-add (placeIn v xs)); seen = refl }
@@ -38,18 +33,18 @@ module _ (v : List Carried) (xs : List (List Carried)) where
     seen = p .seen ∙ rw (drop-cons xs i [] h, e, add-one);
   }
 
-  pub placing-hit : {i : ℕ} → Placing i → i < length xs → same v (getD xs i []) ≡ true → Placed i
+  pub placing-hit : {i : ℕ} → Placing i → i < length xs → same v (getD xs i []) ≡ true → FirstPlace v xs (length xs) i
   unfolding placeIn seenIn
   placing-hit {i} p h e = record {
-    place = sym (p .place ∙ rw (drop-cons xs i [] h, e) (add-zero i));
+    first = sym (p .place ∙ rw (drop-cons xs i [] h, e) (add-zero i));
     seen = p .seen ∙ rw (drop-cons xs i [] h, e) (sym (lt-ltb i (length xs) h));
     few = p .few;
   }
 
-  pub placing-out : {i : ℕ} → Placing i → length xs ≤ i → Placed (length xs)
+  pub placing-out : {i : ℕ} → Placing i → length xs ≤ i → FirstPlace v xs (length xs) (length xs)
   unfolding placeIn seenIn
   placing-out {i} p h = record {
-    place = sym (p .place ∙ rw (drop-of-length-le xs {i = i} h) (let q : i + zero ≡ length xs = omega (arith, p .few) in q));
+    first = sym (p .place ∙ rw (drop-of-length-le xs {i = i} h) (let q : i + zero ≡ length xs = omega (arith, p .few) in q));
     seen = p .seen ∙ rw (drop-of-length-le xs {i = i} h) (sym (le-ltb (length xs) (length xs) (omega arith)));
     few = omega arith;
   }

@@ -6,6 +6,7 @@ use native.Mathlib.Omega.{arith}
 use lib.Dec.{eqb, ltb}
 use lib.ListN.{length, getD}
 use borrow.Author.Tests.{eq-eqb, ne-eqb, ltb-true}
+use Rattle.tonekit_core.specs.Layout.{toneKnotCount, ruleKind, ruleSize, ruleForm}
 use Rattle.tonekit_bytes.specs.Fields.{byteAt}
 use Rattle.tonekit_pack.specs.Pack.{Pst, loaded, readPack, numberAt}
 use Rattle.tonekit_pack.proofs.Split.{split}
@@ -25,7 +26,7 @@ use Rattle.tonekit_sheet_plan.specs.Listings.{recordOf, listingFrom, Loo
 -- found again
 record Again (s : List ℕ) (l : Listing) : Type 0 where
   near : recordOf l < 65536
-  behind : (l .form ≡ 1 → ⊥) → 7 ≤ l .at
+  behind : (l .form ≡ 1 → ⊥) → ruleSize ≤ l .at
   same : listingFrom s (l .owner) (recordOf l) ≡ l
   some : 1 ≤ l .count
   few : l .count ≤ 4
@@ -47,12 +48,12 @@ module _ (s : List ℕ) (st : Pst) (e : ℕ) (l : Loads s st e) (rules : (k : �
   of-rule : (owner r : ℕ) → Own r → Again s (ruleListing s owner r)
   unfolding listingFrom
   of-rule owner r R =
-      let n = ne-eqb (byteAt s (r + 6)) 1 (λ q. omega (arith, R .0 .least)) in
-      let q : r + 7 - 7 ≡ r = omega arith in
+      let n = ne-eqb (byteAt s (r + ruleForm)) 1 (λ q. omega (arith, R .0 .least)) in
+      let q : r + ruleSize - ruleSize ≡ r = omega arith in
       record {
         near = rw (n, q) (R .1);
         behind = λ f. omega arith;
-        same = rw (n, q, eq-eqb (byteAt s r) 4 (R .0 .kind));
+        same = rw (n, q, eq-eqb (byteAt s r) ruleKind (R .0 .kind));
         some = R .0 .some-parts;
         few = R .0 .few-parts;
       }
@@ -75,7 +76,7 @@ module _ (s : List ℕ) (st : Pst) (e : ℕ) (l : Loads s st e) (rules : (k : �
       subst (Again s) is (of-rule (numberAt s (getD (st .accents) a 0)) r (winner-is s st c Own own i a r hi q .1))
   of-winner m i t hi ht winner.Nothing q g =
       let o = getD (st .tones) t 0 in
-      split (eqb (byteAt s (o + 6)) 0)
+      split (eqb (byteAt s (o + toneKnotCount)) 0)
       (λ z. let g' = rw z at g in let n : _≡_ {A = ℕ} 0 1 = cc in absurd (omega arith))
       (λ z. let g' = rw z at g in
       let is : citation (c .accent) o ≡ m = cc in

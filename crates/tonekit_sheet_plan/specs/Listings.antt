@@ -4,6 +4,7 @@ use mathlib.Core.Path.{_≡_}
 use mathlib.Core.Bool.{cond}
 use mathlib.Core.List.{List}
 use lib.Dec.{eqb}
+use Rattle.tonekit_core.specs.Layout.{ruleKind, ruleSize}
 use Rattle.tonekit_bytes.specs.Fields.{byteAt}
 use Rattle.tonekit_pack.specs.Pack.{Pst, loaded, readPack}
 use Rattle.tonekit_expect.specs.Lookup.{ruleListing, citation, Listed}
@@ -18,16 +19,16 @@ carriedBy s l = components s l (l .count)
 
 -- the record of a listing: a citation's tone, else the rule before the parts
 abbrev pub recordOf : Listing → ℕ
-recordOf l = cond (eqb (l .form) 1) (l .at) (l .at - 7)
+recordOf l = cond (eqb (l .form) 1) (l .at) (l .at - ruleSize)
 
--- a rule's kind is 4; any other record of a listing is a tone
+-- a rule's record; any other record of a listing is a tone's
 unfoldable pub listingFrom : List ℕ → ℕ → ℕ → Listing
-listingFrom s owner o = cond (eqb (byteAt s o) 4) (ruleListing s owner o) (citation owner o)
+listingFrom s owner o = cond (eqb (byteAt s o) ruleKind) (ruleListing s owner o) (citation owner o)
 
 -- a listing that is found again, and whose components can be read
 pub record Kept (s : List ℕ) (l : Listing) : Type 0 where
   pub near : recordOf l < 65536
-  pub behind : (l .form ≡ 1 → ⊥) → 7 ≤ l .at
+  pub behind : (l .form ≡ 1 → ⊥) → ruleSize ≤ l .at
   pub same : listingFrom s (l .owner) (recordOf l) ≡ l
   pub some : 1 ≤ l .count
   pub few : l .count ≤ 4

@@ -1,19 +1,19 @@
 // The planner of a pack's sheet: the accents in ascending order, the context of each row, and which
 // list each context takes, numbered by first use along the rows.
 ghost use mathlib.Core.Path.{_≡_};
-ghost use Prim.Native.Nat.{_+_, _/_, _%_, _≤_, _<_};
+ghost use Prim.Native.Nat.{_/_, _%_, _≤_, _<_};
 ghost use mathlib.Core.Option.{some};
-ghost use lib.Dec.{ltb};
 ghost use lib.ListN.{length, getD};
-ghost use Rattle.tonekit_pack.specs.Held.{shown, Roomy};
-ghost use Rattle.tonekit_expect.specs.Lookup.{lookUp};
+ghost use Rattle.tonekit_pack.specs.Held.{shown};
 ghost use Rattle.tonekit_expect.specs.Source.{given};
-ghost use Rattle.tonekit_sheet.specs.Number.{same, seenIn, placeIn, noted, numberIn};
-ghost use Rattle.tonekit_sheet.specs.Sheet.{rowContext, noteTurn, listsOf};
-ghost use Rattle.tonekit_sheet_plan.specs.Rows.{packView, tonesOf, accentsOf, Ordered};
-ghost use Rattle.tonekit_sheet_plan.specs.Listings.{carriedBy, recordOf, Kept, LookKept, Reads};
-ghost use Rattle.tonekit_sheet_plan.specs.Marks.{markOf};
-ghost use Rattle.tonekit_sheet_plan.specs.Plans.{keyOf, entryOf, keyListing, listAt, planned, ListsFine, Sane, knownAfter, memoAfter};
+ghost use Rattle.tonekit_sheet.specs.Number.{same, numberIn};
+ghost use Rattle.tonekit_sheet.specs.Sheet.{listsOf};
+ghost use Rattle.tonekit_sheet_plan.specs.Rows.{packView};
+ghost use Rattle.tonekit_sheet_plan.specs.Listings.{carriedBy, recordOf, Kept, LookKept};
+ghost use Rattle.tonekit_sheet_plan.specs.Plans.{SortedPack, RowGives, ListsFine, Sane, PlanOf, RoomFor};
+ghost use Rattle.tonekit_sheet_plan.specs.Plans.{Marked, FirstPlace, withListing, withLook, withRow};
+ghost use Rattle.tonekit_sheet_plan.specs.Plans.{keyOf, entryOf, keyListing, listAt, planned};
+ghost use Rattle.tonekit_sheet_plan.specs.Plans.{knownAfter, memoAfter};
 
 mod listing;
 mod mark;
@@ -90,8 +90,9 @@ fn known_at(memo: &[u32; 128], n: usize, key: u32) -> usize
 
 // Whether a listing of this mark is list i of n. One of another mark is not compared.
 fn is_list(s: &[u8], lists: &[u32; 128], n: usize, i: usize, l: Listing, mark: u32) -> bool
-    requires { ⌜ ListsFine (now s) (now lists) n × (i < n) × Kept (now s) l × (mark ≡ markOf (carriedBy (now s) l)) ⌝ }
-    ensures { λ r. ⌜ r ≡ same (carriedBy (now (s .entry)) l) (carriedBy (now (s .entry)) (listAt (now (s .entry)) (now (lists .entry)) i)) ⌝ }
+    requires { ⌜ ListsFine (now s) (now lists) n × (i < n) × Marked (now s) l mark ⌝ }
+    ensures { λ r. ⌜ r ≡ same (carriedBy (now (s .entry)) l)
+        (carriedBy (now (s .entry)) (listAt (now (s .entry)) (now (lists .entry)) i)) ⌝ }
 {
     if lists[i] / 16777216 != mark {
         return false;
@@ -101,8 +102,8 @@ fn is_list(s: &[u8], lists: &[u32; 128], n: usize, i: usize, l: Listing, mark: u
 
 // The place of a listing's list among n, or n.
 fn place_of(s: &[u8], lists: &[u32; 128], n: usize, l: Listing, mark: u32) -> usize
-    requires { ⌜ ListsFine (now s) (now lists) n × Kept (now s) l × (mark ≡ markOf (carriedBy (now s) l)) ⌝ }
-    ensures { λ r. ⌜ (r ≡ placeIn (carriedBy (now (s .entry)) l) (planned (now (s .entry)) (now (lists .entry)) n)) × (seenIn (carriedBy (now (s .entry)) l) (planned (now (s .entry)) (now (lists .entry)) n) ≡ ltb r n) × (r ≤ n) ⌝ }
+    requires { ⌜ ListsFine (now s) (now lists) n × Marked (now s) l mark ⌝ }
+    ensures { λ r. ⌜ FirstPlace (carriedBy (now (s .entry)) l) (planned (now (s .entry)) (now (lists .entry)) n) n r ⌝ }
 {
     for i in 0..n {
         if is_list(s, lists, n, i, l, mark) {
@@ -132,8 +133,9 @@ fn note_listing(
     n: Counts,
     l: Listing,
 ) -> Counts
-    requires { ⌜ Sane (now s) (now lists) (now memo) n × Kept (now s) l × (length (noted (planned (now s) (now lists) (n .lists)) (some (carriedBy (now s) l))) ≤ 128) ⌝ }
-    ensures { λ r. ⌜ (planned (now (s .entry)) (now (lists .exit)) (r .lists) ≡ noted (planned (now (s .entry)) (now (lists .entry)) (n .lists)) (some (carriedBy (now (s .entry)) l))) × Sane (now (s .entry)) (now (lists .exit)) (now (memo .exit)) r ⌝ }
+    requires { ⌜ RoomFor (withListing (now s) (now lists) n l) (now s) (now lists) (now memo) n × Kept (now s) l ⌝ }
+    ensures { λ r. ⌜ PlanOf (withListing (now (s .entry)) (now (lists .entry)) n l)
+        (now (s .entry)) (now (lists .exit)) (now (memo .exit)) r ⌝ }
 {
     let count = n.lists;
     let key = key_of(s, l);
@@ -158,8 +160,9 @@ fn note_listing(
 
 // The lists with what one more lookup gives.
 fn note(s: &[u8], lists: &mut [u32; 128], memo: &mut [u32; 128], n: Counts, x: Look) -> Counts
-    requires { ⌜ Sane (now s) (now lists) (now memo) n × LookKept (now s) x × (length (noted (planned (now s) (now lists) (n .lists)) (given (now s) x)) ≤ 128) ⌝ }
-    ensures { λ r. ⌜ (planned (now (s .entry)) (now (lists .exit)) (r .lists) ≡ noted (planned (now (s .entry)) (now (lists .entry)) (n .lists)) (given (now (s .entry)) x)) × Sane (now (s .entry)) (now (lists .exit)) (now (memo .exit)) r ⌝ }
+    requires { ⌜ RoomFor (withLook (now s) (now lists) n x) (now s) (now lists) (now memo) n × LookKept (now s) x ⌝ }
+    ensures { λ r. ⌜ PlanOf (withLook (now (s .entry)) (now (lists .entry)) n x)
+        (now (s .entry)) (now (lists .exit)) (now (memo .exit)) r ⌝ }
 {
     match x {
         Look::Found(l) => note_listing(s, lists, memo, n, l),
@@ -170,8 +173,8 @@ fn note(s: &[u8], lists: &mut [u32; 128], memo: &mut [u32; 128], n: Counts, x: L
 // What the context of row i gives, at the end of a phrase (1) or not (0). The pack is the one that
 // the reader handed back for these bytes, and its accents are sorted.
 pub fn look_row(s: &[u8], p: Pack, a: Sorted, i: usize, last: u8) -> Look
-    requires { ⌜ Roomy p × Reads (now s) (shown p) × Ordered (now s) (shown p) a ⌝ }
-    ensures { λ r. ⌜ (given (now (s .entry)) r ≡ packView (now (s .entry)) (shown p) .row i last) × LookKept (now (s .entry)) r × (r ≡ lookUp (now (s .entry)) (shown p) (rowContext (tonesOf (now (s .entry)) (shown p)) (accentsOf (now (s .entry)) a) i last)) ⌝ }
+    requires { ⌜ SortedPack (now s) p a ⌝ }
+    ensures { λ r. ⌜ RowGives (now (s .entry)) p a i last r ⌝ }
 {
     look_up(s, p, row_context(s, p, a, i, last))
 }
@@ -186,8 +189,10 @@ fn note_row(
     n: Counts,
     i: usize,
 ) -> Counts
-    requires { ⌜ Roomy p × Reads (now s) (shown p) × Ordered (now s) (shown p) a × Sane (now s) (now lists) (now memo) n × (length (noteTurn (packView (now s) (shown p)) i (planned (now s) (now lists) (n .lists))) ≤ 128) ⌝ }
-    ensures { λ r. ⌜ (planned (now (s .entry)) (now (lists .exit)) (r .lists) ≡ noteTurn (packView (now (s .entry)) (shown p)) i (planned (now (s .entry)) (now (lists .entry)) (n .lists))) × Sane (now (s .entry)) (now (lists .exit)) (now (memo .exit)) r ⌝ }
+    requires { ⌜ SortedPack (now s) p a
+        × RoomFor (withRow (now s) p (now lists) n i) (now s) (now lists) (now memo) n ⌝ }
+    ensures { λ r. ⌜ PlanOf (withRow (now (s .entry)) p (now (lists .entry)) n i)
+        (now (s .entry)) (now (lists .exit)) (now (memo .exit)) r ⌝ }
 {
     let before = note(s, lists, memo, n, look_row(s, p, a, i, 0));
     note(s, lists, memo, before, look_row(s, p, a, i, 1))
@@ -202,8 +207,9 @@ pub fn plan_lists(
     lists: &mut [u32; 128],
     memo: &mut [u32; 128],
 ) -> Counts
-    requires { ⌜ Roomy p × Reads (now s) (shown p) × Ordered (now s) (shown p) a × (length (now lists) ≡ 128) × (length (now memo) ≡ 128) ⌝ }
-    ensures { λ r. ⌜ (planned (now (s .entry)) (now (lists .exit)) (r .lists) ≡ listsOf (packView (now (s .entry)) (shown p))) × Sane (now (s .entry)) (now (lists .exit)) (now (memo .exit)) r ⌝ }
+    requires { ⌜ SortedPack (now s) p a × (length (now lists) ≡ 128) × (length (now memo) ≡ 128) ⌝ }
+    ensures { λ r. ⌜ PlanOf (listsOf (packView (now (s .entry)) (shown p)))
+        (now (s .entry)) (now (lists .exit)) (now (memo .exit)) r ⌝ }
 {
     let mut n = Counts { lists: 0, known: 0 };
     for i in 0..row_count(a.count, p.tones) {
@@ -215,7 +221,8 @@ pub fn plan_lists(
 // The number of a listing's list: the memo's, or its place from 1.
 fn number_listing(s: &[u8], lists: &[u32; 128], memo: &[u32; 128], n: Counts, l: Listing) -> u8
     requires { ⌜ Sane (now s) (now lists) (now memo) n × Kept (now s) l ⌝ }
-    ensures { λ r. ⌜ r ≡ numberIn (planned (now (s .entry)) (now (lists .entry)) (n .lists)) (some (carriedBy (now (s .entry)) l)) ⌝ }
+    ensures { λ r. ⌜ r ≡ numberIn (planned (now (s .entry)) (now (lists .entry)) (n .lists))
+        (some (carriedBy (now (s .entry)) l)) ⌝ }
 {
     let key = key_of(s, l);
     let k = known_at(memo, n.known, key);
@@ -229,7 +236,8 @@ fn number_listing(s: &[u8], lists: &[u32; 128], memo: &[u32; 128], n: Counts, l:
 // The number of what a lookup gives, 0 for nothing.
 pub fn number_of(s: &[u8], lists: &[u32; 128], memo: &[u32; 128], n: Counts, x: Look) -> u8
     requires { ⌜ Sane (now s) (now lists) (now memo) n × LookKept (now s) x ⌝ }
-    ensures { λ r. ⌜ r ≡ numberIn (planned (now (s .entry)) (now (lists .entry)) (n .lists)) (given (now (s .entry)) x) ⌝ }
+    ensures { λ r. ⌜ r ≡ numberIn (planned (now (s .entry)) (now (lists .entry)) (n .lists))
+        (given (now (s .entry)) x) ⌝ }
 {
     match x {
         Look::Found(l) => number_listing(s, lists, memo, n, l),

@@ -16,7 +16,8 @@ use tonekit_float::bits_of_f32;
 // Ten points, bit for bit.
 fn same_points(a: &[f32; 10], b: &[f32; 10]) -> bool
     requires { ⌜ (length (now a) ≡ 10) × (length (now b) ≡ 10) ⌝ }
-    ensures { λ r. ⌜ r ≡ sameNumbers (map (toBits binary32) (now (a .entry))) (map (toBits binary32) (now (b .entry))) ⌝ }
+    ensures { λ r. ⌜ r ≡ sameNumbers (map (toBits binary32) (now (a .entry)))
+        (map (toBits binary32) (now (b .entry))) ⌝ }
 {
     for k in 0..10 {
         if bits_of_f32(a[k]) != bits_of_f32(b[k]) {
@@ -36,7 +37,8 @@ fn same_name(a: Listing, b: Listing) -> bool
 // Component j of both, once it can be read: names first, before a curve is drawn.
 fn same_component(s: &[u8], a: Listing, b: Listing, j: usize) -> bool
     requires { ⌜ Listed (now s) a j × Listed (now s) b j ⌝ }
-    ensures { λ r. ⌜ r ≡ sameCarried (carried (componentOf (now (s .entry)) a j)) (carried (componentOf (now (s .entry)) b j)) ⌝ }
+    ensures { λ r. ⌜ r ≡ sameCarried (carried (componentOf (now (s .entry)) a j))
+        (carried (componentOf (now (s .entry)) b j)) ⌝ }
 {
     if !same_name(a, b) {
         return false;

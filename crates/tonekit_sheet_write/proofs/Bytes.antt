@@ -7,6 +7,7 @@ use native.Mathlib.Nat.{add-zero, zero-add}
 use lib.Ieee.{Float, binary32, toBits}
 use lib.ListN.{length, getD, take, drop, length-append, length-map}
 use lib.Seq.{sets, length-sets}
+use Rattle.tonekit_core.specs.Layout.{sheetListKind, sheetListSize, sheetComponentSize}
 use Rattle.tonekit_bytes.specs.Fields.{le16, f32Bytes, f32sBytes}
 use Rattle.tonekit_bytes.proofs.Write.{part-put}
 use Rattle.tonekit_pack.specs.Held.{inOrder, shown}
@@ -21,16 +22,16 @@ use Rattle.tonekit_expect.specs.declared.Look.{Look}
 use Rattle.tonekit_expect.proofs.Carried.{named, components-length, components-at}
 use Rattle.tonekit_sheet.specs.Gather.{pieces, gather, gather-length, Wrote}
 use Rattle.tonekit_sheet.specs.Number.{numberIn}
-use Rattle.tonekit_sheet.specs.Sheet.{noTone, noAccent, noCarried, toneBytes, accentBytes, rowBytes, rowContext, bitsBytes, componentBytes, componentsBytes, listBytes, tonePiece, rowPiece, listPiece}
+use Rattle.tonekit_sheet.specs.Sheet.{noTone, noAccent, noCarried, toneBytes, accentBytes, rowBytes, rowContext, bitsBytes, componentBytes, componentsBytes, listBytes, tonePiece, rowPiece}
 use Rattle.tonekit_sheet_plan.specs.declared.Sorted.{Sorted}
 use Rattle.tonekit_sheet_plan.specs.Rows.{packView, tonesOf, accentsOf, Ordered}
 use Rattle.tonekit_sheet_plan.specs.Listings.{carriedBy, Kept}
-use Rattle.tonekit_sheet_plan.specs.Plans.{planned, listAt, ListsFine}
+use Rattle.tonekit_sheet_plan.specs.Plans.{listAt, ListsFine}
 use Rattle.tonekit_sheet_plan.proofs.Ascend.{map-get}
 use Rattle.tonekit_sheet_plan.proofs.Alike.{points-ten}
 use Rattle.tonekit_sheet_plan.proofs.Memo.{planned-get}
 use Rattle.tonekit_sheet_plan.proofs.Views.{view-tones, view-sorted}
-use Rattle.tonekit_sheet_write.specs.Pieces.{headOf, componentPiece, sortedPiece, componentsPart}
+use Rattle.tonekit_sheet_write.specs.Pieces.{headOf, componentPiece, sortedPiece, plannedList, componentsPart}
 
 -- bytes written to the start of a part are written at its place
 pub wrote-part : (bs l ys : List ℕ) (at r : ℕ) → at + length bs ≤ length l → r ≡ at + length bs → ys ≡ sets (take (length l - at) (drop at l)) 0 bs
@@ -62,18 +63,18 @@ module _ (s : List ℕ) (l : Listing) where
   unfolding carried
   ten j = length-map (componentOf s l j .points) (toBits binary32) ∙ points-ten s l j refl
 
-  pub component-length : (j : ℕ) → length (componentPiece s l j) ≡ 45
+  pub component-length : (j : ℕ) → length (componentPiece s l j) ≡ sheetComponentSize
   component-length j = omega (arith, bits-length (carried (componentOf s l j) .points), ten j)
 
   -- of a component that was read
   pub component-is : {c : Component} (j : ℕ) → c ≡ componentOf s l j → componentBytes (carried c) ≡ componentPiece s l j
   component-is j e = ap (λ (c : Component). componentBytes (carried c)) e
 
-  pub component-size : {c : Component} (j : ℕ) → c ≡ componentOf s l j → length (componentBytes (carried c)) ≡ 45
+  pub component-size : {c : Component} (j : ℕ) → c ≡ componentOf s l j → length (componentBytes (carried c)) ≡ sheetComponentSize
   component-size j e = ap length (component-is j e) ∙ component-length j
 
-  pub components-size : length (componentsPart s l) ≡ 45 * l .count
-  components-size = let q : l .count - 0 ≡ l .count = omega arith in rw q at (gather-length (componentPiece s l) 45 component-length 0 (l .count))
+  pub components-size : length (componentsPart s l) ≡ sheetComponentSize * l .count
+  components-size = let q : l .count - 0 ≡ l .count = omega arith in rw q at (gather-length (componentPiece s l) sheetComponentSize component-length 0 (l .count))
 
 -- pieces from the front, and one more behind them
 module _ (f : ℕ → List ℕ) where
@@ -104,17 +105,17 @@ unfolding gather
 components-gather s l = components-pieces s l (l .count) ∙ (let q : l .count - 0 ≡ l .count = omega arith in rw q)
 
 -- ---- lists
-head-is : (s : List ℕ) (l : Listing) (n : ℕ) → Kept s l → (21 ∷ n ∷ getD (carriedBy s l) 0 noCarried .owner ∷ getD (carriedBy s l) 0 noCarried .form ∷ []) ++ (le16 (getD (carriedBy s l) 0 noCarried .label) ++ (length (carriedBy s l) ∷ [])) ≡ headOf n l
+head-is : (s : List ℕ) (l : Listing) (n : ℕ) → Kept s l → (sheetListKind ∷ n ∷ getD (carriedBy s l) 0 noCarried .owner ∷ getD (carriedBy s l) 0 noCarried .form ∷ []) ++ (le16 (getD (carriedBy s l) 0 noCarried .label) ++ (length (carriedBy s l) ∷ [])) ≡ headOf n l
 head-is s l n k =
     rw (components-at s l noCarried (l .count) 0 (k .some), named s l 0 .owner, named s l 0 .form, named s l 0 .label, components-length s l (l .count))
 
 module _ (s lists : List ℕ) (n i : ℕ) (h : i < n) (k : Kept s (listAt s lists i)) where
-  list-piece : listPiece (planned s lists n) i ≡ headOf (i + 1) (listAt s lists i) ++ componentsPart s (listAt s lists i)
+  list-piece : plannedList s lists n i ≡ headOf (i + 1) (listAt s lists i) ++ componentsPart s (listAt s lists i)
   list-piece =
       ap (listBytes (i + 1)) (planned-get s lists n i h)
       ∙ ap₂ (λ (a b : List ℕ). a ++ b) (head-is s (listAt s lists i) (i + 1) k) (components-gather s (listAt s lists i))
 
-  list-length : 7 + 45 * listAt s lists i .count ≡ length (listPiece (planned s lists n) i)
+  list-length : sheetListSize + sheetComponentSize * listAt s lists i .count ≡ length (plannedList s lists n i)
   list-length =
       let l = listAt s lists i in
       omega (arith, ap length list-piece, length-append (headOf (i + 1) l) (componentsPart s l), components-size s l)
@@ -131,13 +132,13 @@ module _ (s lists : List ℕ) (n : ℕ) (g : ListsFine s lists n) (i : ℕ) (h :
   pub list-kept : Kept s l
   list-kept = rw e (g .each i h)
 
-  pub list-is : headOf (i + 1) l ++ componentsPart s l ≡ listPiece (planned s lists n) i
+  pub list-is : headOf (i + 1) l ++ componentsPart s l ≡ plannedList s lists n i
   list-is = rw e (sym (list-piece s lists n i h (g .each i h)))
 
-  pub list-size : 7 + 45 * l .count ≡ length (listPiece (planned s lists n) i)
+  pub list-size : sheetListSize + sheetComponentSize * l .count ≡ length (plannedList s lists n i)
   list-size = rw e (list-length s lists n i h (g .each i h))
 
-  pub list-room : (at m : ℕ) → at + length (listPiece (planned s lists n) i) ≤ m → at + length (headOf (i + 1) l ++ componentsPart s l) ≤ m
+  pub list-room : (at m : ℕ) → at + length (plannedList s lists n i) ≤ m → at + length (headOf (i + 1) l ++ componentsPart s l) ≤ m
   list-room at m r = omega (arith, r, ap length list-is)
 
 -- ---- a row

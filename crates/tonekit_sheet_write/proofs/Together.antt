@@ -4,18 +4,19 @@ use mathlib.Core.Path.{_≡_, refl, _∙_, ap, ap₂}
 use mathlib.Core.List.{List, [], _∷_, _++_}
 use native.Mathlib.Omega.{arith}
 use lib.ListN.{length, getD, length-append, length-map}
+use Rattle.tonekit_core.specs.Layout.{sheetToneSize, sheetAccentSize, sheetRowSize, sheetEndKind, sheetEndSize, sheetRowAt}
 use Rattle.tonekit_pack.specs.Held.{inOrder, shown}
 use Rattle.tonekit_pack.specs.declared.Pack.{Pack}
 use Rattle.tonekit_pack.proofs.InOrder.{order-length}
 use Rattle.tonekit_expect.specs.Source.{Accent, settingsAt, toneAt, accentAt, sourceOfPack}
 use Rattle.tonekit_sheet.specs.Gather.{gather, gather-length, gather-more, gather-none, Wrote, joined, room-first, room-then}
-use Rattle.tonekit_sheet.specs.Sheet.{viewOf, noAccent, settingsBytes, accentBytes, tonePiece, accentPiece, rowPiece, listPiece, rowCount, rowsOf, listsOf, bytesWith, bytesOf, sheet}
+use Rattle.tonekit_sheet.specs.Sheet.{viewOf, noAccent, settingsBytes, accentBytes, tonePiece, accentPiece, rowCount, rowsOf, listsOf, bytesWith, bytesOf, sheet}
 use Rattle.tonekit_sheet_plan.specs.declared.Sorted.{Sorted}
 use Rattle.tonekit_sheet_plan.specs.Rows.{packView, Ordered}
 use Rattle.tonekit_sheet_plan.specs.Plans.{planned}
 use Rattle.tonekit_sheet_plan.proofs.Memo.{planned-length}
 use Rattle.tonekit_sheet_plan.proofs.Views.{view-tones, view-sorted, view-rows}
-use Rattle.tonekit_sheet_write.specs.Pieces.{sortedPiece, tonesPart, accentsPart, rowsPart, listsPart}
+use Rattle.tonekit_sheet_write.specs.Pieces.{sortedPiece, plannedRow, plannedList, tonesPart, accentsPart, rowsPart, listsPart, plannedSheet}
 
 module _ (s : List ℕ) (p : Pack) (a : Sorted) (lists : List ℕ) (n : ℕ) where
   -- the six parts, one behind the other
@@ -35,10 +36,10 @@ module _ (s : List ℕ) (p : Pack) (a : Sorted) (lists : List ℕ) (n : ℕ) whe
   E = listsPart s lists n
 
   abbrev pub F : List ℕ
-  F = 23 ∷ []
+  F = sheetEndKind ∷ []
 
   abbrev pub Whole : List ℕ
-  Whole = bytesWith (packView s (shown p)) (planned s lists n)
+  Whole = plannedSheet s p lists n
 
   module _ (o : Ordered s (shown p) a) where
     settings-are : packView s (shown p) .settings ≡ settingsAt s 0
@@ -61,22 +62,22 @@ module _ (s : List ℕ) (p : Pack) (a : Sorted) (lists : List ℕ) (n : ℕ) whe
     parts =
         let v = packView s (shown p) in
         let b : gather (tonePiece v) 0 (length (v .tones)) ≡ B = ap (gather (tonePiece v) 0) tones-are in
-        let d : gather (rowPiece v (planned s lists n)) 0 (rowsOf v) ≡ D = ap (gather (rowPiece v (planned s lists n)) 0) rows-are in
-        let e : gather (listPiece (planned s lists n)) 0 (length (planned s lists n)) ≡ E = ap (gather (listPiece (planned s lists n)) 0) (planned-length s lists n) in
+        let d : gather (plannedRow s p lists n) 0 (rowsOf v) ≡ D = ap (gather (plannedRow s p lists n) 0) rows-are in
+        let e : gather (plannedList s lists n) 0 (length (planned s lists n)) ≡ E = ap (gather (plannedList s lists n) 0) (planned-length s lists n) in
         ap₂ (λ (x y : List ℕ). x ++ y) (ap settingsBytes settings-are)
         (ap₂ (λ (x y : List ℕ). x ++ y) b (ap₂ (λ (x y : List ℕ). x ++ y) accents-are (ap₂ (λ (x y : List ℕ). x ++ y) d (ap (λ (x : List ℕ). x ++ F) e))))
 
-    -- "9 + 15 T + 18 A + 6 R", the lists, and the end
-    pub sheet-length : (r z : ℕ) → r ≡ rowCount (a .count) (p .tones) → z ≡ length E → 9 + 15 * p .tones + 18 * a .count + 6 * r + z + 1 ≡ length Whole
-    sheet-length r z h k =
-        let b : length B ≡ 15 * (p .tones - 0) = gather-length (tonePiece (packView s (shown p))) 15 (λ i. refl) 0 (p .tones) in
-        let c : length C ≡ 18 * (a .count - 0) = gather-length (sortedPiece s a) 18 (λ i. refl) 0 (a .count) in
-        let d : length D ≡ 6 * (rowCount (a .count) (p .tones) - 0) = gather-length (rowPiece (packView s (shown p)) (planned s lists n)) 6 (λ i. refl) 0 (rowCount (a .count) (p .tones)) in
+    -- what stands before a row past the last, the lists, and the end
+    pub sheet-length : (r o z : ℕ) → r ≡ rowCount (a .count) (p .tones) → o ≡ sheetRowAt (p .tones) (a .count) r → z ≡ length E → o + z + sheetEndSize ≡ length Whole
+    sheet-length r o z h at k =
+        let b : length B ≡ sheetToneSize * (p .tones - 0) = gather-length (tonePiece (packView s (shown p))) sheetToneSize (λ i. refl) 0 (p .tones) in
+        let c : length C ≡ sheetAccentSize * (a .count - 0) = gather-length (sortedPiece s a) sheetAccentSize (λ i. refl) 0 (a .count) in
+        let d : length D ≡ sheetRowSize * (rowCount (a .count) (p .tones) - 0) = gather-length (plannedRow s p lists n) sheetRowSize (λ i. refl) 0 (rowCount (a .count) (p .tones)) in
         omega
         (arith, ap length parts, length-append A (B ++ (C ++ (D ++ (E ++ F)))), length-append B (C ++ (D ++ (E ++ F))), length-append C (D ++ (E ++ F)), length-append D (E ++ F), length-append E F)
 
     -- each part has its room, and the parts written are the whole
-    module _ (o₀ : List ℕ) (h : length Whole ≤ length o₀) where
+    module _ (o₀ : List ℕ) (h : 0 + length Whole ≤ length o₀) where
       room₀ : 0 + length (A ++ (B ++ (C ++ (D ++ (E ++ F))))) ≤ length o₀
       room₀ = omega (arith, h, ap length parts)
 
@@ -112,7 +113,7 @@ module _ (s : List ℕ) (p : Pack) (a : Sorted) (lists : List ℕ) (n : ℕ) whe
               fifth = room-first E F r₄ (length o₄) room₄
 
               module _ {o₅ : List ℕ} {r₅ : ℕ} (w₅ : Wrote E r₄ o₄ o₅ r₅) where
-                pub last : r₅ + 1 ≤ length o₅
+                pub last : r₅ + sheetEndSize ≤ length o₅
                 last = room-then F w₅ room₄
 
                 pub all-written : {o₆ : List ℕ} {r₆ : ℕ} → Wrote F r₅ o₅ o₆ r₆ → Wrote Whole 0 o₀ o₆ r₆
@@ -121,15 +122,15 @@ module _ (s : List ℕ) (p : Pack) (a : Sorted) (lists : List ℕ) (n : ℕ) whe
 -- ---- the sum of the lists' lengths
 module _ (s lists : List ℕ) (n : ℕ) where
   abbrev left : ℕ → ℕ
-  left i = length (gather (listPiece (planned s lists n)) i n)
+  left i = length (gather (plannedList s lists n) i n)
 
-  pub sum-on : (i total m : ℕ) → total + left i ≡ length (listsPart s lists n) → i < n → m ≡ length (listPiece (planned s lists n) i) → total + m + left (i + 1) ≡ length (listsPart s lists n)
-  sum-on i total m e h k = omega (arith, e, gather-more (listPiece (planned s lists n)) i n h, k)
+  pub sum-on : (i total m : ℕ) → total + left i ≡ length (listsPart s lists n) → i < n → m ≡ length (plannedList s lists n i) → total + m + left (i + 1) ≡ length (listsPart s lists n)
+  sum-on i total m e h k = omega (arith, e, gather-more (plannedList s lists n) i n h, k)
 
   pub sum-end : (i total : ℕ) → total + left i ≡ length (listsPart s lists n) → n ≤ i → total ≡ length (listsPart s lists n)
-  sum-end i total e h = omega (arith, e, gather-none (listPiece (planned s lists n)) i n h)
+  sum-end i total e h = omega (arith, e, gather-none (plannedList s lists n) i n h)
 
 -- ---- the lists planned are those of the sheet
-pub sheet-is : (s : List ℕ) (p : Pack) (lists : List ℕ) (n : ℕ) → planned s lists n ≡ listsOf (packView s (shown p)) → bytesWith (packView s (shown p)) (planned s lists n) ≡ sheet (sourceOfPack s (shown p))
+pub sheet-is : (s : List ℕ) (p : Pack) (lists : List ℕ) (n : ℕ) → planned s lists n ≡ listsOf (packView s (shown p)) → plannedSheet s p lists n ≡ sheet (sourceOfPack s (shown p))
 unfolding sheet bytesOf
 sheet-is s p lists n e = ap (bytesWith (packView s (shown p))) e

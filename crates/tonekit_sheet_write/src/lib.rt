@@ -6,11 +6,11 @@ ghost use Rattle.tonekit_core.specs.Calls.{Delivers, written};
 ghost use Rattle.tonekit_pack.specs.Held.{shown, Roomy};
 ghost use Rattle.tonekit_expect.specs.Source.{sourceOfPack};
 ghost use Rattle.tonekit_sheet.specs.Gather.{Wrote};
-ghost use Rattle.tonekit_sheet.specs.Sheet.{bytesWith, sheet, listPiece};
-ghost use Rattle.tonekit_sheet_plan.specs.Rows.{packView, Ordered};
+ghost use Rattle.tonekit_sheet.specs.Sheet.{sheet};
+ghost use Rattle.tonekit_sheet_plan.specs.Rows.{Ordered};
 ghost use Rattle.tonekit_sheet_plan.specs.Listings.{Reads};
-ghost use Rattle.tonekit_sheet_plan.specs.Plans.{planned, ListsFine};
-ghost use Rattle.tonekit_sheet_write.specs.Pieces.{Planned, listsPart};
+ghost use Rattle.tonekit_sheet_plan.specs.Plans.{ListsFine};
+ghost use Rattle.tonekit_sheet_write.specs.Pieces.{Planned, Lent, listMost, plannedList, listsPart, plannedSheet};
 ghost use Rattle.tonekit_sheet_write.specs.Outcome.{sheetOutcome};
 
 mod parts;
@@ -18,6 +18,7 @@ mod records;
 
 use tonekit_core::Answer;
 use tonekit_core::Refusal;
+use tonekit_core::layout;
 use tonekit_pack::Pack;
 use tonekit_pack::PackRead;
 use tonekit_pack::load_pack;
@@ -31,15 +32,15 @@ use tonekit_sheet_plan::rows::sort_accents;
 // The bytes of list i with its components.
 fn list_size(s: &[u8], lists: &[u32; 128], n: usize, i: usize) -> usize
     requires { ⌜ ListsFine (now s) (now lists) n × (i < n) ⌝ }
-    ensures { λ r. ⌜ (r ≡ length (listPiece (planned (now (s .entry)) (now (lists .entry)) n) i)) × (r ≤ 187) ⌝ }
+    ensures { λ r. ⌜ (r ≡ length (plannedList (now (s .entry)) (now (lists .entry)) n i)) × (r ≤ listMost) ⌝ }
 {
-    7 + 45 * list_at(s, lists, i).count
+    layout::SHEET_LIST_SIZE + layout::SHEET_COMPONENT_SIZE * list_at(s, lists, i).count
 }
 
 // The bytes of all lists.
 fn lists_size(s: &[u8], lists: &[u32; 128], n: usize) -> usize
     requires { ⌜ ListsFine (now s) (now lists) n ⌝ }
-    ensures { λ r. ⌜ (r ≡ length (listsPart (now (s .entry)) (now (lists .entry)) n)) × (r ≤ 23936) ⌝ }
+    ensures { λ r. ⌜ (r ≡ length (listsPart (now (s .entry)) (now (lists .entry)) n)) × (r ≤ 128 * listMost) ⌝ }
 {
     let mut total: usize = 0;
     for i in 0..n {
@@ -48,14 +49,13 @@ fn lists_size(s: &[u8], lists: &[u32; 128], n: usize) -> usize
     total
 }
 
-// How many bytes a sheet has: 9 for the settings, 15 for a tone, 18 for an accent, 6 for a row, the
-// lists, and 1 for the end.
+// How many bytes a sheet has: those before a row past the last, the lists, and the end.
 fn needed(s: &[u8], p: Pack, a: Sorted, lists: &[u32; 128], n: usize) -> usize
     requires { ⌜ Roomy p × Ordered (now s) (shown p) a × ListsFine (now s) (now lists) n ⌝ }
-    ensures { λ r. ⌜ r ≡ length (bytesWith (packView (now (s .entry)) (shown p)) (planned (now (s .entry)) (now (lists .entry)) n)) ⌝ }
+    ensures { λ r. ⌜ r ≡ length (plannedSheet (now (s .entry)) p (now (lists .entry)) n) ⌝ }
 {
     let rows = row_count(a.count, p.tones);
-    9 + 15 * p.tones + 18 * a.count + 6 * rows + lists_size(s, lists, n) + 1
+    layout::sheet_row_at(p.tones, a.count, rows) + lists_size(s, lists, n) + layout::SHEET_END_SIZE
 }
 
 // The bytes of a sheet, at the front of a buffer that is long enough.
@@ -68,8 +68,10 @@ fn fill(
     n: Counts,
     out: &mut [u8],
 ) -> usize
-    requires { ⌜ Planned (now s) p a (now lists) (now memo) n × (length (bytesWith (packView (now s) (shown p)) (planned (now s) (now lists) (n .lists))) ≤ length (now out)) ⌝ }
-    ensures { λ r. ⌜ Wrote (bytesWith (packView (now (s .entry)) (shown p)) (planned (now (s .entry)) (now (lists .entry)) (n .lists))) 0 (now (out .entry)) (now (out .exit)) r ⌝ }
+    requires { ⌜ Planned (now s) p a (now lists) (now memo) n
+        × Lent (plannedSheet (now s) p (now lists) (n .lists)) 0 (now out) ⌝ }
+    ensures { λ r. ⌜ Wrote (plannedSheet (now (s .entry)) p (now (lists .entry)) (n .lists)) 0
+        (now (out .entry)) (now (out .exit)) r ⌝ }
 {
     let tones = parts::write_settings(s, out, 0);
     let accents = parts::write_tones(s, p, out, tones);
@@ -83,7 +85,8 @@ fn fill(
 // as it was.
 fn write_loaded(s: &[u8], p: Pack, out: &mut [u8]) -> Answer
     requires { ⌜ Roomy p × Reads (now s) (shown p) ⌝ }
-    ensures { λ r. ⌜ Delivers (written (sheet (sourceOfPack (now (s .entry)) (shown p)))) (now (out .entry)) r (now (out .exit)) ⌝ }
+    ensures { λ r. ⌜ Delivers (written (sheet (sourceOfPack (now (s .entry)) (shown p))))
+        (now (out .entry)) r (now (out .exit)) ⌝ }
 {
     let mut lists = [0u32; 128];
     let mut memo = [0u32; 128];

@@ -2,14 +2,18 @@
 ghost use mathlib.Core.List.{[], _∷_};
 ghost use Prim.Native.Nat.{_+_, _≤_, _<_};
 ghost use lib.ListN.{length};
-ghost use Rattle.tonekit_pack.specs.Held.{shown, Roomy};
+ghost use Rattle.tonekit_core.specs.Layout.{settingsSize, sheetToneSize, sheetAccentSize, sheetRowSize};
+ghost use Rattle.tonekit_core.specs.Layout.{sheetListSize, sheetComponentSize, sheetEndKind, sheetEndSize};
+ghost use Rattle.tonekit_pack.specs.Held.{Roomy};
 ghost use Rattle.tonekit_expect.specs.Source.{settingsAt, toneAt, accentAt};
 ghost use Rattle.tonekit_sheet.specs.Gather.{Wrote};
-ghost use Rattle.tonekit_sheet.specs.Sheet.{settingsBytes, toneBytes, accentBytes, rowPiece, listPiece};
-ghost use Rattle.tonekit_sheet_plan.specs.Rows.{packView, Slots};
+ghost use Rattle.tonekit_sheet.specs.Sheet.{settingsBytes, toneBytes, accentBytes};
+ghost use Rattle.tonekit_sheet_plan.specs.Rows.{Slots};
 ghost use Rattle.tonekit_sheet_plan.specs.Listings.{Kept};
-ghost use Rattle.tonekit_sheet_plan.specs.Plans.{planned, ListsFine};
-ghost use Rattle.tonekit_sheet_write.specs.Pieces.{Planned, headOf, componentPiece, tonesPart, accentsPart, rowsPart, listsPart, componentsPart};
+ghost use Rattle.tonekit_sheet_plan.specs.Plans.{ListsFine};
+ghost use Rattle.tonekit_sheet_write.specs.Pieces.{Planned, Lent, headOf, componentPiece, plannedRow};
+ghost use Rattle.tonekit_sheet_write.specs.Pieces.{plannedList, tonesPart, accentsPart, rowsPart};
+ghost use Rattle.tonekit_sheet_write.specs.Pieces.{listsPart, componentsPart};
 use crate::records::put_accent;
 use crate::records::put_component;
 use crate::records::put_head;
@@ -18,6 +22,7 @@ use crate::records::put_settings;
 use crate::records::put_tone;
 use tonekit_bytes::byte_at;
 use tonekit_bytes::u32_at;
+use tonekit_core::layout;
 use tonekit_expect::Listing;
 use tonekit_expect::component_at;
 use tonekit_pack::Pack;
@@ -31,32 +36,32 @@ use tonekit_sheet_plan::rows::row_count;
 
 // The settings of a pack.
 pub fn write_settings(s: &[u8], out: &mut [u8], at: usize) -> usize
-    requires { ⌜ at + 9 ≤ length (now out) ⌝ }
+    requires { ⌜ at + settingsSize ≤ length (now out) ⌝ }
     ensures { λ r. ⌜ Wrote (settingsBytes (settingsAt (now (s .entry)) 0)) at (now (out .entry)) (now (out .exit)) r ⌝ }
 {
-    let temperature = u32_at(s, 0, 1);
-    let threshold = u32_at(s, 0, 5);
+    let temperature = u32_at(s, 0, layout::SETTINGS_TEMPERATURE);
+    let threshold = u32_at(s, 0, layout::SETTINGS_THRESHOLD);
     put_settings(&mut out[at..], temperature, threshold);
-    at + 9
+    at + layout::SETTINGS_SIZE
 }
 
 // The tone whose record in the pack stands at o.
 fn write_tone(s: &[u8], o: usize, out: &mut [u8], at: usize) -> usize
-    requires { ⌜ at + 15 ≤ length (now out) ⌝ }
+    requires { ⌜ at + sheetToneSize ≤ length (now out) ⌝ }
     ensures { λ r. ⌜ Wrote (toneBytes (toneAt (now (s .entry)) o)) at (now (out .entry)) (now (out .exit)) r ⌝ }
 {
-    let number = byte_at(s, o, 1);
-    let prior = u32_at(s, o, 2);
-    let flag = byte_at(s, o, 47);
-    let from = u32_at(s, o, 48);
-    let to = u32_at(s, o, 52);
+    let number = byte_at(s, o, layout::OWN_NUMBER);
+    let prior = u32_at(s, o, layout::TONE_PRIOR);
+    let flag = byte_at(s, o, layout::TONE_REGION);
+    let from = u32_at(s, o, layout::TONE_FROM);
+    let to = u32_at(s, o, layout::TONE_TO);
     put_tone(&mut out[at..], number, prior, flag, from, to);
-    at + 15
+    at + layout::SHEET_TONE_SIZE
 }
 
 // All tones, in pack order.
 pub fn write_tones(s: &[u8], p: Pack, out: &mut [u8], at: usize) -> usize
-    requires { ⌜ Roomy p × (at + length (tonesPart (now s) p) ≤ length (now out)) ⌝ }
+    requires { ⌜ Roomy p × Lent (tonesPart (now s) p) at (now out) ⌝ }
     ensures { λ r. ⌜ Wrote (tonesPart (now (s .entry)) p) at (now (out .entry)) (now (out .exit)) r ⌝ }
 {
     let mut o = at;
@@ -68,21 +73,21 @@ pub fn write_tones(s: &[u8], p: Pack, out: &mut [u8], at: usize) -> usize
 
 // The accent whose record in the pack stands at o.
 fn write_accent(s: &[u8], o: usize, out: &mut [u8], at: usize) -> usize
-    requires { ⌜ at + 18 ≤ length (now out) ⌝ }
+    requires { ⌜ at + sheetAccentSize ≤ length (now out) ⌝ }
     ensures { λ r. ⌜ Wrote (accentBytes (accentAt (now (s .entry)) o)) at (now (out .entry)) (now (out .exit)) r ⌝ }
 {
-    let number = byte_at(s, o, 1);
-    let contour = u32_at(s, o, 3);
-    let onset = u32_at(s, o, 7);
-    let offset = u32_at(s, o, 11);
-    let turning = u32_at(s, o, 15);
+    let number = byte_at(s, o, layout::OWN_NUMBER);
+    let contour = u32_at(s, o, layout::ACCENT_CONTOUR);
+    let onset = u32_at(s, o, layout::ACCENT_ONSET);
+    let offset = u32_at(s, o, layout::ACCENT_OFFSET);
+    let turning = u32_at(s, o, layout::ACCENT_TURNING);
     put_accent(&mut out[at..], number, contour, onset, offset, turning);
-    at + 18
+    at + layout::SHEET_ACCENT_SIZE
 }
 
 // All accents, ascending.
 pub fn write_accents(s: &[u8], a: Sorted, out: &mut [u8], at: usize) -> usize
-    requires { ⌜ Slots a × (at + length (accentsPart (now s) a) ≤ length (now out)) ⌝ }
+    requires { ⌜ Slots a × Lent (accentsPart (now s) a) at (now out) ⌝ }
     ensures { λ r. ⌜ Wrote (accentsPart (now (s .entry)) a) at (now (out .entry)) (now (out .exit)) r ⌝ }
 {
     let mut o = at;
@@ -104,14 +109,15 @@ fn write_row(
     out: &mut [u8],
     at: usize,
 ) -> usize
-    requires { ⌜ Planned (now s) p a (now lists) (now memo) n × (at + 6 ≤ length (now out)) ⌝ }
-    ensures { λ e. ⌜ Wrote (rowPiece (packView (now (s .entry)) (shown p)) (planned (now (s .entry)) (now (lists .entry)) (n .lists)) r) at (now (out .entry)) (now (out .exit)) e ⌝ }
+    requires { ⌜ Planned (now s) p a (now lists) (now memo) n × (at + sheetRowSize ≤ length (now out)) ⌝ }
+    ensures { λ e. ⌜ Wrote (plannedRow (now (s .entry)) p (now (lists .entry)) (n .lists) r) at
+        (now (out .entry)) (now (out .exit)) e ⌝ }
 {
     let c = row_context(s, p, a, r, 0);
     let first = number_of(s, lists, memo, n, look_row(s, p, a, r, 0));
     let second = number_of(s, lists, memo, n, look_row(s, p, a, r, 1));
     put_row(&mut out[at..], c, first, second);
-    at + 6
+    at + layout::SHEET_ROW_SIZE
 }
 
 // All rows.
@@ -125,8 +131,10 @@ pub fn write_rows(
     out: &mut [u8],
     at: usize,
 ) -> usize
-    requires { ⌜ Planned (now s) p a (now lists) (now memo) n × (at + length (rowsPart (now s) p a (now lists) (n .lists)) ≤ length (now out)) ⌝ }
-    ensures { λ r. ⌜ Wrote (rowsPart (now (s .entry)) p a (now (lists .entry)) (n .lists)) at (now (out .entry)) (now (out .exit)) r ⌝ }
+    requires { ⌜ Planned (now s) p a (now lists) (now memo) n
+        × Lent (rowsPart (now s) p a (now lists) (n .lists)) at (now out) ⌝ }
+    ensures { λ r. ⌜ Wrote (rowsPart (now (s .entry)) p a (now (lists .entry)) (n .lists)) at
+        (now (out .entry)) (now (out .exit)) r ⌝ }
 {
     let mut o = at;
     for i in 0..row_count(a.count, p.tones) {
@@ -137,17 +145,17 @@ pub fn write_rows(
 
 // Component j of a listing.
 fn write_component(s: &[u8], l: Listing, j: usize, out: &mut [u8], at: usize) -> usize
-    requires { ⌜ Kept (now s) l × (j < l .count) × (at + 45 ≤ length (now out)) ⌝ }
+    requires { ⌜ Kept (now s) l × (j < l .count) × (at + sheetComponentSize ≤ length (now out)) ⌝ }
     ensures { λ r. ⌜ Wrote (componentPiece (now (s .entry)) l j) at (now (out .entry)) (now (out .exit)) r ⌝ }
 {
     let c = component_at(s, l, j);
     put_component(&mut out[at..], c);
-    at + 45
+    at + layout::SHEET_COMPONENT_SIZE
 }
 
 // All components of a listing.
 fn write_components(s: &[u8], l: Listing, out: &mut [u8], at: usize) -> usize
-    requires { ⌜ Kept (now s) l × (at + length (componentsPart (now s) l) ≤ length (now out)) ⌝ }
+    requires { ⌜ Kept (now s) l × Lent (componentsPart (now s) l) at (now out) ⌝ }
     ensures { λ r. ⌜ Wrote (componentsPart (now (s .entry)) l) at (now (out .entry)) (now (out .exit)) r ⌝ }
 {
     let mut o = at;
@@ -159,17 +167,18 @@ fn write_components(s: &[u8], l: Listing, out: &mut [u8], at: usize) -> usize
 
 // The head of list i.
 fn write_head(l: Listing, i: usize, out: &mut [u8], at: usize) -> usize
-    requires { ⌜ (l .count ≤ 4) × (i < 128) × (at + 7 ≤ length (now out)) ⌝ }
+    requires { ⌜ (l .count ≤ 4) × (i < 128) × (at + sheetListSize ≤ length (now out)) ⌝ }
     ensures { λ r. ⌜ Wrote (headOf (i + 1) l) at (now (out .entry)) (now (out .exit)) r ⌝ }
 {
     put_head(&mut out[at..], (i + 1) as u8, l);
-    at + 7
+    at + layout::SHEET_LIST_SIZE
 }
 
 // List i with its components.
 fn write_list(s: &[u8], lists: &[u32; 128], n: usize, i: usize, out: &mut [u8], at: usize) -> usize
-    requires { ⌜ ListsFine (now s) (now lists) n × (i < n) × (at + length (listPiece (planned (now s) (now lists) n) i) ≤ length (now out)) ⌝ }
-    ensures { λ r. ⌜ Wrote (listPiece (planned (now (s .entry)) (now (lists .entry)) n) i) at (now (out .entry)) (now (out .exit)) r ⌝ }
+    requires { ⌜ ListsFine (now s) (now lists) n × (i < n) × Lent (plannedList (now s) (now lists) n i) at (now out) ⌝ }
+    ensures { λ r. ⌜ Wrote (plannedList (now (s .entry)) (now (lists .entry)) n i) at
+        (now (out .entry)) (now (out .exit)) r ⌝ }
 {
     let l = list_at(s, lists, i);
     let o = write_head(l, i, out, at);
@@ -178,8 +187,9 @@ fn write_list(s: &[u8], lists: &[u32; 128], n: usize, i: usize, out: &mut [u8], 
 
 // All lists, by number.
 pub fn write_lists(s: &[u8], lists: &[u32; 128], n: usize, out: &mut [u8], at: usize) -> usize
-    requires { ⌜ ListsFine (now s) (now lists) n × (at + length (listsPart (now s) (now lists) n) ≤ length (now out)) ⌝ }
-    ensures { λ r. ⌜ Wrote (listsPart (now (s .entry)) (now (lists .entry)) n) at (now (out .entry)) (now (out .exit)) r ⌝ }
+    requires { ⌜ ListsFine (now s) (now lists) n × Lent (listsPart (now s) (now lists) n) at (now out) ⌝ }
+    ensures { λ r. ⌜ Wrote (listsPart (now (s .entry)) (now (lists .entry)) n) at
+        (now (out .entry)) (now (out .exit)) r ⌝ }
 {
     let mut o = at;
     for i in 0..n {
@@ -188,11 +198,11 @@ pub fn write_lists(s: &[u8], lists: &[u32; 128], n: usize, out: &mut [u8], at: u
     o
 }
 
-// 23: the end.
+// The end.
 pub fn write_end(out: &mut [u8], at: usize) -> usize
-    requires { ⌜ at + 1 ≤ length (now out) ⌝ }
-    ensures { λ r. ⌜ Wrote (23 ∷ []) at (now (out .entry)) (now (out .exit)) r ⌝ }
+    requires { ⌜ at + sheetEndSize ≤ length (now out) ⌝ }
+    ensures { λ r. ⌜ Wrote (sheetEndKind ∷ []) at (now (out .entry)) (now (out .exit)) r ⌝ }
 {
-    out[at] = 23;
-    at + 1
+    out[at] = layout::SHEET_END_KIND;
+    at + layout::SHEET_END_SIZE
 }

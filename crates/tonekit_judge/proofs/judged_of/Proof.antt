@@ -2,7 +2,7 @@
 use mathlib.Core.Path.{sym, _∙_}
 use borrow.Author.Needs.{needs}
 use native.Mathlib.Omega.{arith}
-use Rattle.tonekit_judge.specs.Judge.{judgedOf}
+use Rattle.tonekit_judge.specs.Judge.{listing, judgedOf}
 use Rattle.tonekit_judge.proofs.Slots.{slot-of}
 use Rattle.tonekit_judge.proofs.Agree.{judged-same}
 use Rattle.tonekit_judge.proofs.judged_of.Statement.{statement}
@@ -12,7 +12,7 @@ returns : tie.Need-returns
 unfolding judgedOf
 returns c =
     let s = c .before .before .before .before .before .before .before .before .before .before .before .before .before .before in
-    judged-same (s .args .x) (s .args .s) (s .args .threshold) (s .args .t) (record { inventory = s .args .inventory; weights = s .args .weights .now; points = s .args .points .now }) _ (s .args .g) (s .args .issues)
+    judged-same (s .args .x) (s .args .s) (s .args .threshold) (s .args .t) (listing (s .args .inventory) (s .args .weights .now) (s .args .points .now)) _ (s .args .g) (s .args .issues)
     (s .pre .0 .counted) (s .pre .1) (c .before .before .before .before .before .before .before .before .before .distances .ensures)
     (rw (← c .before .before .before .before .before .before .before .target-mixing .ensures .0, ← c .before .before .before .before .before .before .mixture-of .ensures, ← c .before .before .before .before .plain-of .ensures, c .before .before .m .given .1) (c .with-best .ensures))
 
@@ -20,7 +20,7 @@ returns-2 : tie.Need-returns-2
 unfolding judgedOf
 returns-2 c =
     let s = c .before .before .before .before .before .before .before .before .before .before .before .before in
-    judged-same (s .args .x) (s .args .s) (s .args .threshold) (s .args .t) (record { inventory = s .args .inventory; weights = s .args .weights .now; points = s .args .points .now }) _ (s .args .g) (s .args .issues)
+    judged-same (s .args .x) (s .args .s) (s .args .threshold) (s .args .t) (listing (s .args .inventory) (s .args .weights .now) (s .args .points .now)) _ (s .args .g) (s .args .issues)
     (s .pre .0 .counted) (s .pre .1) (c .before .before .before .before .before .before .before .distances .ensures)
     (rw (← c .before .before .before .before .before .target-mixing .ensures .0, ← c .before .before .before .before .mixture-of .ensures, ← c .before .before .plain-of .ensures, c .enum-told .given .1))
 

@@ -20,7 +20,7 @@ returns c =
     let start = c .before .before .before in
     let a = start .args in
     sym (marked-apart (carriedBy (a .s .now) (a .l)) (carriedBy (a .s .now) (listAt (a .s .now) (a .lists .now) (a .i)))
-    (λ e. c .if1 .taken (start .pre .0 .marked (a .i) (start .pre .1) ∙ sym e ∙ sym (start .pre .3))))
+    (λ e. c .if1 .taken (start .pre .0 .marked (a .i) (start .pre .1) ∙ sym e ∙ sym (start .pre .2 .mark))))
 
 list-at-requires : tie.Need-list-at-requires
 list-at-requires c κs = let start = c .before .before .before in omega (arith, start .pre .0 .few, start .pre .1)
@@ -28,7 +28,7 @@ list-at-requires c κs = let start = c .before .before .before in omega (arith, 
 same-listing-requires : tie.Need-same-listing-requires
 same-listing-requires c κs =
     let start = c .before .before .before .before in
-    (start .pre .2, rw (c .list-at .ensures) (start .pre .0 .each (start .args .i) (start .pre .1)))
+    (start .pre .2 .kept, rw (c .list-at .ensures) (start .pre .0 .each (start .args .i) (start .pre .1)))
 
 returns-2 : tie.Need-returns-2
 returns-2 c =

@@ -11,24 +11,24 @@ returns c =
     let key = c .before .before .before .before .key-of in
     let start = c .before .before .before .before .before .before in
     let a = start .args in
-    way-known (a .s .now) (a .lists .now) (a .memo .now) (a .n) (a .l) (start .pre .0) (start .pre .1) (key .ensures .2) (c .before .before .known-at .result) (c .if1 .taken) (c .before .before .known-at .ensures .1 (c .if1 .taken) ∙ key .ensures .0)
+    way-known (a .s .now) (a .lists .now) (a .memo .now) (a .n) (a .l) (start .pre .0 .sane) (start .pre .1) (key .ensures .2) (c .before .before .known-at .result) (c .if1 .taken) (c .before .before .known-at .ensures .1 (c .if1 .taken) ∙ key .ensures .0)
 
 place-of-requires : tie.Need-place-of-requires
 place-of-requires c κs =
     let start = c .before .before .before .before .before .before .before .before in
-    (start .pre .0 .lists-fine, start .pre .1, c .before .mark-of .ensures .0)
+    (start .pre .0 .sane .lists-fine, record { kept = start .pre .1; mark = c .before .mark-of .ensures .0 })
 
 add-remember : tie.Need-add-remember
 add-remember c =
     let start = c .before .before .before .before .before .before .before .before .before .before in
-    omega (arith, c .before .place-of .ensures .2, start .pre .0 .lists-fine .few)
+    omega (arith, c .before .place-of .ensures .few, start .pre .0 .sane .lists-fine .few)
 
 remember-requires : tie.Need-remember-requires
 remember-requires c κs =
     let key = c .before .before .before .before .before .before .before .before .key-of in
     let start = c .before .before .before .before .before .before .before .before .before .before in
     let a = start .args in
-    (omega (arith, key .ensures .0, key-small (a .s .now) (a .l) (start .pre .1) (key .ensures .2)), omega (arith, c .before .place-of .ensures .2, start .pre .0 .lists-fine .few))
+    (omega (arith, key .ensures .0, key-small (a .s .now) (a .l) (start .pre .1) (key .ensures .2)), omega (arith, c .before .place-of .ensures .few, start .pre .0 .sane .lists-fine .few))
 
 returns-2 : tie.Need-returns-2
 returns-2 c =
@@ -37,7 +37,7 @@ returns-2 c =
     let key = c .before .before .before .before .before .before .before .before .before .before .key-of in
     let start = c .before .before .before .before .before .before .before .before .before .before .before .before in
     let a = start .args in
-    rw (r .ensures .0, r .ensures .1, key .ensures .0) (way-found (a .s .now) (a .lists .now) (a .memo .now) (a .n) (a .l) (start .pre .0) (start .pre .1) (key .ensures .2) (p .result) (p .ensures .0) (p .ensures .1) (c .if2 .taken))
+    rw (r .ensures .0, r .ensures .1, key .ensures .0) (way-found (a .s .now) (a .lists .now) (a .memo .now) (a .n) (a .l) (start .pre .0 .sane) (start .pre .1) (key .ensures .2) (p .result) (p .ensures) (c .if2 .taken))
 
 -- there is room for a new list
 room : (c : tie.Else2) → c .before .before .before .place-of .result < 128
@@ -46,7 +46,7 @@ room c =
     let key = c .before .before .before .before .before .before .before .before .before .before .key-of in
     let start = c .before .before .before .before .before .before .before .before .before .before .before .before in
     let a = start .args in
-    way-room (a .s .now) (a .lists .now) (a .memo .now) (a .n) (a .l) (start .pre .0) (start .pre .1) (key .ensures .2) (p .result) (p .ensures .0) (p .ensures .1) (c .if2 .left) (p .ensures .2) (start .pre .2)
+    way-room (a .s .now) (a .lists .now) (a .memo .now) (a .n) (a .l) (start .pre .0 .sane) (start .pre .1) (key .ensures .2) (p .result) (p .ensures) (c .if2 .left) (start .pre .0 .few)
 
 -- a key and a mark above it fit one number
 small : (c : tie.Else2) → (c .before .before .before .before .before .before .before .before .before .before .key-of .result < 16777216) × (c .before .before .before .before .before .mark-of .result < 256)
@@ -79,7 +79,7 @@ returns-3 c =
     let key = c .before .before .before .before .before .before .before .before .before .before .key-of in
     let start = c .before .before .before .before .before .before .before .before .before .before .before .before in
     let a = start .args in
-    rw (r .ensures .0, r .ensures .1, key .ensures .0) (way-new (a .s .now) (a .lists .now) (a .memo .now) (a .n) (a .l) (start .pre .0) (start .pre .1) (key .ensures .2) (p .result) (p .ensures .0) (p .ensures .1) (c .if2 .left) (p .ensures .2) (start .pre .2) (mark .result) (mark .ensures .0))
+    rw (r .ensures .0, r .ensures .1, key .ensures .0) (way-new (a .s .now) (a .lists .now) (a .memo .now) (a .n) (a .l) (start .pre .0 .sane) (start .pre .1) (key .ensures .2) (p .result) (p .ensures) (c .if2 .left) (start .pre .0 .few) (mark .result) (mark .ensures .0))
 
 pub note-listing-spec : {M : Type 1} → statement M
 note-listing-spec =

@@ -16,14 +16,14 @@ returns c =
 place-of-requires : tie.Need-place-of-requires
 place-of-requires c κs =
     let start = c .before .before .before .before .before .before in
-    (start .pre .0 .lists-fine, start .pre .1, c .mark-of .ensures .0)
+    (start .pre .0 .lists-fine, record { kept = start .pre .1; mark = c .mark-of .ensures .0 })
 
 returns-2 : tie.Need-returns-2
 returns-2 c =
     let key = c .before .before .before .before .before .key-of in
     let start = c .before .before .before .before .before .before .before in
     let a = start .args in
-    number-place (a .s .now) (a .lists .now) (a .memo .now) (a .n) (a .l) (start .pre .0) (start .pre .1) (key .ensures .2) (c .place-of .result) (c .place-of .ensures .0) (c .place-of .ensures .1)
+    number-place (a .s .now) (a .lists .now) (a .memo .now) (a .n) (a .l) (start .pre .0) (start .pre .1) (key .ensures .2) (c .place-of .result) (c .place-of .ensures)
 
 pub number-listing-spec : {M : Type 1} → statement M
 number-listing-spec =

@@ -19,7 +19,7 @@ loop-holds : tie.Need-loop-holds Inv-loop μ-loop
 loop-holds c = let a = c .before .args in (search needs, placing-begun (carriedBy (a .s .now) (a .l)) (planned (a .s .now) (a .lists .now) (a .n)))
 
 is-list-requires : tie.Need-is-list-requires Inv-loop μ-loop
-is-list-requires c κs = let start = c .before .before .before in (start .pre .0, c .loop-test .taken, start .pre .1, start .pre .2)
+is-list-requires c κs = let start = c .before .before .before in (start .pre .0, c .loop-test .taken, start .pre .1)
 
 returns : tie.Need-returns Inv-loop μ-loop
 returns c =

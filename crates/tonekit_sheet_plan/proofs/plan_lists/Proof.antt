@@ -22,7 +22,7 @@ abbrev μ-loop : tie.MeasureT-loop
 μ-loop s p a lists₀ memo₀ n₀ i₀ i-end lists memo n i = i-end - i
 
 row-count-requires : tie.Need-row-count-requires Inv-loop μ-loop
-row-count-requires c κs = let start = c .before in (start .pre .2 .slots .few, start .pre .0 .few-tones)
+row-count-requires c κs = let start = c .before in (start .pre .0 .ordered .slots .few, start .pre .0 .roomy .few-tones)
 
 loop-holds : tie.Need-loop-holds Inv-loop μ-loop
 loop-holds c =
@@ -30,14 +30,14 @@ loop-holds c =
     let a = start .args in (
       search needs,
       c .row-count .ensures .1,
-      sane-none (a .s .now) (a .lists .now) (a .memo .now) (start .pre .3) (start .pre .4),
-      lists-begun (a .s .now) (a .p) (a .a) (start .pre .2) (c .row-count .result) (planned (a .s .now) (a .lists .now) 0) (c .row-count .ensures .0) (none-planned (a .s .now) (a .lists .now)),
+      sane-none (a .s .now) (a .lists .now) (a .memo .now) (start .pre .1) (start .pre .2),
+      lists-begun (a .s .now) (a .p) (a .a) (start .pre .0 .ordered) (c .row-count .result) (planned (a .s .now) (a .lists .now) 0) (c .row-count .ensures .0) (none-planned (a .s .now) (a .lists .now)),
     )
 
 -- a pack that loads has at most 128 lists
 few : (c : tie.After-shared-slice-known Inv-loop μ-loop) → length (listsOf (packView (c .before .args .s .now) (shown (c .before .args .p)))) ≤ 128
 few c =
-    let r = c .before .pre .1 in
+    let r = c .before .pre .0 .reads in
     fit-of-pack (c .before .args .s .now) (λ i. omega (arith, c .shared-slice-known .given i)) (shown (c .before .args .p)) (r .end) (r .loads) .few-lists
 
 note-row-requires : tie.Need-note-row-requires Inv-loop μ-loop
@@ -46,20 +46,21 @@ note-row-requires c κs =
     let start = l .before .before .before in
     let a = start .args in (
       start .pre .0,
-      start .pre .1,
-      start .pre .2,
-      l .loop .inv .2,
-      turn-room (packView (a .s .now) (shown (a .p))) (planned (a .s .now) (l .loop .lists) (l .loop .n .lists)) (l .loop .inv .3) (c .before .before .loop-test .taken) (few (l .before .before)),
+      record {
+        sane = l .loop .inv .2;
+        few =
+            turn-room (packView (a .s .now) (shown (a .p))) (planned (a .s .now) (l .loop .lists) (l .loop .n .lists)) (l .loop .inv .3) (c .before .before .loop-test .taken) (few (l .before .before));
+      },
     )
 
 loop-again : tie.Need-loop-again Inv-loop μ-loop
 loop-again c =
     let t = c .before .before .before .loop-test .taken in
     let l = c .before .before .before .before in
-    (omega (arith, t), l .loop .inv .1, c .note-row .ensures .1, again _ (l .loop .inv .3) t (sym (c .note-row .ensures .0)))
+    (omega (arith, t), l .loop .inv .1, c .note-row .ensures .sane, again _ (l .loop .inv .3) t (sym (c .note-row .ensures .same)))
 
 returns : tie.Need-returns Inv-loop μ-loop
-returns c = (ended _ (c .before .loop .inv .3) (c .loop-test .left), c .before .loop .inv .2)
+returns c = record { same = ended _ (c .before .loop .inv .3) (c .loop-test .left); sane = c .before .loop .inv .2 }
 
 pub plan-lists-spec : {M : Type 1} → statement M
 plan-lists-spec =

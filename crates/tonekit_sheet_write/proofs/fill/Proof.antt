@@ -7,14 +7,14 @@ write-settings-requires : tie.Need-write-settings-requires
 write-settings-requires c κs =
     let start = c .before .before .before in
     let a = start .args in
-    first (a .s .now) (a .p) (a .a) (a .lists .now) (a .n .lists) (start .pre .0 .ordered) (a .out .now) (start .pre .1)
+    first (a .s .now) (a .p) (a .a) (a .lists .now) (a .n .lists) (start .pre .0 .pack .ordered) (a .out .now) (start .pre .1)
 
 write-tones-requires : tie.Need-write-tones-requires
 write-tones-requires c κs =
     let e1 = c .before .before .before in
     let start = e1 .before .before .before .before in
     let a = start .args in
-    (start .pre .0 .roomy, second (a .s .now) (a .p) (a .a) (a .lists .now) (a .n .lists) (start .pre .0 .ordered) (a .out .now) (start .pre .1) (e1 .write-settings .ensures))
+    (start .pre .0 .pack .roomy, second (a .s .now) (a .p) (a .a) (a .lists .now) (a .n .lists) (start .pre .0 .pack .ordered) (a .out .now) (start .pre .1) (e1 .write-settings .ensures))
 
 write-accents-requires : tie.Need-write-accents-requires
 write-accents-requires c κs =
@@ -22,7 +22,7 @@ write-accents-requires c κs =
     let e1 = e2 .before .before .before .before in
     let start = e1 .before .before .before .before in
     let a = start .args in
-    (start .pre .0 .ordered .slots, third (a .s .now) (a .p) (a .a) (a .lists .now) (a .n .lists) (start .pre .0 .ordered) (a .out .now) (start .pre .1) (e1 .write-settings .ensures) (e2 .write-tones .ensures))
+    (start .pre .0 .pack .ordered .slots, third (a .s .now) (a .p) (a .a) (a .lists .now) (a .n .lists) (start .pre .0 .pack .ordered) (a .out .now) (start .pre .1) (e1 .write-settings .ensures) (e2 .write-tones .ensures))
 
 write-rows-requires : tie.Need-write-rows-requires
 write-rows-requires c κs =
@@ -31,7 +31,7 @@ write-rows-requires c κs =
     let e1 = e2 .before .before .before .before in
     let start = e1 .before .before .before .before in
     let a = start .args in
-    (start .pre .0, fourth (a .s .now) (a .p) (a .a) (a .lists .now) (a .n .lists) (start .pre .0 .ordered) (a .out .now) (start .pre .1) (e1 .write-settings .ensures) (e2 .write-tones .ensures) (e3 .write-accents .ensures))
+    (start .pre .0, fourth (a .s .now) (a .p) (a .a) (a .lists .now) (a .n .lists) (start .pre .0 .pack .ordered) (a .out .now) (start .pre .1) (e1 .write-settings .ensures) (e2 .write-tones .ensures) (e3 .write-accents .ensures))
 
 write-lists-requires : tie.Need-write-lists-requires
 write-lists-requires c κs =
@@ -41,7 +41,7 @@ write-lists-requires c κs =
     let e1 = e2 .before .before .before .before in
     let start = e1 .before .before .before .before in
     let a = start .args in
-    (start .pre .0 .sane .lists-fine, fifth (a .s .now) (a .p) (a .a) (a .lists .now) (a .n .lists) (start .pre .0 .ordered) (a .out .now) (start .pre .1) (e1 .write-settings .ensures) (e2 .write-tones .ensures) (e3 .write-accents .ensures) (e4 .write-rows .ensures))
+    (start .pre .0 .sane .lists-fine, fifth (a .s .now) (a .p) (a .a) (a .lists .now) (a .n .lists) (start .pre .0 .pack .ordered) (a .out .now) (start .pre .1) (e1 .write-settings .ensures) (e2 .write-tones .ensures) (e3 .write-accents .ensures) (e4 .write-rows .ensures))
 
 write-end-requires : tie.Need-write-end-requires
 write-end-requires c κs =
@@ -52,7 +52,7 @@ write-end-requires c κs =
     let e1 = e2 .before .before .before .before in
     let start = e1 .before .before .before .before in
     let a = start .args in
-    last (a .s .now) (a .p) (a .a) (a .lists .now) (a .n .lists) (start .pre .0 .ordered) (a .out .now) (start .pre .1) (e1 .write-settings .ensures) (e2 .write-tones .ensures) (e3 .write-accents .ensures) (e4 .write-rows .ensures) (e5 .write-lists .ensures)
+    last (a .s .now) (a .p) (a .a) (a .lists .now) (a .n .lists) (start .pre .0 .pack .ordered) (a .out .now) (start .pre .1) (e1 .write-settings .ensures) (e2 .write-tones .ensures) (e3 .write-accents .ensures) (e4 .write-rows .ensures) (e5 .write-lists .ensures)
 
 returns : tie.Need-returns
 returns c =
@@ -64,7 +64,7 @@ returns c =
     let e1 = e2 .before .before .before .before in
     let start = e1 .before .before .before .before in
     let a = start .args in
-    all-written (a .s .now) (a .p) (a .a) (a .lists .now) (a .n .lists) (start .pre .0 .ordered) (a .out .now) (start .pre .1) (e1 .write-settings .ensures) (e2 .write-tones .ensures) (e3 .write-accents .ensures) (e4 .write-rows .ensures) (e5 .write-lists .ensures) (e6 .write-end .ensures)
+    all-written (a .s .now) (a .p) (a .a) (a .lists .now) (a .n .lists) (start .pre .0 .pack .ordered) (a .out .now) (start .pre .1) (e1 .write-settings .ensures) (e2 .write-tones .ensures) (e3 .write-accents .ensures) (e4 .write-rows .ensures) (e5 .write-lists .ensures) (e6 .write-end .ensures)
 
 same-length : tie.Need-same-length
 same-length c = wrote-size (returns c)

@@ -5,16 +5,14 @@ use mathlib.Core.Path.{_≡_}
 use native.Mathlib.Nat.{zero-add}
 use lib.ListN.{length}
 use Rattle.tonekit_sheet.specs.Gather.{gather}
-use Rattle.tonekit_sheet.specs.Sheet.{listPiece}
-use Rattle.tonekit_sheet_plan.specs.Plans.{planned}
-use Rattle.tonekit_sheet_write.specs.Pieces.{listsPart}
+use Rattle.tonekit_sheet_write.specs.Pieces.{listMost, plannedList, listsPart}
 use Rattle.tonekit_sheet_write.proofs.Together.{sum-on, sum-end}
 use Rattle.tonekit_sheet_write.proofs.lists_size.Statement.{statement}
 use Rattle.tonekit_sheet_write.proofs.lists_size.Tie as tie
 
 abbrev Inv-loop : tie.InvT-loop
 Inv-loop s lists n total₀ i₀ total i =
-    (i ≤ n) × (n ≤ 128) × (total ≤ 187 * i) × (total + length (gather (listPiece (planned s lists n)) i n) ≡ length (listsPart s lists n))
+    (i ≤ n) × (n ≤ 128) × (total ≤ listMost * i) × (total + length (gather (plannedList s lists n) i n) ≡ length (listsPart s lists n))
 
 abbrev μ-loop : tie.MeasureT-loop
 μ-loop s lists n total₀ i₀ total i = n - i

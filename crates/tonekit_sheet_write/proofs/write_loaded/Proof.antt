@@ -12,7 +12,7 @@ returns c =
     let n = c .before .needed in
     let l = c .before .before .before in
     let a = l .before .before .before .before .before .before .args in
-    refused-short _ (a .out .now) (n .result) (sym (n .ensures ∙ ap length (sheet-is (a .s .now) (a .p) _ _ (l .plan-lists .ensures .0)))) (c .if1 .taken)
+    refused-short _ (a .out .now) (n .result) (sym (n .ensures ∙ ap length (sheet-is (a .s .now) (a .p) _ _ (l .plan-lists .ensures .same)))) (c .if1 .taken)
 
 returns-2 : tie.Need-returns-2
 returns-2 c =
@@ -20,7 +20,7 @@ returns-2 c =
     let n = t .before .needed in
     let l = t .before .before .before in
     let a = l .before .before .before .before .before .before .args in
-    let e = sheet-is (a .s .now) (a .p) _ _ (l .plan-lists .ensures .0) in
+    let e = sheet-is (a .s .now) (a .p) _ _ (l .plan-lists .ensures .same) in
     wrote _ (a .out .now) _ (n .result) (sym (n .ensures ∙ ap length e)) (t .if1 .left) (c .before .before .fill .ensures .same ∙ ap (sets (a .out .now) 0) e)
 
 pub write-loaded-spec : {M : Type 1} → statement M

@@ -2,14 +2,12 @@ use borrow.Author.Needs.{needs}
 use Prim.Native.Nat.{_-_}
 use native.Mathlib.Omega.{arith}
 use Rattle.tonekit_sheet.specs.Gather.{Writing, write-begun, write-room, write-next, write-ended}
-use Rattle.tonekit_sheet.specs.Sheet.{listPiece}
-use Rattle.tonekit_sheet_plan.specs.Plans.{planned}
-use Rattle.tonekit_sheet_write.specs.Pieces.{listsPart}
+use Rattle.tonekit_sheet_write.specs.Pieces.{plannedList, listsPart}
 use Rattle.tonekit_sheet_write.proofs.parts.write_lists.Statement.{statement}
 use Rattle.tonekit_sheet_write.proofs.parts.write_lists.Tie as tie
 
 abbrev Inv-loop : tie.InvT-loop
-Inv-loop s lists n out₀ at o₀ i₀ out o i = Writing (listPiece (planned s lists n)) n at (listsPart s lists n) out₀ out i o
+Inv-loop s lists n out₀ at o₀ i₀ out o i = Writing (plannedList s lists n) n at (listsPart s lists n) out₀ out i o
 
 abbrev μ-loop : tie.MeasureT-loop
 μ-loop s lists n out₀ at o₀ i₀ out o i = n - i

@@ -2,24 +2,21 @@ use borrow.Author.Needs.{needs}
 use Prim.Native.Nat.{_-_, _<_}
 use native.Mathlib.Omega.{arith}
 use mathlib.Core.Path.{_≡_}
-use Rattle.tonekit_pack.specs.Held.{shown}
 use Rattle.tonekit_sheet.specs.Gather.{Writing, write-begun, write-room, write-next, write-ended}
-use Rattle.tonekit_sheet.specs.Sheet.{rowPiece, rowCount}
-use Rattle.tonekit_sheet_plan.specs.Rows.{packView}
-use Rattle.tonekit_sheet_plan.specs.Plans.{planned}
-use Rattle.tonekit_sheet_write.specs.Pieces.{rowsPart}
+use Rattle.tonekit_sheet.specs.Sheet.{rowCount}
+use Rattle.tonekit_sheet_write.specs.Pieces.{plannedRow, rowsPart}
 use Rattle.tonekit_sheet_write.proofs.parts.write_rows.Statement.{statement}
 use Rattle.tonekit_sheet_write.proofs.parts.write_rows.Tie as tie
 
 abbrev Inv-loop : tie.InvT-loop
 Inv-loop s p a lists memo n out₀ at o₀ i₀ i-end out o i =
-    (i-end ≡ rowCount (a .count) (p .tones)) × Writing (rowPiece (packView s (shown p)) (planned s lists (n .lists))) (rowCount (a .count) (p .tones)) at (rowsPart s p a lists (n .lists)) out₀ out i o
+    (i-end ≡ rowCount (a .count) (p .tones)) × Writing (plannedRow s p lists (n .lists)) (rowCount (a .count) (p .tones)) at (rowsPart s p a lists (n .lists)) out₀ out i o
 
 abbrev μ-loop : tie.MeasureT-loop
 μ-loop s p a lists memo n out₀ at o₀ i₀ i-end out o i = i-end - i
 
 row-count-requires : tie.Need-row-count-requires Inv-loop μ-loop
-row-count-requires c κs = let g = c .before .before .pre .0 in (g .ordered .slots .few, g .roomy .few-tones)
+row-count-requires c κs = let g = c .before .before .pre .0 .pack in (g .ordered .slots .few, g .roomy .few-tones)
 
 loop-holds : tie.Need-loop-holds Inv-loop μ-loop
 loop-holds c = (c .row-count .ensures .0, write-begun _ _ _ _ _ (omega arith))
