@@ -9,5 +9,6 @@ use Rattle.tonekit_sheet.specs.Sheet.{sheet}
 
 -- n is that number, and no sheet of a pack that loads is longer
 pub record Suffices (n : ℕ) : Type 0 where
+  -- written out, so that the layout's name is held to it
   pub number : n ≡ 13266
   pub enough : (s : List ℕ) (st : Pst) (e : ℕ) → readPack s ≡ loaded st e → length (sheet (sourceOfPack s st)) ≤ n
