@@ -1,3 +1,4 @@
 pub mod LoopLaws
 pub mod Issues
 pub mod Calls
+pub mod Entries

@@ -2,7 +2,6 @@
 ghost use mathlib.Core.Path.{_≡_};
 ghost use Rattle.tonekit_core.specs.Words.{refusalNumber, issueBit, hasIssue, withIssue, deltaNumber, measuredNumber};
 
-pub mod kinds;
 pub mod layout;
 pub mod limits;
 

@@ -6,10 +6,11 @@ use mathlib.Core.List.{List, [], _∷_, _++_}
 use mathlib.Core.Option.{none, some}
 use native.Mathlib.Omega.{arith}
 use native.Mathlib.Numerals.{add-one}
-use lib.Dec.{eqb, ltb}
+use lib.Dec.{ltb}
 use lib.ListN.{length, getD, set, length-set, length-append, List·getD-append}
 use lib.Seq.{getD-set-other, getD-set-same, getD-at}
-use borrow.Author.Tests.{eqb-true, eqb-false, ltb-true, ltb-false, lt-ltb, le-ltb}
+use borrow.Author.Tests.{ltb-true, ltb-false, lt-ltb, le-ltb}
+use Rattle.tonekit_core.proofs.Entries.{entries-more}
 use Rattle.tonekit_pack.proofs.Split.{split}
 use Rattle.tonekit_expect.specs.Source.{Carried}
 use Rattle.tonekit_expect.specs.declared.Listing.{Listing}
@@ -101,25 +102,24 @@ module _ (s lists : List ℕ) (n : ℕ) (memo : List ℕ) (k : ℕ) (g : MemoFin
   here : keyListing s entry ≡ l
   here = is entry (entry-key key x small)
 
-  right-more : k < 128 → (i : ℕ) → i < k + 1
-      → (seenIn (carriedBy s (listAt s (set memo k entry) i)) (planned s lists n) ≡ true)
-      × (getD (set memo k entry) i 0 / 16777216 ≡ suc (placeIn (carriedBy s (listAt s (set memo k entry) i)) (planned s lists n)))
-  right-more r i h =
-      split (eqb i k)
-      (λ q. let e : i ≡ k = eqb-true i k q in
-      let a : getD (set memo k entry) i 0 ≡ entry = ap (λ (j : ℕ). getD (set memo k entry) j 0) e ∙ getD-set-same memo k entry 0 (omega (arith, g .slots)) in
-      let b : carriedBy s (listAt s (set memo k entry) i) ≡ carriedBy s l = ap (λ (m : ℕ). carriedBy s (keyListing s m)) a ∙ ap (carriedBy s) here in (
+  -- what is right of an entry
+  abbrev Right : ℕ → Type 0
+  Right m =
+      (seenIn (carriedBy s (keyListing s m)) (planned s lists n) ≡ true)
+      × (m / 16777216 ≡ suc (placeIn (carriedBy s (keyListing s m)) (planned s lists n)))
+
+  right : Right entry
+  right =
+      let b : carriedBy s (keyListing s entry) ≡ carriedBy s l = ap (carriedBy s) here in (
         ap (λ (v : List Carried). seenIn v (planned s lists n)) b ∙ seen,
-        ap (λ (m : ℕ). m / 16777216) a ∙ entry-number key x small ∙ place ∙ ap (λ (v : List Carried). suc (placeIn v (planned s lists n))) (sym b),
-      ))
-      (λ q. let e : i ≡ k → ⊥ = eqb-false i k q in
-      rw (getD-set-other memo k i entry 0 e) (g .right i (omega (arith, e))))
+        entry-number key x small ∙ place ∙ ap (λ (v : List Carried). suc (placeIn v (planned s lists n))) (sym b),
+      )
 
   memo-more : MemoFine s lists n (memoAfter memo k entry) (knownAfter k)
   memo-more =
       split (ltb k 128)
       (λ t. let r : k < 128 = ltb-true k 128 t in
-      rw t (record { few = omega arith; slots = length-set memo k entry ∙ g .slots; right = right-more r }))
+      rw t (record { few = omega arith; slots = length-set memo k entry ∙ g .slots; right = entries-more (λ i. Right) memo k entry (omega (arith, g .slots)) (g .right) right }))
       (λ t. rw t g)
 
 -- ---- one more list
@@ -131,14 +131,8 @@ module _ (s lists : List ℕ) (n : ℕ) (g : ListsFine s lists n) (e : ℕ) (roo
   lists-more k m = record {
     few = omega arith;
     slots = length-set lists n e ∙ g .slots;
-    each = λ i h.
-        split (eqb i n)
-        (λ q. let z : i ≡ n = eqb-true i n q in rw (z, getD-set-same lists n e 0 (omega (arith, g .slots))) k)
-        (λ q. let z : i ≡ n → ⊥ = eqb-false i n q in rw (getD-set-other lists n i e 0 z) (g .each i (omega (arith, z))));
-    marked = λ i h.
-        split (eqb i n)
-        (λ q. let z : i ≡ n = eqb-true i n q in rw (z, getD-set-same lists n e 0 (omega (arith, g .slots))) m)
-        (λ q. let z : i ≡ n → ⊥ = eqb-false i n q in rw (getD-set-other lists n i e 0 z) (g .marked i (omega (arith, z))));
+    each = entries-more (λ i x. Kept s (keyListing s x)) lists n e (omega (arith, g .slots)) (g .each) k;
+    marked = entries-more (λ i x. x / 16777216 ≡ markOf (carriedBy s (keyListing s x))) lists n e (omega (arith, g .slots)) (g .marked) m;
   }
 
   memo-kept : (memo : List ℕ) (k : ℕ) → MemoFine s lists n memo k → MemoFine s (set lists n e) (n + 1) memo k

@@ -6,10 +6,10 @@ use mathlib.Core.List.{List}
 use native.Mathlib.Omega.{arith}
 use lib.Dec.{eqb}
 use lib.ListN.{length, getD, set}
-use lib.Seq.{getD-set-other, getD-set-same}
 use borrow.Author.Tests.{eqb-true, eqb-false}
 use Rattle.tonekit_core.specs.Loop.{range}
 use Rattle.tonekit_core.proofs.LoopLaws.{range-same}
+use Rattle.tonekit_core.proofs.Entries.{entries-more}
 use Rattle.tonekit_bytes.specs.Fields.{byteAt, u32At}
 use Rattle.tonekit_pack.proofs.Split.{split, absurd-bool}
 use Rattle.tonekit_sheet.specs.Marks.{mixed}
@@ -50,7 +50,4 @@ marked-apart s a b h = split (sameLists s a b) (λ e. absurd (h (mark-same s a b
 
 -- ---- one more mark
 pub marked-more : (s at marks : List ℕ) (n m : ℕ) → Marked s at marks n → n < length marks → m ≡ markAt s (getD at n 0) → Marked s at (set marks n m) (n + 1)
-marked-more s at marks n m g l e i h =
-    split (eqb i n)
-    (λ q. let z : i ≡ n = eqb-true i n q in rw (z, getD-set-same marks n m 0 l) e)
-    (λ q. let z : i ≡ n → ⊥ = eqb-false i n q in rw (getD-set-other marks n i m 0 z) (g i (omega (arith, z))))
+marked-more s at marks n m g l e = entries-more (λ i x. x ≡ markAt s (getD at i 0)) marks n m l g e
