@@ -3,13 +3,14 @@
 use libc::STDIN_FILENO;
 use libc::STDOUT_FILENO;
 use tonekit_core::Answer;
+use tonekit_core::layout;
 
 // The space holds 2 + 65,535 + 10,287 bytes and more, so the answer is that of the whole input
 // (`station-enough` of tonekit_station).
 fn main() {
     let mut space = [0u8; 80000];
     let n = io::read_full(STDIN_FILENO, &mut space);
-    let mut out = [0u8; 64];
+    let mut out = [0u8; layout::JUDGEMENT_SIZE];
     match tonekit_station::judge_input(&space[..n], &mut out) {
         Answer::Written(_) => {
             io::write_all(STDOUT_FILENO, &out);

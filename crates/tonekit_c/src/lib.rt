@@ -52,7 +52,8 @@ fn hand_answer(a: Answer, place: &mut u64) -> u32
 // Whether the bytes are a pack: 0, or the refusal's number.
 #[no_mangle]
 pub extern "C" fn tonekit_check_pack(pack: &[u8], place: &mut u64) -> u32
-    ensures { λ r. ⌜ (r ≡ checkedNumber (checkPack (now (pack .entry)))) × (now (place .exit) ≡ checkedPlace (checkPack (now (pack .entry)))) ⌝ }
+    ensures { λ r. ⌜ (r ≡ checkedNumber (checkPack (now (pack .entry))))
+        × (now (place .exit) ≡ checkedPlace (checkPack (now (pack .entry)))) ⌝ }
 {
     hand_checked(tonekit_pack::check_pack(pack), place)
 }
@@ -60,7 +61,8 @@ pub extern "C" fn tonekit_check_pack(pack: &[u8], place: &mut u64) -> u32
 // Whether the bytes are a query: 0, or the refusal's number.
 #[no_mangle]
 pub extern "C" fn tonekit_check_query(query: &[u8], place: &mut u64) -> u32
-    ensures { λ r. ⌜ (r ≡ checkedNumber (checkQuery (now (query .entry)))) × (now (place .exit) ≡ checkedPlace (checkQuery (now (query .entry)))) ⌝ }
+    ensures { λ r. ⌜ (r ≡ checkedNumber (checkQuery (now (query .entry))))
+        × (now (place .exit) ≡ checkedPlace (checkQuery (now (query .entry)))) ⌝ }
 {
     hand_checked(tonekit_query::check_query(query), place)
 }
@@ -68,7 +70,8 @@ pub extern "C" fn tonekit_check_query(query: &[u8], place: &mut u64) -> u32
 // Whether the bytes are a sheet: 0, or the refusal's number.
 #[no_mangle]
 pub extern "C" fn tonekit_check_sheet(sheet: &[u8], place: &mut u64) -> u32
-    ensures { λ r. ⌜ (r ≡ checkedNumber (checkSheet (now (sheet .entry)))) × (now (place .exit) ≡ checkedPlace (checkSheet (now (sheet .entry)))) ⌝ }
+    ensures { λ r. ⌜ (r ≡ checkedNumber (checkSheet (now (sheet .entry))))
+        × (now (place .exit) ≡ checkedPlace (checkSheet (now (sheet .entry)))) ⌝ }
 {
     hand_checked(tonekit_sheet_read::check_sheet(sheet), place)
 }
@@ -76,7 +79,8 @@ pub extern "C" fn tonekit_check_sheet(sheet: &[u8], place: &mut u64) -> u32
 // Writes the sheet of a pack: 0 and its bytes, or the refusal's number and nothing.
 #[no_mangle]
 pub extern "C" fn tonekit_write_sheet(pack: &[u8], out: &mut [u8], place: &mut u64) -> u32
-    ensures { λ r. ⌜ Hands (sheetOutcome (now (pack .entry))) (now (out .entry)) r (now (place .exit)) (now (out .exit)) ⌝ }
+    ensures { λ r. ⌜ Hands (sheetOutcome (now (pack .entry))) (now (out .entry)) r (now (place .exit))
+        (now (out .exit)) ⌝ }
 {
     hand_answer(tonekit_sheet_write::write_sheet(pack, out), place)
 }
@@ -84,7 +88,8 @@ pub extern "C" fn tonekit_write_sheet(pack: &[u8], out: &mut [u8], place: &mut u
 // Writes the shape record of a query: 0 and 124 bytes, or the refusal's number and nothing.
 #[no_mangle]
 pub extern "C" fn tonekit_write_shape(query: &[u8], out: &mut [u8], place: &mut u64) -> u32
-    ensures { λ r. ⌜ Hands (shapeOutcome (now (query .entry))) (now (out .entry)) r (now (place .exit)) (now (out .exit)) ⌝ }
+    ensures { λ r. ⌜ Hands (shapeOutcome (now (query .entry))) (now (out .entry)) r (now (place .exit))
+        (now (out .exit)) ⌝ }
 {
     hand_answer(tonekit_shape::write_shape(query, out), place)
 }
@@ -92,7 +97,8 @@ pub extern "C" fn tonekit_write_shape(query: &[u8], out: &mut [u8], place: &mut 
 // Judges a query against a pack: 0 and the record of 64 bytes, or the refusal's number and nothing.
 #[no_mangle]
 pub extern "C" fn tonekit_judge(pack: &[u8], query: &[u8], out: &mut [u8], place: &mut u64) -> u32
-    ensures { λ r. ⌜ Hands (judgeOutcome (now (pack .entry)) (now (query .entry))) (now (out .entry)) r (now (place .exit)) (now (out .exit)) ⌝ }
+    ensures { λ r. ⌜ Hands (judgeOutcome (now (pack .entry)) (now (query .entry))) (now (out .entry)) r
+        (now (place .exit)) (now (out .exit)) ⌝ }
 {
     hand_answer(tonekit_station::judge(pack, query, out), place)
 }
@@ -105,7 +111,8 @@ pub extern "C" fn tonekit_judge_sheet(
     out: &mut [u8],
     place: &mut u64,
 ) -> u32
-    ensures { λ r. ⌜ Hands (judgeSheetOutcome (now (sheet .entry)) (now (query .entry))) (now (out .entry)) r (now (place .exit)) (now (out .exit)) ⌝ }
+    ensures { λ r. ⌜ Hands (judgeSheetOutcome (now (sheet .entry)) (now (query .entry))) (now (out .entry)) r
+        (now (place .exit)) (now (out .exit)) ⌝ }
 {
     hand_answer(tonekit_station::judge_sheet(sheet, query, out), place)
 }

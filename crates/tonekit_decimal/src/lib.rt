@@ -191,7 +191,8 @@ fn put_figures(text: &mut [u8; 192], at: usize, a: &[u8; 190], low: usize, n: us
 // Writes a number at an index, and answers the index behind it.
 fn put_number(text: &mut [u8; 192], at: usize, a: &[u8; 190]) -> usize
     requires { ⌜ at ≤ 1 ⌝ }
-    ensures { λ r. ⌜ (r ≡ at + length (numberText (now (a .entry)))) × (r ≤ 192) × (now (text .exit) ≡ sets (now (text .entry)) at (numberText (now (a .entry)))) ⌝ }
+    ensures { λ r. ⌜ (r ≡ at + length (numberText (now (a .entry)))) × (r ≤ 192)
+        × (now (text .exit) ≡ sets (now (text .entry)) at (numberText (now (a .entry)))) ⌝ }
 {
     let n = whole_count(a);
     put_figures(text, at, a, 151, n);

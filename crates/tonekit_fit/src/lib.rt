@@ -76,7 +76,8 @@ fn seconds(j: usize) -> f64
 // The sums of the voiced frames' times and of their Chao values.
 fn sum_points(frames: &[u8], first: usize, chao: &[f64]) -> Sums
     requires { ⌜ (first ≤ 1024) × (length (now chao) ≤ 1024) ⌝ }
-    ensures { λ r. ⌜ r ≡ pointSums (record { frames = now (frames .entry); first = first; chao = now (chao .entry) }) ⌝ }
+    ensures { λ r. ⌜ r ≡ pointSums
+        (record { frames = now (frames .entry); first = first; chao = now (chao .entry) }) ⌝ }
 {
     let mut x = 0.0;
     let mut y = 0.0;
@@ -93,7 +94,8 @@ fn sum_points(frames: &[u8], first: usize, chao: &[f64]) -> Sums
 // mean.
 fn sum_products(frames: &[u8], first: usize, chao: &[f64], mx: f64, my: f64) -> Sums
     requires { ⌜ (first ≤ 1024) × (length (now chao) ≤ 1024) ⌝ }
-    ensures { λ r. ⌜ r ≡ productSums (record { frames = now (frames .entry); first = first; chao = now (chao .entry) }) mx my ⌝ }
+    ensures { λ r. ⌜ r ≡ productSums
+        (record { frames = now (frames .entry); first = first; chao = now (chao .entry) }) mx my ⌝ }
 {
     let mut x = 0.0;
     let mut y = 0.0;
@@ -111,7 +113,8 @@ fn sum_products(frames: &[u8], first: usize, chao: &[f64], mx: f64, my: f64) -> 
 // `count`; 0 where the times do not vary.
 pub fn line_slope(frames: &[u8], first: usize, count: usize, chao: &[f64]) -> f64
     requires { ⌜ (first ≤ 1024) × (length (now chao) ≤ 1024) ⌝ }
-    ensures { λ r. ⌜ r ≡ lineSlope (record { frames = now (frames .entry); first = first; chao = now (chao .entry) }) count ⌝ }
+    ensures { λ r. ⌜ r ≡ lineSlope (record { frames = now (frames .entry); first = first; chao = now (chao .entry) })
+        count ⌝ }
 {
     let n = tonekit_float::f64_of(count);
     let sums = sum_points(frames, first, chao);
@@ -125,7 +128,8 @@ pub fn line_slope(frames: &[u8], first: usize, count: usize, chao: &[f64]) -> f6
 // The sum of the voiced frames' fractions of the part; last is one less than its frames.
 fn sum_fractions(frames: &[u8], first: usize, chao: &[f64], last: f64) -> f64
     requires { ⌜ (first ≤ 1024) × (length (now chao) ≤ 1024) ⌝ }
-    ensures { λ r. ⌜ r ≡ voicedSum (record { frames = now (frames .entry); first = first; chao = now (chao .entry) }) (fraction last) ⌝ }
+    ensures { λ r. ⌜ r ≡ voicedSum (record { frames = now (frames .entry); first = first; chao = now (chao .entry) })
+        (fraction last) ⌝ }
 {
     let mut t = 0.0;
     for j in 0..chao.len() {
@@ -156,7 +160,8 @@ fn point_added(m: Moments, x: f64, y: f64) -> Moments
 // The sums over the voiced frames.
 fn moments_of(frames: &[u8], first: usize, chao: &[f64], last: f64, mx: f64) -> Moments
     requires { ⌜ (first ≤ 1024) × (length (now chao) ≤ 1024) ⌝ }
-    ensures { λ r. ⌜ r ≡ momentsOf (record { frames = now (frames .entry); first = first; chao = now (chao .entry) }) last mx ⌝ }
+    ensures { λ r. ⌜ r ≡ momentsOf (record { frames = now (frames .entry); first = first; chao = now (chao .entry) })
+        last mx ⌝ }
 {
     let mut m = Moments {
         s: [0.0; 5],
@@ -268,7 +273,8 @@ fn lead(start: [[f64; 4]; 3]) -> f64
 // part, over the voiced frames, of which there are `count`; 0 where they determine no parabola.
 pub fn quadratic_coefficient(frames: &[u8], first: usize, count: usize, chao: &[f64]) -> f64
     requires { ⌜ (first ≤ 1024) × (length (now chao) ≤ 1024) × (1 ≤ length (now chao)) ⌝ }
-    ensures { λ r. ⌜ r ≡ quadraticCoefficient (record { frames = now (frames .entry); first = first; chao = now (chao .entry) }) count ⌝ }
+    ensures { λ r. ⌜ r ≡ quadraticCoefficient
+        (record { frames = now (frames .entry); first = first; chao = now (chao .entry) }) count ⌝ }
 {
     let last = tonekit_float::f64_of(chao.len() - 1);
     let mx = sum_fractions(frames, first, chao, last) / tonekit_float::f64_of(count);

@@ -287,7 +287,8 @@ fn prev_held(s: &[u8], p: Pack, prev: u8) -> bool
 // hold zeros before, and the components in their slots after. The pack is one that was read from s.
 pub fn gather(s: &[u8], p: Pack, c: Context, weights: &mut [f32], points: &mut [f32]) -> Gathered
     requires { ⌜ ReadFrom (now s) p × Blank (now weights) (now points) ⌝ }
-    ensures { λ r. ⌜ Gathers (sourceOfPack (now (s .entry)) (shown p)) c r (now (weights .exit)) (now (points .exit)) ⌝ }
+    ensures { λ r. ⌜ Gathers (sourceOfPack (now (s .entry)) (shown p)) c r (now (weights .exit))
+        (now (points .exit)) ⌝ }
 {
     let g = accent_held(s, p, c.accent);
     let tolerance = g.tolerance;

@@ -216,7 +216,8 @@ fn draw(chao: &mut [f64], frames: &[u8], first: usize, floor: f32, ceil: f32)
 // Where the smoothed curve turns; the curve is smoothed where it stands.
 fn turn_of(chao: &mut [f64]) -> Turning
     requires { ⌜ (2 ≤ length (now chao)) × (length (now chao) ≤ 1024) ⌝ }
-    ensures { λ r. ⌜ (r ≡ turningPoint (smoothed (now (chao .entry)))) × (now (chao .exit) ≡ smoothed (now (chao .entry))) ⌝ }
+    ensures { λ r. ⌜ (r ≡ turningPoint (smoothed (now (chao .entry))))
+        × (now (chao .exit) ≡ smoothed (now (chao .entry))) ⌝ }
 {
     curve::smooth(chao);
     tonekit_contour::turning_point(chao)
@@ -278,7 +279,9 @@ pub fn shape_of(frames: &[u8], e: Extent, start: u32, end: u32, floor: f32, ceil
 // The call `write_shape` for a query that loads, whose frames are these.
 fn write_shaped(frames: &[u8], q: Query, out: &mut [u8]) -> Answer
     requires { ⌜ q .count ≤ 1024 ⌝ }
-    ensures { λ r. ⌜ Delivers (shaped (now (frames .entry)) q (extentOf (now (frames .entry)) (q .count) (q .start) (q .end))) (now (out .entry)) r (now (out .exit)) ⌝ }
+    ensures { λ r. ⌜ Delivers
+        (shaped (now (frames .entry)) q (extentOf (now (frames .entry)) (q .count) (q .start) (q .end)))
+        (now (out .entry)) r (now (out .exit)) ⌝ }
 {
     let e = voiced_frames(frames, q.count, q.start, q.end);
     if e.count < 3 {

@@ -221,7 +221,8 @@ fn with_sheet_tone(i: Inventory, t: usize, s: &[u8], o: usize, name: Named) -> I
 // zeros before, and the components in their slots after. The sheet is one that was read from s.
 fn listings(s: &[u8], st: Sheet, c: Context, weights: &mut [f32], points: &mut [f32]) -> Inventory
     requires { ⌜ ReadFrom (now s) st × Blank (now weights) (now points) ⌝ }
-    ensures { λ r. ⌜ Lists (sourceOfSheet (now (s .entry)) (shown st)) c r (now (weights .exit)) (now (points .exit)) ⌝ }
+    ensures { λ r. ⌜ Lists (sourceOfSheet (now (s .entry)) (shown st)) c r (now (weights .exit))
+        (now (points .exit)) ⌝ }
 {
     let mut i = tonekit_inventory::no_inventory(st.tones);
     for t in 0..st.tones {
@@ -274,7 +275,8 @@ fn prev_held(s: &[u8], st: Sheet, prev: u8) -> bool
 // hold zeros before, and the components in their slots after. The sheet is one that was read from s.
 pub fn gather(s: &[u8], st: Sheet, c: Context, weights: &mut [f32], points: &mut [f32]) -> Gathered
     requires { ⌜ ReadFrom (now s) st × Blank (now weights) (now points) ⌝ }
-    ensures { λ r. ⌜ Gathers (sourceOfSheet (now (s .entry)) (shown st)) c r (now (weights .exit)) (now (points .exit)) ⌝ }
+    ensures { λ r. ⌜ Gathers (sourceOfSheet (now (s .entry)) (shown st)) c r (now (weights .exit))
+        (now (points .exit)) ⌝ }
 {
     let g = accent_held(s, st, c.accent);
     let tolerance = g.tolerance;

@@ -164,7 +164,8 @@ pub fn row_wrong(s: &[u8], st: Sheet) -> Found
 // The first row from a row on that names list n, or the number of rows.
 fn use_from(s: &[u8], st: Sheet, n: usize, from: usize) -> usize
     requires { ⌜ Roomy st × (from ≤ st .rows) ⌝ }
-    ensures { λ r. ⌜ (r ≤ st .rows) × (ltb r (st .rows) ≡ range (namesTurn (now (s .entry)) (shown st) n) from (st .rows) false) ⌝ }
+    ensures { λ r. ⌜ (r ≤ st .rows)
+        × (ltb r (st .rows) ≡ range (namesTurn (now (s .entry)) (shown st) n) from (st .rows) false) ⌝ }
 {
     for r in from..st.rows {
         let o = row_at(st, r);

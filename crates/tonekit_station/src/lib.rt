@@ -121,7 +121,8 @@ fn judge_gathered(
 // Judges a query against a pack and writes the record of 64 bytes. Refuses what the readers refuse,
 // then 11 to 15 and a short buffer (9, with the length needed); then the buffer is as it was.
 pub fn judge(pack: &[u8], query: &[u8], out: &mut [u8]) -> Answer
-    ensures { λ r. ⌜ Delivers (judgeOutcome (now (pack .entry)) (now (query .entry))) (now (out .entry)) r (now (out .exit)) ⌝ }
+    ensures { λ r. ⌜ Delivers (judgeOutcome (now (pack .entry)) (now (query .entry))) (now (out .entry)) r
+        (now (out .exit)) ⌝ }
 {
     let l = tonekit_pack::load_pack(pack);
     let read = l.read;
@@ -142,7 +143,8 @@ pub fn judge(pack: &[u8], query: &[u8], out: &mut [u8]) -> Answer
 
 // Judges a query against a sheet, as `judge` does against a pack.
 pub fn judge_sheet(sheet: &[u8], query: &[u8], out: &mut [u8]) -> Answer
-    ensures { λ r. ⌜ Delivers (judgeSheetOutcome (now (sheet .entry)) (now (query .entry))) (now (out .entry)) r (now (out .exit)) ⌝ }
+    ensures { λ r. ⌜ Delivers (judgeSheetOutcome (now (sheet .entry)) (now (query .entry))) (now (out .entry)) r
+        (now (out .exit)) ⌝ }
 {
     let l = tonekit_sheet_read::load_sheet(sheet);
     let read = l.read;
@@ -154,7 +156,13 @@ pub fn judge_sheet(sheet: &[u8], query: &[u8], out: &mut [u8]) -> Answer
         QueryRead::Good(q) => {
             let mut weights = [0.0f32; 32];
             let mut points = [0.0f32; 320];
-            let g = tonekit_sheet_inventory::gather(sheet, held, context_of(q), &mut weights, &mut points);
+            let g = tonekit_sheet_inventory::gather(
+                sheet,
+                held,
+                context_of(q),
+                &mut weights,
+                &mut points,
+            );
             judge_gathered(g, &weights, &points, query, q, out)
         }
         QueryRead::Refused(r, place) => Answer::Refused(r, place),

@@ -119,7 +119,8 @@ fn with_target(g: Targets, k: usize, place: usize, weight: f32) -> Targets
 // The targets of a query that loads, among the inventory's tones; not held where one of them is not.
 pub fn targets_of(tones: usize, numbers: [u8; 8], query: &[u8], tone: u8, variants: u8) -> Aimed
     requires { ⌜ (tones ≤ 8) × (variants ≤ 4) ⌝ }
-    ensures { λ r. ⌜ (aimOf r ≡ targetsOf tones numbers (now (query .entry)) tone variants) × (r .held ≡ true → Placed tones (r .targets)) ⌝ }
+    ensures { λ r. ⌜ (aimOf r ≡ targetsOf tones numbers (now (query .entry)) tone variants)
+        × (r .held ≡ true → Placed tones (r .targets)) ⌝ }
 {
     let main = main_weight(query, variants);
     let count = variants as usize + 1;
