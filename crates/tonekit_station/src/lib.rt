@@ -84,7 +84,8 @@ fn judge_gathered(
     out: &mut [u8],
 ) -> Answer
     requires { ⌜ Sound (listedOf (g .inventory) (now weights) (now points)) × (q .count ≤ 1024) × (q .variants ≤ 4) ⌝ }
-    ensures { λ r. ⌜ Delivers (judgeGathered (gatheringOf g (now (weights .entry)) (now (points .entry))) (now (query .entry)) q)
+    ensures { λ r. ⌜ Delivers
+        (judgeGathered (gatheringOf g (now (weights .entry)) (now (points .entry))) (now (query .entry)) q)
         (now (out .entry)) r (now (out .exit)) ⌝ }
 {
     let frames = tonekit_query::frames(query, q.count);
