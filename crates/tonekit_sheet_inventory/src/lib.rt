@@ -204,8 +204,8 @@ fn put_list(s: &[u8], list: Found, t: usize, weights: &mut [f32], points: &mut [
 // The inventory with tone t of a sheet, whose record stands at o, and its list's name.
 fn with_sheet_tone(i: Inventory, t: usize, s: &[u8], o: usize, name: Named) -> Inventory
     requires { ⌜ (t < 8) × (o < 65536) ⌝ }
-    ensures { λ r. ⌜ r ≡ withTone t (byteAt (now (s .entry)) (o + ownNumber)) (f32At (now (s .entry)) (o + sheetTonePrior))
-        (regionAt (now (s .entry)) (o + sheetToneRegion)) name i ⌝ }
+    ensures { λ r. ⌜ r ≡ withTone t (byteAt (now (s .entry)) (o + ownNumber))
+        (f32At (now (s .entry)) (o + sheetTonePrior)) (regionAt (now (s .entry)) (o + sheetToneRegion)) name i ⌝ }
 {
     tonekit_inventory::with_tone(
         i,
