@@ -63,8 +63,8 @@ class Done:
 
 def tonekit(*words, data=b'', tool=TOOL, **more):
     """Runs the tool, without the packages of the machine, which it does not need: that halves the time of its start."""
-    more = {'env': ENVIRONMENT, 'stdout': subprocess.PIPE, **more}
-    return Done(subprocess.run([sys.executable, '-B', '-S', tool, *words], input=data, stderr=subprocess.PIPE, timeout=100, **more))
+    more = {'env': ENVIRONMENT, 'stdout': subprocess.PIPE, 'stderr': subprocess.PIPE, 'timeout': 100, **more}
+    return Done(subprocess.run([sys.executable, '-B', '-S', tool, *words], input=data, **more))
 
 
 @contextlib.contextmanager

@@ -9,7 +9,8 @@ import subprocess
 import sys
 
 import harness
-from harness import ENVIRONMENT, PACK, PROGRAMS, QUERY, SAID, SHEET, expect, expect_refused, folder, listing, put, refusal, tonekit
+from harness import (ENVIRONMENT, PACK, PROGRAMS, QUERY, SAID, SHEET, expect, expect_refused, folder, listing, put, refusal,
+                     tonekit)
 
 from tonekit_tool import files
 from test_inputs import HAS_PLOT, prepared
@@ -30,10 +31,11 @@ def all_prepared(at):
 def test_full_standard_output():
     for unbuffered in ({}, {'PYTHONUNBUFFERED': '1'}):
         for words in TO_STDOUT:
-            with folder() as at, open('/dev/full', 'wb') as full:
+            with folder() as at, open('/dev/full', 'wb') as device:
                 all_prepared(at)
-                done = tonekit(*words, cwd=at, stdout=full, env={**ENVIRONMENT, **unbuffered})
-                expect(f'{words} into a full device {unbuffered}', refusal(done, 2, 'standard output: No space left on device'), done)
+                done = tonekit(*words, cwd=at, stdout=device, env={**ENVIRONMENT, **unbuffered})
+                full = refusal(done, 2, 'standard output: No space left on device')
+                expect(f'{words} into a full device {unbuffered}', full, done)
 
 
 def limited():
@@ -121,16 +123,16 @@ CHECKING = [['pack', 'text', '-o', 'out'], ['unpack', 'pack'], ['query', 'track'
 def test_programs_that_fail():
     """Each program in turn is missing, cannot be run, crashes, fails with words, or is another one."""
     for name, words in RUN:
+        other = 'are no answer of' if name != 'check' else 'is not the one that checks'
         for told, body, mode in ((f'the program {name} is not there', None, 0), ('cannot be run: Permission denied', '', 0o644),
                                  ('cannot be run: Exec format error', 'no program', 0o755),
                                  ('failed, status -11', '#!/bin/sh\nkill -SEGV $$\n', 0o755),
                                  ('failed, status 3: no memory', '#!/bin/sh\necho no memory >&2\nexit 3\n', 0o755),
-                                 ('are no answer of' if name != 'check' else 'is not the one that checks', '#!/bin/sh\ncat\n', 0o755),
-                                 ('are no answer of' if name != 'check' else 'is not the one that checks', '#!/bin/sh\n', 0o755)):
+                                 (other, '#!/bin/sh\ncat\n', 0o755), (other, '#!/bin/sh\n', 0o755)):
             with folder() as at, folder() as programs:
                 all_prepared(at)
-                for other in set(os.listdir(PROGRAMS)) - {name}:
-                    shutil.copy(os.path.join(PROGRAMS, other), programs)
+                for good in set(os.listdir(PROGRAMS)) - {name}:
+                    shutil.copy(os.path.join(PROGRAMS, good), programs)
                 if body is not None:
                     program(programs, name, body, mode)
                 before = listing(at)

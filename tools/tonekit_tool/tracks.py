@@ -4,6 +4,7 @@ import csv
 import re
 from typing import NamedTuple, Optional
 
+from .files import lines_of
 from .floats import F32, NotANumber, parsed
 
 # Seconds. The library takes a frame as 10 ms; a step within 1 % of it keeps durations and slopes within 1 %.
@@ -94,7 +95,7 @@ def csv_frame(row, at, where):
 
 def read_csv(text):
     """The frames of a CSV, one to a row, each 10 ms after the one before."""
-    lines = [(i, line) for i, line in enumerate(text.splitlines(), 1) if line.strip() and not line.startswith('#')]
+    lines = [(i, line) for i, line in enumerate(lines_of(text), 1) if line.strip() and not line.startswith('#')]
     if not lines:
         raise TrackFault('the track is empty')
     rows = list(csv.reader([line for _, line in lines], delimiter=separator(lines[0][1])))
