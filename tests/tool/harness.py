@@ -17,6 +17,7 @@ COUNTS = {'passed': 0, 'failed': 0}
 # As a user's: Python keeps its buffers.
 ENVIRONMENT = {name: value for name, value in os.environ.items() if not name.startswith('PYTHON')}
 ENVIRONMENT.update(TONEKIT_PROGRAMS=PROGRAMS, LC_ALL='C.UTF-8')
+os.environ['TONEKIT_PROGRAMS'] = PROGRAMS
 
 
 def expect(name, holds, found=''):

@@ -1,6 +1,7 @@
 """A machine that fails: full disks, programs that are missing or crash, outputs that cannot be written. Status 2, in words, and
 nothing half-written."""
 import contextlib
+import io
 import os
 import resource
 import shutil
@@ -12,7 +13,7 @@ import harness
 from harness import (ENVIRONMENT, PACK, PROGRAMS, QUERY, SAID, SHEET, expect, expect_refused, folder, listing, put, refusal,
                      tonekit)
 
-from tonekit_tool import files
+from tonekit_tool import cli, files, programs
 from test_inputs import HAS_PLOT, prepared
 
 TO_STDOUT = [['check', 'pack'], ['judge', '--pack', 'pack', 'query'], ['judge', '--csv', '--sheet', 'sheet', 'query'],
@@ -185,6 +186,16 @@ def test_what_is_begun_is_taken_away():
             files.write_together([(os.path.join(at, 'one'), b'1'), (os.path.join(at, 'no', 'two'), b'2')])
         except files.Failed as error:
             expect('of two files none is written', os.listdir(at) == [] and 'No such file' in str(error), os.listdir(at))
+
+
+def test_a_fault_of_the_tool_is_no_refusal():
+    whole, programs.check = programs.check, lambda *_: 1 // 0
+    told, sys.stderr = sys.stderr, io.StringIO()
+    try:
+        status, words = cli.run(['check', harness.TOOL]), sys.stderr.getvalue()
+    finally:
+        programs.check, sys.stderr = whole, told
+    expect('a fault of the tool has status 2', status == 2 and 'a fault of the tool itself' in words, words)
 
 
 def test_a_reader_that_goes_away():

@@ -140,7 +140,8 @@ DAMAGED = [
     ('a PitchTier cut short', pitch_tier(True)[:400], 'the file ends before'),
     ('a Pitch without frames', praat('Pitch 1', '0\n1\n0\n0.01\n0\n600\n15\n'), 'the track has no frames'),
     ('a binary file', 'ooBinaryFile\x05Pitch 1', 'save it as a text file'),
-    ('bytes', bytes(range(256)), 'track: '),
+    ('bytes', bytes(range(256)), 'track: '), ('one long line', 'x' * 200000, 'line 1: '), ('a quote left open', '"0,110\n', 'track: '),
+    ('NUL', b'time,hz\n0,1\x0010\n', 'line 2: '),
     ('1,025 frames', ''.join(f'{i / 100},110\n' for i in range(1025)), 'has 1025 frames, and a query at most 1,024', '--part'),
 ]
 

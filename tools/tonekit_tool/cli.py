@@ -5,6 +5,7 @@ import math
 import os
 import signal
 import sys
+import traceback
 
 from . import __version__, commands, judging
 from .files import Failed, reason
@@ -183,6 +184,11 @@ def run(words):
         complain(error)
     except KeyboardInterrupt:
         complain('tonekit: interrupted')
+    except OSError:
+        raise
+    except Exception:
+        # A fault of the tool is no refusal of an input.
+        complain(f'tonekit: a fault of the tool itself\n{traceback.format_exc()}')
     return 2
 
 
