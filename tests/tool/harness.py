@@ -17,6 +17,7 @@ COUNTS = {'passed': 0, 'failed': 0}
 # As a user's: Python keeps its buffers.
 ENVIRONMENT = {name: value for name, value in os.environ.items() if not name.startswith('PYTHON')}
 ENVIRONMENT.update(TONEKIT_PROGRAMS=PROGRAMS, LC_ALL='C.UTF-8')
+os.environ['TONEKIT_PROGRAMS'] = PROGRAMS
 
 
 def expect(name, holds, found=''):
@@ -63,8 +64,8 @@ class Done:
 
 def tonekit(*words, data=b'', tool=TOOL, **more):
     """Runs the tool, without the packages of the machine, which it does not need: that halves the time of its start."""
-    more = {'env': ENVIRONMENT, 'stdout': subprocess.PIPE, **more}
-    return Done(subprocess.run([sys.executable, '-B', '-S', tool, *words], input=data, stderr=subprocess.PIPE, timeout=100, **more))
+    more = {'env': ENVIRONMENT, 'stdout': subprocess.PIPE, 'stderr': subprocess.PIPE, 'timeout': 100, **more}
+    return Done(subprocess.run([sys.executable, '-B', '-S', tool, *words], input=data, **more))
 
 
 @contextlib.contextmanager

@@ -29,7 +29,8 @@ def damaged(chance, data):
 def faults_of(data):
     """The records that the table finds off scale, by offset."""
     found = records(data)
-    return {r.offset: explain.off_scale(found, i) for i, r in enumerate(found) if r.values is not None and explain.off_scale(found, i)}
+    faults = {r.offset: explain.off_scale(found, i) for i, r in enumerate(found) if r.values is not None}
+    return {offset: words for offset, words in faults.items() if words}
 
 
 def wrong(of, data):
@@ -77,11 +78,11 @@ def test_names_are_the_headers():
 
 def test_crowded_files():
     """A ninth tone, a second part of a single rule, a fifth of a mixture, and counts past their limits."""
-    tone = PACK[9:65]
+    tones = b''.join(changed(PACK[9:65], 1, bytes([i])) for i in range(1, 10))
     rule, part = PACK[308:315], PACK[315:361]
     mixture = struct.pack('<BHBBBB', 4, 1, 0, 0, 0, 3)
     for name, data, told in [
-            ('a ninth tone', PACK[:9] + b''.join(changed(tone, 1, bytes([i])) for i in range(1, 10)) + PACK[289:], 'tone number 9 of the file'),
+            ('a ninth tone', PACK[:9] + tones + PACK[289:], 'tone number 9 of the file'),
             ('a second part', PACK[:361] + part + PACK[361:], 'part number 2 of rule 30'),
             ('a fifth part', PACK[:308] + mixture + part * 5 + PACK[308:], 'part number 5 of rule 1'),
             ('a 65th rule', PACK[:308] + (rule + part) * 65 + PACK[308:], 'rule number 65 of the file'),

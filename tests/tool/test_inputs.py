@@ -59,7 +59,8 @@ def test_good_input():
             expect(f'{before} on good input', done.status == 0 and not done.err, done)
             out = listing(at).get('out') if 'out' in before else done.out
             expect(f'{before} gives something', bool(out), done)
-            expect(f'{before} leaves nothing else', set(listing(at)) <= {'pack', 'sheet', 'query', 'input', 'out'}, listing(at).keys())
+            left = set(listing(at)) - {'pack', 'sheet', 'query', 'input', 'out'}
+            expect(f'{before} leaves nothing else', not left, left)
 
 
 def test_damaged_empty_huge_and_missing_input():
@@ -71,7 +72,7 @@ def test_damaged_empty_huge_and_missing_input():
                 expect_refused(f'{before} on {name} input', at, [*before, name, *behind], 1, f'{name}: ', *words)
         with folder() as at:
             prepared(at)
-            expect_refused(f'{before} on missing input', at, [*before, 'missing', *behind], 2, 'missing: No such file or directory')
+            expect_refused(f'{before} on missing input', at, [*before, 'missing', *behind], 2, 'missing: No such file or dir')
 
 
 def test_an_output_that_was_there_stays():
@@ -90,8 +91,8 @@ def test_random_bytes():
     with folder() as at:
         prepared(at)
         put(at, 'noise', noise)
-        for words in (['check'], ['check', '--as', 'query'], ['show'], ['judge', '--pack', 'pack'], ['shape'], ['sheet', '-o', 'out'],
-                      ['unpack'], ['pack', '-o', 'out'], ['query', '-o', 'out', *SAID]):
+        for words in (['check'], ['check', '--as', 'query'], ['show'], ['judge', '--pack', 'pack'], ['shape'],
+                      ['sheet', '-o', 'out'], ['unpack'], ['pack', '-o', 'out'], ['query', '-o', 'out', *SAID]):
             expect_refused(f'{words} on 5 MB of noise', at, [*words, 'noise'], 1, 'noise: ')
 
 
@@ -116,14 +117,16 @@ def test_many_inputs_have_the_greatest_status():
         for names, status in ((['pack', 'query', 'sheet'], 0), (['pack', 'off', 'query'], 1), (['off', 'missing', 'pack'], 2)):
             done = tonekit('check', *names, cwd=at)
             loads = done.out.decode().count(': loads, a ')
-            expect(f'{names} have status {status}', done.status == status and loads == sum(n in ('pack', 'query', 'sheet') for n in names), done)
+            good = len(set(names) - {'off', 'missing'})
+            expect(f'{names} have status {status}', done.status == status and loads == good, done)
 
 
 def test_wrong_use():
     with folder() as at:
         prepared(at)
         for words in ([], ['grade'], ['check'], ['judge', 'query'], ['judge', '--pack', 'pack', '--sheet', 'sheet', 'query'],
-                      ['sheet', 'pack'], ['check', '--as', 'record', 'pack'], ['query', 'query', '-o', 'x'], ['show', 'pack', 'sheet']):
+                      ['sheet', 'pack'], ['check', '--as', 'record', 'pack'], ['query', 'query', '-o', 'x'],
+                      ['show', 'pack', 'sheet']):
             expect_refused(f'used as {words}', at, words, 2, 'usage: tonekit')
         expect_refused('two records into one file', at, ['judge', '--pack', 'pack', '-o', 'x', 'query', 'query'], 2, 'one record')
         expect_refused('standard input twice', at, ['check', '-', '-'], 2, 'was read already')

@@ -1,6 +1,7 @@
 """A machine that fails: full disks, programs that are missing or crash, outputs that cannot be written. Status 2, in words, and
 nothing half-written."""
 import contextlib
+import io
 import os
 import resource
 import shutil
@@ -9,9 +10,10 @@ import subprocess
 import sys
 
 import harness
-from harness import ENVIRONMENT, PACK, PROGRAMS, QUERY, SAID, SHEET, expect, expect_refused, folder, listing, put, refusal, tonekit
+from harness import (ENVIRONMENT, PACK, PROGRAMS, QUERY, SAID, SHEET, expect, expect_refused, folder, listing, put, refusal,
+                     tonekit)
 
-from tonekit_tool import files
+from tonekit_tool import cli, files, programs
 from test_inputs import HAS_PLOT, prepared
 
 TO_STDOUT = [['check', 'pack'], ['judge', '--pack', 'pack', 'query'], ['judge', '--csv', '--sheet', 'sheet', 'query'],
@@ -30,10 +32,11 @@ def all_prepared(at):
 def test_full_standard_output():
     for unbuffered in ({}, {'PYTHONUNBUFFERED': '1'}):
         for words in TO_STDOUT:
-            with folder() as at, open('/dev/full', 'wb') as full:
+            with folder() as at, open('/dev/full', 'wb') as device:
                 all_prepared(at)
-                done = tonekit(*words, cwd=at, stdout=full, env={**ENVIRONMENT, **unbuffered})
-                expect(f'{words} into a full device {unbuffered}', refusal(done, 2, 'standard output: No space left on device'), done)
+                done = tonekit(*words, cwd=at, stdout=device, env={**ENVIRONMENT, **unbuffered})
+                full = refusal(done, 2, 'standard output: No space left on device')
+                expect(f'{words} into a full device {unbuffered}', full, done)
 
 
 def limited():
@@ -121,16 +124,16 @@ CHECKING = [['pack', 'text', '-o', 'out'], ['unpack', 'pack'], ['query', 'track'
 def test_programs_that_fail():
     """Each program in turn is missing, cannot be run, crashes, fails with words, or is another one."""
     for name, words in RUN:
+        other = 'are no answer of' if name != 'check' else 'is not the one that checks'
         for told, body, mode in ((f'the program {name} is not there', None, 0), ('cannot be run: Permission denied', '', 0o644),
                                  ('cannot be run: Exec format error', 'no program', 0o755),
                                  ('failed, status -11', '#!/bin/sh\nkill -SEGV $$\n', 0o755),
                                  ('failed, status 3: no memory', '#!/bin/sh\necho no memory >&2\nexit 3\n', 0o755),
-                                 ('are no answer of' if name != 'check' else 'is not the one that checks', '#!/bin/sh\ncat\n', 0o755),
-                                 ('are no answer of' if name != 'check' else 'is not the one that checks', '#!/bin/sh\n', 0o755)):
+                                 (other, '#!/bin/sh\ncat\n', 0o755), (other, '#!/bin/sh\n', 0o755)):
             with folder() as at, folder() as programs:
                 all_prepared(at)
-                for other in set(os.listdir(PROGRAMS)) - {name}:
-                    shutil.copy(os.path.join(PROGRAMS, other), programs)
+                for good in set(os.listdir(PROGRAMS)) - {name}:
+                    shutil.copy(os.path.join(PROGRAMS, good), programs)
                 if body is not None:
                     program(programs, name, body, mode)
                 before = listing(at)
@@ -183,6 +186,16 @@ def test_what_is_begun_is_taken_away():
             files.write_together([(os.path.join(at, 'one'), b'1'), (os.path.join(at, 'no', 'two'), b'2')])
         except files.Failed as error:
             expect('of two files none is written', os.listdir(at) == [] and 'No such file' in str(error), os.listdir(at))
+
+
+def test_a_fault_of_the_tool_is_no_refusal():
+    whole, programs.check = programs.check, lambda *_: 1 // 0
+    told, sys.stderr = sys.stderr, io.StringIO()
+    try:
+        status, words = cli.run(['check', harness.TOOL]), sys.stderr.getvalue()
+    finally:
+        programs.check, sys.stderr = whole, told
+    expect('a fault of the tool has status 2', status == 2 and 'a fault of the tool itself' in words, words)
 
 
 def test_a_reader_that_goes_away():

@@ -108,12 +108,12 @@ REFUSED = [
     ('prior 0.2  ', 'prior nan  ', 'refused with 5', 'prior is 0x7fc00000'),
     ('tone 2  prior', 'tone 1  prior', 'line 7: the pack is refused with 6, doubled', 'it stands at byte 9 already'),
     ('parent 1', 'parent 9', 'line 27: the pack is refused with 7, loose, at byte 672 (accent 2)', 'parent is 9'),
-    ('weight 0.75', 'weight -0', 'line 16: the pack is refused with 5, off scale, at byte 368 (part 0 of rule 31)', 'weight is -0'),
+    ('weight 0.75', 'weight -0', 'line 16: the pack is refused with 5', 'at byte 368 (part 0 of rule 31)', 'weight is -0'),
     ('final yes  form mixture', 'final yes', 'line 16: the pack is refused with 5', 'weight is 0.75, not 1 in a single rule'),
     ('\nend\n', '\n', 'at the end of the text: the pack is refused with 2, cut short, at byte 915'),
     ('\nend\n', '\nend\nend\n', 'line 39: the pack is refused with 3, overrun, at byte 916'),
     ('settings  temperature 1  threshold 0.5', '', 'line 6: the pack is refused with 1, misplaced, at byte 0'),
-    ('    part  knots 2 1\n', '', 'line 14: the pack is refused with 1, misplaced', 'kind 4, rule, of a pack, stands after rule 30'),
+    ('    part  knots 2 1\n', '', 'line 14: the pack is refused with 1', 'kind 4, rule, of a pack, stands after rule 30'),
 ]
 
 
@@ -137,6 +137,7 @@ def test_only_packs_that_load_become_text():
 
 def test_line_ends_and_marks():
     for name, data in (('CRLF', TEXT.replace('\n', '\r\n').encode()), ('a byte order mark', b'\xef\xbb\xbf' + TEXT.encode()),
-                       ('UTF-16', TEXT.encode('utf-16')), ('Latin-1', TEXT.replace('high', 'h\u00f6her').encode('latin-1'))):
+                       ('UTF-16', TEXT.encode('utf-16')), ('Latin-1', TEXT.replace('high', 'h\u00f6her\x85').encode('latin-1')),
+                       ('CR', TEXT.replace('\n', '\r').encode())):
         expect(f'a text with {name}', tonekit('pack', '-', '-o', '-', data=data).out == PACK)
     expect('examples/sample.pack.txt is the text', content('examples', 'sample.pack.txt').decode() == TEXT)

@@ -38,13 +38,16 @@ def pitch_tier(long, times=TIMES, key='number'):
 def pitch(long, step=0.01, words=('frames', 'candidates')):
     """Every frame with a second candidate that is not chosen; a pitch at the ceiling counts as none."""
     head = {'xmin': 0, 'xmax': 0.35, 'nx': 30, 'dx': step, 'x1': 0.025, 'ceiling': 600, 'maxnCandidates': 15}
-    lines = [f'{name} = {value} ' if long else f'{value}' for name, value in head.items()] + ([f'{words[0]} []: '] if long else [])
+    lines = [f'{name} = {value} ' if long else f'{value}' for name, value in head.items()]
+    lines += [f'{words[0]} []: '] if long else []
     for i, (hz, strength) in enumerate(zip(HERTZ, LOUD), 1):
         chosen = (hz, strength) if hz else ((0, 0.4) if i % 2 else (600, 0.7))
         if long:
-            lines += [f'    {words[0]} [{i}]:', '        intensity = 0.01 ', '        nCandidates = 2 ', f'        {words[1]} []: ']
+            lines += [f'    {words[0]} [{i}]:', '        intensity = 0.01 ', '        nCandidates = 2 ',
+                      f'        {words[1]} []: ']
             for j, (a, b) in enumerate((chosen, (210.5, 0.3)), 1):
-                lines += [f'            {words[1]} [{j}]:', f'                frequency = {a} ', f'                strength = {b} ']
+                lines += [f'            {words[1]} [{j}]:', f'                frequency = {a} ',
+                          f'                strength = {b} ']
         else:
             lines += ['0.01', '2', *map(str, chosen), '210.5', '0.3']
     return praat('Pitch 1', '\n'.join(lines))
@@ -80,7 +83,8 @@ def test_tracks_with_voicing_are_one_query():
     expect_same('voicing', {
         'CSV': csv_of(LOUD), 'CSV with tabs': csv_of(LOUD, mark='\t'), 'CSV with semicolons': csv_of(LOUD, mark=';'),
         'CSV with 0 for none': csv_of(LOUD).replace(',,', ',0,'),
-        'CSV with undefined': csv_of(LOUD).replace(',,', ',--undefined--,'), 'CSV without voicing there': csv_of(LOUD).replace(',,0', ',,'),
+        'CSV with undefined': csv_of(LOUD).replace(',,', ',--undefined--,'),
+        'CSV without voicing there': csv_of(LOUD).replace(',,0', ',,'),
         'CSV of other columns': csv_of(LOUD).replace('time,hz,voicing', 't,f0,confidence'),
         'long Pitch': pitch(True), 'short Pitch': pitch(False), 'older Pitch': pitch(True, words=('frame', 'candidate')),
     }, wanted)
@@ -95,9 +99,11 @@ def test_options():
     """Each option writes its field and nothing else."""
     plain = query_of(CSV)[0]
     for more, place, new in [
-            (['--prev', '0'], 3, b'\x00'), (['--accent', '255'], 1, b'\xff'), (['--span', '3', '4000000000'], 5, struct.pack('<II', 3, 4000000000)),
-            (['--floor', '110Hz'], 13, f32(12)), (['--ceil', '27.5 hz'], 17, f32(-12)), (['--floor', 'nan'], 13, bytes.fromhex('0000c07f')),
-            (['--floor', '-1.5'], 13, f32(-1.5)), (['--issue', 'LowSnr', '--issue', 'creakytail', '--issue', 'LowSnr'], 21, b'\x02\x02'),
+            (['--prev', '0'], 3, b'\x00'), (['--accent', '255'], 1, b'\xff'),
+            (['--span', '3', '4000000000'], 5, struct.pack('<II', 3, 4000000000)), (['--floor', '110Hz'], 13, f32(12)),
+            (['--ceil', '27.5 hz'], 17, f32(-12)), (['--floor', 'nan'], 13, bytes.fromhex('0000c07f')),
+            (['--floor', '-1.5'], 13, f32(-1.5)),
+            (['--issue', 'LowSnr', '--issue', 'creakytail', '--issue', 'LowSnr'], 21, b'\x02\x02'),
             (['--variant', '1', '0.25', '--variant', '2', '-0'], 23, b'\x02\x01' + f32(0.25) + b'\x02' + f32(-0.0))]:
         out, done = query_of(CSV, *more)
         expect(f'{more}', out == plain[:place] + new + plain[place + len(new):] and out != plain, done)
@@ -118,7 +124,7 @@ STEPS = [
     ('short Pitch of 20 ms', pitch(False, step=0.02), 'the step is 20 ms'),
     ('PitchTier of 100 ms', pitch_tier(True, times=[i / 10 for i in range(30)]), 'the step is 100 ms'),
     ('PitchTier of 1 ms', pitch_tier(False, times=[i / 1000 for i in range(30)]), 'the step is 1 ms'),
-    ('PitchTier off its grid', pitch_tier(True, times=[i / 100 + (0.005 if i > 15 else 0) for i in range(30)]), 'point 14: ', '55 ms'),
+    ('PitchTier off its grid', pitch_tier(True, times=[(i + (i > 15) / 2) / 100 for i in range(30)]), 'point 14: ', '55 ms'),
 ]
 DAMAGED = [
     ('empty', '', 'the track is empty'), ('a heading alone', 'time,hz,voicing\n', 'the track has no frames'),
@@ -134,7 +140,8 @@ DAMAGED = [
     ('a PitchTier cut short', pitch_tier(True)[:400], 'the file ends before'),
     ('a Pitch without frames', praat('Pitch 1', '0\n1\n0\n0.01\n0\n600\n15\n'), 'the track has no frames'),
     ('a binary file', 'ooBinaryFile\x05Pitch 1', 'save it as a text file'),
-    ('bytes', bytes(range(256)), 'track: '),
+    ('bytes', bytes(range(256)), 'track: '), ('one long line', 'x' * 200000, 'line 1: '), ('a quote left open', '"0,110\n', 'track: '),
+    ('NUL', b'time,hz\n0,1\x0010\n', 'line 2: '),
     ('1,025 frames', ''.join(f'{i / 100},110\n' for i in range(1025)), 'has 1025 frames, and a query at most 1,024', '--part'),
 ]
 
@@ -146,7 +153,8 @@ def test_other_tracks_are_refused():
             expect_refused(name, at, ['query', 'track', '-o', 'new.query', *SAID], 1, 'track: ', *told)
     with folder() as at:
         put(at, 'track', CSV)
-        expect_refused('an empty part', at, ['query', 'track', '-o', 'q', *SAID, '--part', '7', '8'], 1, 'run from 0.005 to 0.295 s')
+        words = ['query', 'track', '-o', 'q', *SAID, '--part', '7', '8']
+        expect_refused('an empty part', at, words, 1, 'run from 0.005 to 0.295 s')
 
 
 def test_steps_that_are_near_enough():
@@ -160,6 +168,7 @@ def test_steps_that_are_near_enough():
 def test_wrong_use():
     for more, told in [(['--issue', 'Loud'], "'Loud' is none of Unvoiced, LowSnr"), (['--prev', '256'], 'from 0 to 255'),
                        (['--floor', 'low'], "'low' is no number"), (['--floor=-3Hz'], 'is no frequency'),
-                       (['--variant', '1', 'x'], "'x' is no number"), (['--variant', '1', '0'] * 5, 'at most 4 variants')]:
+                       (['--variant', '1', 'x'], "'x' is no number"), (['--voiced-from', 'nan'], "'nan' is no number"),
+                        (['--variant', '1', '0'] * 5, 'at most 4 variants')]:
         done = tonekit('query', '-', '-o', '-', *SAID, *more, data=CSV.encode())
         expect(f'{more}', done.status == 2 and told in done.err and not done.out, done)

@@ -1,9 +1,11 @@
 """The command line: `tonekit SUBCOMMAND …`. Status 0 done, 1 refused, 2 used wrongly or the machine failed."""
 import argparse
 import io
+import math
 import os
 import signal
 import sys
+import traceback
 
 from . import __version__, commands, judging
 from .files import Failed, reason
@@ -35,6 +37,17 @@ def told(read):
         except NotANumber as error:
             raise argparse.ArgumentTypeError(str(error)) from None
     return argument
+
+
+def finite(text):
+    """A type of argument: a float that is a number."""
+    try:
+        value = float(text)
+    except ValueError:
+        value = math.nan
+    if not math.isfinite(value):
+        raise argparse.ArgumentTypeError(f'{text!r} is no number')
+    return value
 
 
 def issue(text):
@@ -111,8 +124,8 @@ def add_making(parsers):
 
 
 def add_query(parsers):
-    query = add(parsers, 'query', commands.query, 'write a query from a pitch track with a step of 10 ms: CSV of time,hz,voicing or '
-                "Praat's PitchTier or Pitch as text")
+    query = add(parsers, 'query', commands.query, 'write a query from a pitch track with a step of 10 ms: CSV of time,hz,voicing '
+                "or Praat's PitchTier or Pitch as text")
     query.add_argument('file', metavar='TRACK')
     query.add_argument('-o', '--output', metavar='FILE', required=True)
     query.add_argument('--accent', type=number(255), required=True, metavar='N', help='the accent to grade by')
@@ -121,11 +134,12 @@ def add_query(parsers):
     query.add_argument('--final', action='store_const', const=1, default=0, help='at the end of a phrase')
     for name, what in (('--floor', 'lowest'), ('--ceil', 'highest')):
         query.add_argument(name, type=told(semitones), required=True, metavar='ST',
-                           help=f"the {what} pitch of the speaker's register, in semitones above 55 Hz, or in Hz with Hz behind it")
+                           help=f"the {what} pitch of the speaker's register, in semitones above 55 Hz, or in Hz as 110Hz")
     query.add_argument('--span', type=number(2 ** 32 - 1), nargs=2, metavar=('START', 'END'),
                        help='the first frame of the syllable and the one after its last; all frames if not said')
-    query.add_argument('--part', type=float, nargs=2, metavar=('START', 'END'), help='keep the frames from START s to before END s')
-    query.add_argument('--voiced-from', type=float, default=0, metavar='P', help='frames with a voicing below P are unvoiced')
+    query.add_argument('--part', type=finite, nargs=2, metavar=('START', 'END'),
+                       help='keep the frames from START s to before END s')
+    query.add_argument('--voiced-from', type=finite, default=0, metavar='P', help='frames with a voicing below P are unvoiced')
     query.add_argument('--issue', type=issue, action='append', dest='issues', default=[], metavar='NAME', help=', '.join(ISSUES))
     query.add_argument('--variant', nargs=2, action=Variant, dest='variants', default=[], metavar=('TONE', 'WEIGHT'),
                        help=f'another tone that the word may have, and its weight; at most {MOST_VARIANTS}')
@@ -170,6 +184,11 @@ def run(words):
         complain(error)
     except KeyboardInterrupt:
         complain('tonekit: interrupted')
+    except OSError:
+        raise
+    except Exception:
+        # A fault of the tool is no refusal of an input.
+        complain(f'tonekit: a fault of the tool itself\n{traceback.format_exc()}')
     return 2
 
 

@@ -38,7 +38,8 @@ def cut_short(place, data, of, found, at):
     if at is None:
         return f'the input ends {after(found, len(found))}' if found else 'the input is empty'
     kind = found[at].kind
-    return f'a record of kind {kind.number}, {kind.name}, begins there and has {kind.size} bytes, of which {len(data) - place} are left'
+    left = len(data) - place
+    return f'a record of kind {kind.number}, {kind.name}, begins there and has {kind.size} bytes, of which {left} are left'
 
 
 def overrun(place, data, of, found, at):

@@ -53,6 +53,11 @@ def read_text(name):
         return data.decode('latin-1')
 
 
+def lines_of(text):
+    """The lines of a text, however they end; other marks that Python would split at may stand in a comment."""
+    return text.replace('\r\n', '\n').replace('\r', '\n').split('\n')
+
+
 def same_file(one, other):
     try:
         return os.path.samefile(one, other)

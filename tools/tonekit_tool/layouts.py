@@ -35,7 +35,7 @@ def one_of(*values):
 class Field(NamedTuple):
     """A field: `name` in decoded records and JSON, `word` where people read and write it. A field with times above 1 is a list.
     `counted` names the field that says how many are used, `when` the flag that says whether it is; what is unused is zero
-    bytes. `least` is left out of a pack's text where the field is that. `refers` is what its number names."""
+    bytes. `default` is what a pack's text may leave out. `refers` is what its number names."""
     offset: int
     type: str
     name: str
@@ -47,7 +47,7 @@ class Field(NamedTuple):
     when: str = ''
     limit: int = 0
     names: Tuple = ()
-    least: object = None
+    default: object = None
     refers: str = ''
     meaning: str = ''
 
@@ -107,9 +107,9 @@ def region(at):
             Field(at + 5, 'f32', 'to', 'to', FINITE, when='flag'))
 
 
-def knots(at, least):
-    """Knot count and ten slots."""
-    return (Field(at, 'u8', 'knot_count', 'knot count', least, limit=10),
+def knots(at, count):
+    """Knot count, of this range, and ten slots."""
+    return (Field(at, 'u8', 'knot_count', 'knot count', count, limit=10),
             Field(at + 1, 'f32', 'knots', 'knots', KNOT, times=10, stride=4, counted='knot_count'))
 
 
@@ -128,16 +128,16 @@ PACK = (
         *knots(6, ANY), *region(47)), most=8, rules=(REGION_ORDER,)),
     Kind(3, 'accent', 'pack', 19, (
         Field(1, 'u8', 'number', 'number', NUMBER),
-        Field(2, 'u8', 'parent', 'parent', names=NO_PARENT, least=0, refers='earlier accent'),
+        Field(2, 'u8', 'parent', 'parent', names=NO_PARENT, default=0, refers='earlier accent'),
         *tolerances(3)), most=8),
     Kind(4, 'rule', 'pack', 7, (
         Field(1, 'u16', 'label', 'label'),
-        Field(3, 'u8', 'tone', 'tone', names=ANY_TONE, least=0, refers='tone'),
-        Field(4, 'u8', 'prev', 'prev', names=ANY_TONE, least=0, refers='tone'),
-        Field(5, 'u8', 'final', 'final', one_of(0, 1, 2), names=dict(enumerate(FINALS)), least=0),
-        Field(6, 'u8', 'form', 'form', one_of(2, 3), names=RULE_FORMS, least=2)), most=64),
+        Field(3, 'u8', 'tone', 'tone', names=ANY_TONE, default=0, refers='tone'),
+        Field(4, 'u8', 'prev', 'prev', names=ANY_TONE, default=0, refers='tone'),
+        Field(5, 'u8', 'final', 'final', one_of(0, 1, 2), names=dict(enumerate(FINALS)), default=0),
+        Field(6, 'u8', 'form', 'form', one_of(2, 3), names=RULE_FORMS, default=2)), most=64),
     Kind(5, 'part', 'pack', 46, (
-        Field(1, 'f32', 'weight', 'weight', WEIGHT, least=F32(0x3F800000)),
+        Field(1, 'f32', 'weight', 'weight', WEIGHT, default=F32(0x3F800000)),
         *knots(5, SOME)), most=128, within=('rule', 4), rules=(PART_ALONE,)),
     Kind(6, 'end', 'pack', 1, ()),
 )

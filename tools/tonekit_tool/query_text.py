@@ -27,8 +27,8 @@ def issue_bits(names):
 
 
 def part_of(frames, start, end):
-    """The frames whose times lie from start on and before end, in seconds."""
-    return [frame for frame in frames if start <= frame.time < end]
+    """The frames whose times lie from start on and before end, in seconds; a microsecond is no difference."""
+    return [frame for frame in frames if start <= frame.time + 1e-6 < end]
 
 
 def voiced_from(frames, least):
@@ -44,7 +44,7 @@ def frame_bytes(frame):
 def make_query(frames, said):
     """The query of these frames; `said` has the fields that a person chooses."""
     if len(frames) > MOST_FRAMES:
-        raise TrackFault(f'the track has {len(frames)} frames, and a query at most {MOST_FRAMES:,}: take a part of it with --part')
+        raise TrackFault(f'the track has {len(frames)} frames, and a query at most {MOST_FRAMES:,}: take a part with --part')
     start, end = said['span'] or (0, len(frames))
     values = {name: said[name] for name in ('accent', 'tone', 'prev', 'final', 'floor', 'ceil')}
     variants = said['variants']

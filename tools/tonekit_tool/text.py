@@ -1,5 +1,6 @@
 """A pack as text, for people to write: one record to a line, by the words of the table of layouts, # for comments. And back, bit
 for bit."""
+from .files import lines_of
 from .floats import NotANumber, is_number, parsed
 from .layouts import PACK, SIZES, derived, encode, records, used
 from .show import own_number, value_words
@@ -73,8 +74,8 @@ def complete(kind, values):
     for field in written(kind).values():
         if field.when:
             values[field.when] = values.get(field.when) or int(field.name in values)
-        elif field.name not in values and field.least is not None:
-            values[field.name] = field.least
+        elif field.name not in values and field.default is not None:
+            values[field.name] = field.default
     flags = [field.when for field in kind.fields if field.when and values.get(field.when)]
     missing = [field.word for field in written(kind).values()
                if field.name not in values and not field.counted and (not field.when or field.when in flags)]
@@ -94,7 +95,7 @@ def read_line(tokens):
 def read_pack(text):
     """The bytes that a text says, and the line of each record by its offset. No more is asked of it: a check decides."""
     out, at_line = bytearray(), {}
-    for number, line in enumerate(text.splitlines(), 1):
+    for number, line in enumerate(lines_of(text), 1):
         tokens = line.partition('#')[0].split()
         if not tokens:
             continue
@@ -115,8 +116,8 @@ def line_text(kind, values):
     """A record as its line; what is as it would be if left out is left out."""
     words = [f'{kind.name} {values[own_number(kind)]}' if own_number(kind) else kind.name]
     for field in written(kind).values():
-        is_least = field.least is not None and values[field.name] == field.least
-        if used(field, values) and not is_least:
+        said = field.default is None or values[field.name] != field.default
+        if said and used(field, values):
             words.append(field_text(field, values))
     return INDENT.get(kind.name, '') + '  '.join(words)
 
@@ -138,7 +139,7 @@ def keys(found):
 def names_in(text):
     """The comments behind the tones, accents and rules of a text."""
     data, at_line = read_pack(text)
-    found, lines = records(data), text.splitlines()
+    found, lines = records(data), lines_of(text)
     out = {}
     for record, key in zip(found, keys(found)):
         comment = lines[at_line[record.offset] - 1].partition('#')[2].strip()

@@ -4,6 +4,7 @@ import csv
 import re
 from typing import NamedTuple, Optional
 
+from .files import lines_of
 from .floats import F32, NotANumber, parsed
 
 # Seconds. The library takes a frame as 10 ms; a step within 1 % of it keeps durations and slopes within 1 %.
@@ -73,6 +74,13 @@ def separator(line):
     return next((mark for mark in '\t;' if mark in line), ',')
 
 
+def cells_of(line, mark, where):
+    try:
+        return next(csv.reader([line], delimiter=mark))
+    except csv.Error as error:
+        raise TrackFault(f'{where}no line of a CSV: {error}') from None
+
+
 def columns(row):
     """The column of each name, by the heading or, without one, by order; and whether there is a heading."""
     names = [COLUMNS.get(cell.strip().lower()) for cell in row]
@@ -94,10 +102,11 @@ def csv_frame(row, at, where):
 
 def read_csv(text):
     """The frames of a CSV, one to a row, each 10 ms after the one before."""
-    lines = [(i, line) for i, line in enumerate(text.splitlines(), 1) if line.strip() and not line.startswith('#')]
+    lines = [(i, line) for i, line in enumerate(lines_of(text), 1) if line.strip() and not line.startswith('#')]
     if not lines:
         raise TrackFault('the track is empty')
-    rows = list(csv.reader([line for _, line in lines], delimiter=separator(lines[0][1])))
+    mark = separator(lines[0][1])
+    rows = [cells_of(line, mark, f'line {i}: ') for i, line in lines]
     at, heading = columns(rows[0])
     if 'time' not in at or 'hz' not in at:
         raise TrackFault(f'line {lines[0][0]}: a time and an hz column are wanted: time,hz,voicing')
