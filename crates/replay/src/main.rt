@@ -5,6 +5,7 @@ use tonekit_bytes::byte_at;
 use tonekit_bytes::u32_at;
 use tonekit_core::Answer;
 use tonekit_core::Checked;
+use tonekit_core::layout;
 
 // How many calls were run, and how many differ.
 struct Count {
@@ -42,7 +43,7 @@ fn checked_so(c: Checked, number: u8, place: u32) -> bool {
 
 // Whether a query's shape record is as recorded.
 fn shaped_so(query: &[u8], number: u8, place: u32, bytes: &[u8]) -> bool {
-    let mut out = [0u8; 124];
+    let mut out = [0u8; layout::SHAPE_SIZE];
     match tonekit_shape::write_shape(query, &mut out) {
         Answer::Written(n) => (number == 0) & (n == place as usize) & check::same(&out, bytes),
         Answer::Refused(r, at) => (tonekit_core::refusal_number(r) == number)
@@ -52,7 +53,7 @@ fn shaped_so(query: &[u8], number: u8, place: u32, bytes: &[u8]) -> bool {
 
 // Whether the judgement of a query against a pack is as recorded.
 fn judged_so(pack: &[u8], query: &[u8], number: u8, place: u32, bytes: &[u8]) -> bool {
-    let mut out = [0u8; 64];
+    let mut out = [0u8; layout::JUDGEMENT_SIZE];
     match tonekit_station::judge(pack, query, &mut out) {
         Answer::Written(n) => (number == 0) & (n == place as usize) & check::same(&out, bytes),
         Answer::Refused(r, at) => (tonekit_core::refusal_number(r) == number)
@@ -62,7 +63,7 @@ fn judged_so(pack: &[u8], query: &[u8], number: u8, place: u32, bytes: &[u8]) ->
 
 // Whether the judgement of a query against a sheet is as recorded.
 fn judged_on_sheet_so(sheet: &[u8], query: &[u8], number: u8, place: u32, bytes: &[u8]) -> bool {
-    let mut out = [0u8; 64];
+    let mut out = [0u8; layout::JUDGEMENT_SIZE];
     match tonekit_station::judge_sheet(sheet, query, &mut out) {
         Answer::Written(n) => (number == 0) & (n == place as usize) & check::same(&out, bytes),
         Answer::Refused(r, at) => (tonekit_core::refusal_number(r) == number)
@@ -72,7 +73,7 @@ fn judged_on_sheet_so(sheet: &[u8], query: &[u8], number: u8, place: u32, bytes:
 
 // Whether a pack's sheet is as recorded.
 fn written_so(pack: &[u8], number: u8, place: u32, bytes: &[u8]) -> bool {
-    let mut out = [0u8; 13266];
+    let mut out = [0u8; layout::SHEET_MOST];
     match tonekit_sheet_write::write_sheet(pack, &mut out) {
         Answer::Written(n) => (number == 0)
             & (n == place as usize)
