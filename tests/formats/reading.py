@@ -1,4 +1,5 @@
 """Reads packs, queries and sheets by the layouts of docs/FORMATS.md, with the refusals and places of its section Turned back."""
+import re
 from collections import defaultdict
 
 import tables
@@ -64,20 +65,19 @@ class Reader:
         return len(self.accents()) * len(self.tones()) * (len(self.tones()) + 1)
 
     def may_follow(self):
-        """The kinds due here; None is the end."""
+        """The kinds due here, None for the end: what the table has after the last kind, but the counted kind while some are missing
+        and only then."""
         last = self.records[-1][1][0] if self.records else 0
-        due = list(self.formats.after[self.name][last])
+        due = self.formats.after[self.name][last]
+        if last not in (QUERY, FRAME, SHEET_ACCENT, ROW, COMPONENT):
+            return due
         if last in (QUERY, FRAME):
-            frames = self.formats.get(self.records[0][1], 'frame count')
-            due = [FRAME] if len(self.of(FRAME)) < frames else [None]
-        if last in (SHEET_ACCENT, ROW) and len(self.of(ROW)) >= self.rows_due():
-            due = [kind for kind in due if kind != ROW]
-        if last == ROW and len(self.of(ROW)) < self.rows_due():
-            due = [ROW]
-        if last == COMPONENT:
-            counted = self.formats.get(self.last(LIST), 'component count')
-            due = [COMPONENT] if self.since < counted else [kind for kind in due if kind != COMPONENT]
-        return due
+            counted, missing = FRAME, self.formats.get(self.records[0][1], 'frame count') - len(self.of(FRAME))
+        elif last == COMPONENT:
+            counted, missing = COMPONENT, self.formats.get(self.last(LIST), 'component count') - self.since
+        else:
+            counted, missing = ROW, self.rows_due() - len(self.of(ROW))
+        return [kind for kind in due if (kind == counted) == (missing > 0) or last == SHEET_ACCENT]
 
     def read(self):
         """Every record of the input; a Refused where one is refused."""
@@ -109,11 +109,11 @@ class Reader:
         if broken:
             raise Refused(numbers[0], self.at)
         for field in layout.fields:
-            if 'repeated 6' in field.otherwise and field.values(record)[0] in self.numbers(record[0]):
-                raise Refused(6, self.at)
+            if 'repeated' in field.otherwise and field.values(record)[0] in self.numbers(record[0]):
+                raise Refused(last_number(field), self.at)
         for field in layout.fields:
-            if self.loose(layout, field, field.values(record)[0]):
-                raise Refused(7, self.at)
+            if self.loose(field, field.values(record)[0]):
+                raise Refused(last_number(field), self.at)
 
     def form(self, layout, record):
         if record[0] == PART:
@@ -131,13 +131,13 @@ class Reader:
             return False
         return self.since >= (1 if self.formats.get(self.last(RULE), 'form') == 2 else self.formats.limit('RULE_PARTS'))
 
-    def loose(self, layout, field, value):
+    def loose(self, field, value):
         """Whether the field names a tone or an accent that is not there; a sheet's lists are judged at its end."""
         if '0 or a tone' in field.rules:
             return value not in [0, *self.tones()]
         if '0 or an accent before it' in field.rules:
             return value not in [0, *self.accents()]
-        if 'not held 7' in field.otherwise:
+        if 'not held' in field.otherwise:
             return value not in (self.tones() if field.name == 'tone' else self.accents())
         return False
 
@@ -150,9 +150,11 @@ class Reader:
     def judge_order(self):
         """What a sheet's end decides: 7 for rows, then 8."""
         held = [0, *self.numbers(LIST)]
+        naming = [field for field in self.formats.layouts[ROW].fields if '0 or a list' in field.rules]
         for at, record in self.records:
-            if record[0] == ROW and any(name not in held for name in self.row(record)[3:]):
-                raise Refused(7, at)
+            for field in naming if record[0] == ROW else []:
+                if field.values(record)[0] not in held:
+                    raise Refused(last_number(field), at)
         wrong = [*self.accents_down(), *self.rows_wrong(), *self.lists_wrong()]
         if wrong:
             raise Refused(8, min(wrong))
@@ -195,6 +197,11 @@ def else_number(field, record):
     if field.otherwise == '5 for 0, 4 above':
         return 4 if field.values(record)[0] else 5
     return int(field.otherwise.split(',')[0])
+
+
+def last_number(field):
+    """The refusal that a cell `else` names last: of a number that is repeated, or that is not held."""
+    return int(re.findall(r'\d+', field.otherwise)[-1])
 
 
 def voiced_in_span(formats, query):
