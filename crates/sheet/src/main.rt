@@ -3,6 +3,7 @@
 use libc::STDIN_FILENO;
 use libc::STDOUT_FILENO;
 use tonekit_core::Answer;
+use tonekit_core::layout;
 
 // The n bytes from an index on; of a shorter slice what is there.
 fn part(s: &[u8], at: usize, n: usize) -> &[u8] {
@@ -19,7 +20,7 @@ fn part(s: &[u8], at: usize, n: usize) -> &[u8] {
 fn main() {
     let mut space = io::large_buffer();
     let n = io::read_full(STDIN_FILENO, &mut space);
-    let mut out = [0u8; 13266];
+    let mut out = [0u8; layout::SHEET_MOST];
     match tonekit_sheet_write::write_sheet(&space[..n], &mut out) {
         Answer::Written(m) => {
             io::write_all(STDOUT_FILENO, part(&out, 0, m));
