@@ -1,7 +1,6 @@
 """The subcommands check, sheet, show, pack, unpack, query and plot."""
 import hashlib
 import json
-import os
 
 from . import files, programs, show, text
 from .explain import looks_like_text, told
@@ -148,11 +147,6 @@ def query(args):
     return 0
 
 
-def page_name(output, suffix):
-    start, end = os.path.splitext(output)
-    return f'{start}{suffix}{end}'
-
-
 def plot(args):
     """Draws a sheet that loads. The digest is of its bytes: equal sheets mean equal lookups."""
     try:
@@ -170,5 +164,5 @@ def plot(args):
     if args.output == '-':
         files.write('-', pages[0][1].encode())
     else:
-        files.write_together([(page_name(args.output, suffix), svg.encode()) for suffix, svg in pages])
+        files.write_together([(drawing.page_path(args.output, suffix), svg.encode()) for suffix, svg in pages])
     return 0
