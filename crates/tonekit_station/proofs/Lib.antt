@@ -2,4 +2,3 @@ pub mod Ways
 pub mod Enough
 pub mod Depends
 pub mod Together
-mod Before
