@@ -1,5 +1,5 @@
-"""Builds the package that `pip install ./tools` installs: the tool and, where tools/programs has built them, the programs beside
-it. Python's standard library only."""
+"""Builds the package that `pip install ./tools` installs: the tool and, where tools/programs has built them or the release has them,
+the programs beside it. Python's standard library only."""
 import base64
 import hashlib
 import os
@@ -8,7 +8,8 @@ import sysconfig
 import zipfile
 
 HERE = os.path.dirname(os.path.abspath(__file__))
-PROGRAMS = os.path.join(os.path.dirname(HERE), 'target', 'programs')
+ROOT = os.path.dirname(HERE)
+PROGRAMS = [os.path.join(ROOT, 'programs'), os.path.join(ROOT, 'target', 'programs')]
 PACKAGE = 'tonekit_tool'
 
 
@@ -29,10 +30,11 @@ def modules():
 
 
 def programs():
-    """The programs, if they are built."""
-    for name in sorted(os.listdir(PROGRAMS)) if os.path.isdir(PROGRAMS) else ():
-        if os.access(os.path.join(PROGRAMS, name), os.X_OK):
-            yield f'{PACKAGE}/programs/{name}', content(PROGRAMS, name), 0o755
+    """The programs, if they are built: those of a release, else of a checkout."""
+    folder = next((each for each in PROGRAMS if os.path.isdir(each)), None)
+    for name in sorted(os.listdir(folder)) if folder else ():
+        if os.access(os.path.join(folder, name), os.X_OK):
+            yield f'{PACKAGE}/programs/{name}', content(folder, name), 0o755
 
 
 def about(folder, tag):

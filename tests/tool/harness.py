@@ -10,6 +10,7 @@ import tempfile
 
 ROOT = os.path.dirname(os.path.dirname(os.path.dirname(os.path.abspath(__file__))))
 PROGRAMS = os.path.abspath(sys.argv[1]) if len(sys.argv) > 1 else os.path.join(ROOT, 'target', 'programs')
+PACKS = int(sys.argv[2]) if len(sys.argv) > 2 else 2000
 TOOL = os.path.join(ROOT, 'tools', 'tonekit')
 sys.path[:0] = [os.path.join(ROOT, 'tools'), os.path.join(ROOT, 'examples')]
 MEGABYTES = 5 * 1024 * 1024

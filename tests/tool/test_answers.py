@@ -167,7 +167,7 @@ def test_installed_package():
     sys.path.insert(0, os.path.join(harness.ROOT, 'tools'))
     import tonekit_build
     with folder() as at, folder() as apart:
-        tonekit_build.PROGRAMS = PROGRAMS
+        tonekit_build.PROGRAMS = [PROGRAMS]
         with zipfile.ZipFile(os.path.join(at, tonekit_build.build_wheel(at))) as archive:
             archive.extractall(apart)
             modes = {entry.filename: entry.external_attr >> 16 & 0o777 for entry in archive.infolist()}

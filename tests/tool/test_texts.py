@@ -3,15 +3,13 @@ import os
 import random
 
 import harness
-from harness import PACK, TEXT, changed, content, expect, expect_refused, folder, put, tonekit
+from harness import PACK, PACKS, TEXT, changed, content, expect, expect_refused, folder, put, tonekit
 from packs import Packs, joined
 
 import sample
 from tonekit_tool import cli, programs, text
 from tonekit_tool.floats import F32
 from tonekit_tool.layouts import KINDS, encode
-
-COUNT = 2000
 
 
 def different(data):
@@ -25,14 +23,14 @@ def different(data):
 def test_generated_packs_survive():
     """Each of them loads, and no byte of it is lost."""
     packs, differ, longest = Packs(random.Random(1)), [], 0
-    for i in range(COUNT):
+    for i in range(PACKS):
         data = joined(packs.records())
         longest = max(longest, len(data))
         wrong = different(data)
         if wrong:
             differ.append((i, wrong))
-    print(f'{COUNT} packs to text and back, {len(differ)} differ; the longest has {longest} bytes')
-    expect(f'{COUNT} packs survive', not differ, differ[:3])
+    print(f'{PACKS} packs to text and back, {len(differ)} differ; the longest has {longest} bytes')
+    expect(f'{PACKS} packs survive', not differ, differ[:3])
 
 
 def largest():
