@@ -1,4 +1,5 @@
--- Demand 3: `stations-agree` and `one-sheet-exactly` are its two halves, as specs/Demand3.antt states them. Assumes nothing.
+-- Demand 3: `stations-agree` and `one-sheet-exactly` are its two halves, as specs/Demand3.antt states them; `one-sheet-each`, `same-outcomes` and
+-- `same-answer` say what they rest on. Assumes nothing.
 use Prim.Native.Nat.{ℕ}
 use mathlib.Core.Path.{_≡_, sym, ap, ap₂, _∙_}
 use mathlib.Core.List.{List}
@@ -16,7 +17,7 @@ use Rattle.tonekit_sheet_laws.proofs.Exactly.{exactly}
 use Rattle.tonekit_sheet_write.specs.Outcome.{sheetOf, sheetOutcome}
 use Rattle.tonekit_station.specs.Judgement.{judgement, onPack, onSheet, judgeOutcome, judgeSheetOutcome}
 use Rattle.tonekit_station.proofs.Depends.{judgement-same}
-use Rattle.tonekit_demand.specs.Demand3.{Loads, holds, SheetOf, StationsAgree, OneSheetExactly}
+use Rattle.tonekit_demand.specs.Demand3.{Loads, holds, SheetOf, OneSheetEach, SameOutcome, SameAnswer, StationsAgree, OneSheetExactly}
 
 -- what a source's own sheet holds agrees with the source, and so is judged alike
 module _ (src : Source) (fit : Fit src) where
@@ -37,7 +38,7 @@ module _ (p : List ℕ) (bytes : Bytes p) (l : Loads p) where
   fits = fit-of-pack p bytes (l .held) (l .end) (loads-alone p (l .held) (l .end) (l .loads) .0)
 
   -- every pack that loads has its sheet, and no other
-  pub has-sheet : SheetOf p (sheet (holds p l))
+  has-sheet : SheetOf p (sheet (holds p l))
   unfolding sheetOutcome
   has-sheet = ap (sheetOf p) (l .loads)
 
@@ -50,6 +51,15 @@ module _ (p : List ℕ) (bytes : Bytes p) (l : Loads p) where
       ap (onPack p q) (l .loads)
       ∙ sym (from-sheet (holds p l) fits q)
       ∙ ap (λ (x : List ℕ). judgeSheetOutcome x q) (only-sheet sh w)
+
+pub one-sheet-each : OneSheetEach
+one-sheet-each p bytes l = (sheet (holds p l), has-sheet p bytes l, λ other w. sym (only-sheet p bytes l other w))
+
+pub same-outcomes : SameOutcome
+same-outcomes p bytes l sh w q = same-outcome p bytes l sh w q
+
+pub same-answer : SameAnswer
+same-answer p bytes l sh w q a b e = ap₂ answerIn e (same-outcome p bytes l sh w q)
 
 pub stations-agree : StationsAgree
 stations-agree p bytes l sh w q a b same =

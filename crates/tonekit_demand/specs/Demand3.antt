@@ -1,6 +1,6 @@
--- Demand 3, whole, as two statements on the definitions that the contracts of the calls cite: `judge` answers and leaves what `answerIn` and
+-- Demand 3, whole, as statements on the definitions that the contracts of the calls cite: `judge` answers and leaves what `answerIn` and
 -- `bufferAfter` make of `judgeOutcome`, `judge_sheet` what they make of `judgeSheetOutcome`, `write_sheet` what they make of `sheetOutcome`.
--- proofs/Demand3.antt proves both.
+-- proofs/Demand3.antt proves them.
 use Prim.Native.Nat.{ℕ}
 use mathlib.Core.Path.{_≡_}
 use mathlib.Core.Logic.{_↔_}
@@ -26,6 +26,20 @@ holds p l = sourceOfPack p (l .held)
 -- "A pack's sheet is the bytes this section fixes for it": what `write_sheet` writes for it
 abbrev pub SheetOf : List ℕ → List ℕ → Type 0
 SheetOf p sh = sheetOutcome p ≡ written sh
+
+-- every pack that loads has a sheet, and one
+abbrev pub OneSheetEach : Type 0
+OneSheetEach = (p : List ℕ) → Bytes p → Loads p → (sh : List ℕ) × SheetOf p sh × ((other : List ℕ) → SheetOf p other → other ≡ sh)
+
+-- `judge` with a pack and `judge_sheet` with its sheet have the same outcome of every query: the same bytes to write, or the same refusal and place
+abbrev pub SameOutcome : Type 0
+SameOutcome = (p : List ℕ) → Bytes p → Loads p → (sh : List ℕ) → SheetOf p sh → (q : List ℕ) → judgeOutcome p q ≡ judgeSheetOutcome sh q
+
+-- equal lengths of what is lent are enough for the same answer
+abbrev pub SameAnswer : Type 0
+SameAnswer =
+    (p : List ℕ) → Bytes p → Loads p → (sh : List ℕ) → SheetOf p sh → (q a b : List ℕ) → length a ≡ length b
+    → answerIn (length a) (judgeOutcome p q) ≡ answerIn (length b) (judgeSheetOutcome sh q)
 
 -- for every pack that loads, with its sheet; for every list of bytes as a query; for every length of output buffer, and any two buffers of that length that
 -- held the same: both calls give the same answer, the same 64 bytes or the same refusal by number and place, and the buffers hold the same after. The
