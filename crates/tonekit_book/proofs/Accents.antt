@@ -15,9 +15,10 @@ use Rattle.tonekit_pack.proofs.Split.{split, both, either, neither}
 use Rattle.tonekit_pack.proofs.Records.{passed, size-pos}
 use Rattle.tonekit_expect.specs.Lookup.{toRule}
 use Rattle.tonekit_expect.specs.Source.{accentAt}
+use Rattle.tonekit_bytes.proofs.Stands.{Stands, stands-front}
 use Rattle.tonekit_records.specs.Records.{Tally, noTally, zeroOrAmong, kind, lastSingle, bodyVerdictOf, ReadsOn, none, more, recordsBytes, addedAll}
-use Rattle.tonekit_records.proofs.OwnBytes.{Stands, byte-same, u32-same}
-use Rattle.tonekit_records.proofs.Loading.{fine-body, stands-front, drop-behind}
+use Rattle.tonekit_records.proofs.OwnBytes.{byte-same, u32-same}
+use Rattle.tonekit_records.proofs.Loading.{fine-body, drop-behind}
 use Rattle.tonekit_book.specs.Book.{Rule, BookAccent, tabulate, ruleAt, packAccent, bookOf}
 use Rattle.tonekit_book.specs.Groups.{Groups, groupedWith, grouped, accentOfGroup}
 use Rattle.tonekit_book.proofs.Tabulate.{tabulate-none, tabulate-some}

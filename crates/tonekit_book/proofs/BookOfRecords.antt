@@ -11,9 +11,10 @@ use Rattle.tonekit_pack.proofs.Split.{absurd-bool}
 use Rattle.tonekit_pack.proofs.Records.{Due, due-is, settings, tone, accent, rule, part, finish}
 use Rattle.tonekit_expect.specs.Source.{settingsAt, sourceOfPack}
 use Rattle.tonekit_sheet.specs.Sheet.{sheet}
+use Rattle.tonekit_bytes.proofs.Stands.{stands-front}
 use Rattle.tonekit_records.specs.Records.{Tally, noTally, kind, ReadsOn, none, more, recordsBytes, addedAll}
 use Rattle.tonekit_records.proofs.OwnBytes.{u32-same}
-use Rattle.tonekit_records.proofs.Loading.{fine-due, stands-front, load-reads}
+use Rattle.tonekit_records.proofs.Loading.{fine-due, load-reads}
 use Rattle.tonekit_book.specs.Book.{sourceOf, bookOf}
 use Rattle.tonekit_book.specs.Groups.{firstRecord, bookOfRecords}
 use Rattle.tonekit_book.proofs.PackSource.{pack-source}

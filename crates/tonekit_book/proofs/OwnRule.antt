@@ -17,8 +17,9 @@ use Rattle.tonekit_expect.specs.declared.Component.{Component}
 use Rattle.tonekit_expect.specs.Knots.{knotsAt, expanded}
 use Rattle.tonekit_expect.specs.Lookup.{ruleListing, componentOf}
 use Rattle.tonekit_expect.specs.Source.{Carried, carried, components}
+use Rattle.tonekit_bytes.proofs.Stands.{Stands}
 use Rattle.tonekit_records.specs.Records.{kind, recordsBytes}
-use Rattle.tonekit_records.proofs.OwnBytes.{Stands, byte-same, f32-same}
+use Rattle.tonekit_records.proofs.OwnBytes.{byte-same, f32-same}
 use Rattle.tonekit_book.specs.Book.{ruleAt}
 
 -- the knots of a record, where it stands and by its own bytes

@@ -17,9 +17,10 @@ use Rattle.tonekit_pack.proofs.Records.{passed}
 use Rattle.tonekit_expect.specs.Knots.{knotsAt, expanded}
 use Rattle.tonekit_expect.specs.Lookup.{citation, componentOf}
 use Rattle.tonekit_expect.specs.Source.{carried, components, toneAt}
+use Rattle.tonekit_bytes.proofs.Stands.{Stands, stands-front}
 use Rattle.tonekit_records.specs.Records.{Tally, noTally, among, kind, bodyVerdictOf, ReadsOn, none as no-more, more, recordsBytes, addedAll}
-use Rattle.tonekit_records.proofs.OwnBytes.{Stands, byte-same, u32-same}
-use Rattle.tonekit_records.proofs.Loading.{fine-body, stands-front, drop-behind}
+use Rattle.tonekit_records.proofs.OwnBytes.{byte-same, u32-same}
+use Rattle.tonekit_records.proofs.Loading.{fine-body, drop-behind}
 use Rattle.tonekit_book.specs.Book.{BookTone, tabulate, bookToneAt, packTone, bookOf}
 use Rattle.tonekit_book.specs.Groups.{toneRecords, toneOfRecord}
 use Rattle.tonekit_book.proofs.Tabulate.{tabulate-none, tabulate-some}

@@ -3,3 +3,4 @@ pub mod Back
 pub mod Write
 pub mod Examples
 pub mod Agreeing
+pub mod Stands

@@ -10,7 +10,7 @@ use lib.IntN.{ℤ, pos}
 use lib.Pow.{pow-pos}
 use lib.Ieee.{Float, nan, inf, fin, Format, binary32, binary64, prec, emax, low, up, down, size, round, add, sub, lt, eq, fits, toBits, ofBits, units, odd, neg, isNan, nanBits}
 use lib.Ieee.Digits.{size-le}
-use lib.Ieee.Fits.{up-pos, down-pos, and-l, and-i, round-fits, eq→eqb}
+use lib.Ieee.Fits.{up-pos, down-pos, and-l, and-i, round-fits, nan-fits, inf-fits, eq→eqb}
 use lib.Ieee.Bits.{nanBits-above}
 use lib.Ieee.Exact.{HasValue}
 use lib.Ieee.Scale.{round-same}
@@ -23,6 +23,13 @@ use Rattle.tonekit_float.proofs.NarrowRound.{L, cut, limit, field-is, p
 -- halfway past the largest f32, by its pattern
 abbrev half-past : Float
 half-past = ofBits binary64 0x47EF_FFFF_F000_0000
+
+-- what is narrowed is an f32
+pub narrow-fits : (x : Float) → T (fits binary32 (narrowed x))
+unfolding narrowed
+narrow-fits nan = nan-fits binary32
+narrow-fits (inf s) = inf-fits binary32 s
+narrow-fits (fin s m e) = round-fits binary32 s (m * up e) (down e)
 
 abbrev X : Float → ℕ
 X x = unitsOf binary64 x

@@ -4,10 +4,10 @@ use mathlib.Core.Path.{_≡_, refl}
 use mathlib.Core.List.{List, [], _∷_, _++_, map}
 use lib.Dec.{T, eqb}
 use lib.ListN.{length, getD}
-use lib.Ieee.{Float, nan, inf, fin, up, down, binary32, binary64, add, sub, mul, toBits, fits}
+use lib.Ieee.{Float, nan, binary32, binary64, add, sub, mul, toBits, fits}
 use lib.Ieee.Bits.{ofBits-toBits, ofBits-fits}
-use lib.Ieee.Fits.{round-fits, nan-fits, inf-fits, cond-fits}
-use Rattle.tonekit_float.specs.Narrow.{narrowed}
+use lib.Ieee.Fits.{nan-fits, cond-fits}
+use Rattle.tonekit_float.proofs.Narrowing.{narrow-fits}
 use Rattle.tonekit_bytes.specs.Fields.{byteAt, u32At, f32At}
 use Rattle.tonekit_pack.specs.Ranges.{oneF}
 use Rattle.tonekit_pack.proofs.Split.{split}
@@ -41,12 +41,6 @@ knots-fit : (s : List ℕ) (o n : ℕ) → Fit (knotsAt s o n)
 unfolding knotsAt
 knots-fit s o zero = none
 knots-fit s o (suc n) = fit-snoc (knotsAt s o n) (f32At s (o + 4 * n)) (knots-fit s o n) (ofBits-fits binary32 (u32At s (o + 4 * n)))
-
-narrow-fits : (x : Float) → T (fits binary32 (narrowed x))
-unfolding narrowed
-narrow-fits nan = nan-fits binary32
-narrow-fits (inf s) = inf-fits binary32 s
-narrow-fits (fin s m e) = round-fits binary32 s (m * up e) (down e)
 
 line-fits : (a b t : Float) → T (fits binary32 (onLine a b t))
 unfolding onLine

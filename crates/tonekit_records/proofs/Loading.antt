@@ -19,7 +19,8 @@ use Rattle.tonekit_pack.proofs.Split.{split}
 use Rattle.tonekit_pack.proofs.Records.{sound, size-pos, not-fine}
 use Rattle.tonekit_pack.proofs.Turns.{by-verdict, run, run-refused, run-end, run-on, limit-idle, not-loaded, no-turns}
 use Rattle.tonekit_records.specs.Records.{Tally, noTally, kind, bodyVerdictOf, recordVerdictOf, tallied, ReadsOn, none, more, recordsBytes, addedAll}
-use Rattle.tonekit_records.proofs.OwnBytes.{Stands, byte-same}
+use Rattle.tonekit_bytes.proofs.Stands.{stands-front}
+use Rattle.tonekit_records.proofs.OwnBytes.{byte-same}
 use Rattle.tonekit_records.proofs.Tallies.{TallyOf, tally-start, verdict-same, tally-next}
 
 -- ---- one record
@@ -37,13 +38,7 @@ end-fine : (t : Tally) → dueAfter (t .last) 6 ≡ true → recordVerdictOf (6 
 unfolding recordVerdictOf bodyVerdictOf
 end-fine t d = rw d
 
--- what the bytes from an offset on begin with stands there, and what follows it stands behind
-pub stands-front : (s : List ℕ) (at : ℕ) (r tail : List ℕ) → drop at s ≡ r ++ tail → at ≤ length s → Stands s at r
-stands-front s at r tail e l = record {
-  fits = omega (arith, length-drop at s, ap length e, length-append r tail);
-  byte = λ k h. sym (getD-drop at s k 0) ∙ ap (λ x. getD x k 0) e ∙ List·getD-append r tail 0 k h;
-}
-
+-- what follows a record stands behind it
 pub drop-behind : (s : List ℕ) (at : ℕ) (r tail : List ℕ) → drop at s ≡ r ++ tail → drop (at + length r) s ≡ tail
 drop-behind s at r tail e = sym (drop-drop (length r) at s) ∙ ap (drop (length r)) e ∙ drop-append-seam r tail
 

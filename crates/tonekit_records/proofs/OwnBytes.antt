@@ -8,13 +8,9 @@ use lib.ListN.{length}
 use lib.Ieee.{binary32, ofBits}
 use Rattle.tonekit_core.proofs.LoopLaws.{range-same}
 use Rattle.tonekit_bytes.specs.Fields.{byteAt, u32At, f32At}
+use Rattle.tonekit_bytes.proofs.Stands.{Stands, field32}
 use Rattle.tonekit_pack.specs.Ranges.{slotFine, slotTurn, knotsFine, regionFine, tolerancesFine}
 use Rattle.tonekit_pack.specs.Pack.{sizeOf, settingsVerdict, toneFine, accentFine, ruleFine, partFine}
-
--- r stands in s from an offset on
-pub record Stands (s : List ℕ) (at : ℕ) (r : List ℕ) : Type 0 where
-  pub fits : at + length r ≤ length s
-  pub byte : (k : ℕ) → k < length r → byteAt s (at + k) ≡ byteAt r k
 
 module _ (s : List ℕ) (at : ℕ) (r : List ℕ) (h : Stands s at r) where
   -- the field at k of r; o is its offset in s, in whatever way that is written
@@ -22,13 +18,7 @@ module _ (s : List ℕ) (at : ℕ) (r : List ℕ) (h : Stands s at r) where
   byte-same o k e l = ap (byteAt s) e ∙ h .byte k l
 
   pub u32-same : (o k : ℕ) → o ≡ at + k → k + 4 ≤ length r → u32At s o ≡ u32At r k
-  u32-same o k e l =
-      rw (
-        byte-same o k e (omega arith),
-        byte-same (o + 1) (k + 1) (omega arith) (omega arith),
-        byte-same (o + 2) (k + 2) (omega arith) (omega arith),
-        byte-same (o + 2 + 1) (k + 2 + 1) (omega arith) (omega arith),
-      )
+  u32-same o k e l = ap (u32At s) e ∙ field32 h k l
 
   pub f32-same : (o k : ℕ) → o ≡ at + k → k + 4 ≤ length r → f32At s o ≡ f32At r k
   f32-same o k e l = ap (ofBits binary32) (u32-same o k e l)

@@ -15,7 +15,8 @@ use Rattle.tonekit_pack.specs.Pack.{Pst, inTurn, dueAfter, sizeOf, holds, zeroO
 use Rattle.tonekit_pack.proofs.Split.{split}
 use Rattle.tonekit_pack.proofs.Records.{Due, due-is, settings, tone, accent, rule, part, finish}
 use Rattle.tonekit_records.specs.Records.{Tally, noTally, among, zeroOrAmong, kind, toneVerdictOf, accentVerdictOf, ruleVerdictOf, lastSingle, partVerdictOf, bodyVerdictOf, recordVerdictOf, tallied}
-use Rattle.tonekit_records.proofs.OwnBytes.{Stands, byte-same, settings-same, tone-same, accent-same, rule-same, part-same}
+use Rattle.tonekit_bytes.proofs.Stands.{Stands}
+use Rattle.tonekit_records.proofs.OwnBytes.{byte-same, settings-same, tone-same, accent-same, rule-same, part-same}
 
 -- t is the tally of what the reader has read
 pub record TallyOf (s : List ℕ) (st : Pst) (t : Tally) : Type 0 where

@@ -10,10 +10,10 @@ use lib.IntN.{pos}
 use lib.ListN.{length, getD, length-append, length-map}
 use lib.Ieee.{Float, nan, inf, fin, binary32, le, fits, ofBits, toBits}
 use lib.Ieee.Bits.{is-true, ofBits-toBits, toBits-lt, ofBits-fits, toBits-ofBits, nanBits-is, nanBits-above}
-use lib.Ieee.Fits.{and-i, cond-fits, nan-fits, inf-fits, round-fits}
+use lib.Ieee.Fits.{and-i, cond-fits, nan-fits}
 use borrow.Author.Tests.{ltb-true, le-ltb}
 use Rattle.tonekit_bytes.specs.Fields.{byteAt, u32At, f32At}
-use Rattle.tonekit_float.specs.Narrow.{narrowed}
+use Rattle.tonekit_float.proofs.Narrowing.{narrow-fits}
 use Rattle.tonekit_pack.specs.Ranges.{weightFine}
 use Rattle.tonekit_pack.proofs.Split.{split}
 use Rattle.tonekit_expect.specs.declared.Listing.{Listing}
@@ -53,15 +53,9 @@ unfolding knotsAt
 knots-held s o zero k = nan-fits binary32
 knots-held s o (suc n) k = held-snoc (knotsAt s o n) (f32At s (o + 4 * n)) (knots-held s o n) (ofBits-fits binary32 (u32At s (o + 4 * n))) k
 
-narrow-held : (x : Float) → Held (narrowed x)
-unfolding narrowed
-narrow-held nan = nan-fits binary32
-narrow-held (inf s) = inf-fits binary32 s
-narrow-held (fin s m e) = round-fits binary32 s _ _
-
 line-held : (a b t : Float) → Held (onLine a b t)
 unfolding onLine
-line-held a b t = narrow-held _
+line-held a b t = narrow-fits _
 
 point-held : (knots : List Float) → AllHeld knots → (i : ℕ) → Held (pointAt knots i)
 unfolding pointAt

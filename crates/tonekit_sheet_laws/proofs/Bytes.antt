@@ -1,53 +1,12 @@
--- Bytes that stand at an offset in others: fields, parts, and pieces one behind the other. Assumes nothing.
+-- Pieces of bytes one behind the other, where they stand in others. Assumes nothing.
 use Prim.Native.Nat.{ℕ, zero, suc, _+_, _-_, _*_, _≤_, _<_}
 use mathlib.Core.Path.{_≡_, ap, _∙_, subst}
 use mathlib.Core.List.{List, [], _++_, append-assoc}
 use native.Mathlib.Omega.{arith}
 use lib.ListN.{length, length-append, List·getD-append}
 use lib.Seq.{getD-append-add}
-use Rattle.tonekit_bytes.specs.Fields.{byteAt, u16At, u32At}
+use Rattle.tonekit_bytes.proofs.Stands.{Stands, stands-first, stands-then}
 use Rattle.tonekit_sheet.specs.Gather.{gather, gather-done, gather-step, gather-length}
-
--- bs stand in s from o on
-pub record Stands (s : List ℕ) (o : ℕ) (bs : List ℕ) : Type 0 where
-  pub fits : o + length bs ≤ length s
-  pub byte : (k : ℕ) → k < length bs → byteAt s (o + k) ≡ byteAt bs k
-
-pub stands-whole : (s : List ℕ) → Stands s 0 s
-stands-whole s = record { fits = omega arith; byte = λ k h. let e : 0 + k ≡ k = omega arith in rw e }
-
-module _ {s : List ℕ} {o : ℕ} {bs : List ℕ} (w : Stands s o bs) where
-  -- a field of them
-  pub field16 : (k : ℕ) → k + 2 ≤ length bs → u16At s (o + k) ≡ u16At bs k
-  field16 k h =
-      let e : o + k + 1 ≡ o + (k + 1) = omega arith in
-      rw (e, w .byte k (omega arith), w .byte (k + 1) (omega arith))
-
-  pub field32 : (k : ℕ) → k + 4 ≤ length bs → u32At s (o + k) ≡ u32At bs k
-  field32 k h =
-      let e : o + k + 2 ≡ o + (k + 2) = omega arith in
-      rw (e, field16 k (omega arith), field16 (k + 2) (omega arith))
-
-  pub kind : 1 ≤ length bs → byteAt s o ≡ byteAt bs 0
-  kind h = let e : o + 0 ≡ o = omega arith in rw e at (w .byte 0 h)
-
--- at an offset that comes to the same
-pub stands-at : {s : List ℕ} {o : ℕ} (bs : List ℕ) {p : ℕ} → Stands s o bs → o ≡ p → Stands s p bs
-stands-at {s} bs w e = subst (λ (n : ℕ). Stands s n bs) e w
-
--- the first part, and the second
-pub stands-first : {s : List ℕ} {o : ℕ} (a b : List ℕ) → Stands s o (a ++ b) → Stands s o a
-stands-first a b w = record {
-  fits = omega (arith, w .fits, length-append a b);
-  byte = λ k h. w .byte k (omega (arith, length-append a b)) ∙ List·getD-append a b 0 k h;
-}
-
-pub stands-then : {s : List ℕ} {o : ℕ} (a b : List ℕ) (p : ℕ) → p ≡ o + length a → Stands s o (a ++ b) → Stands s p b
-stands-then {s} {o} a b p e w = record {
-  fits = omega (arith, w .fits, length-append a b);
-  byte = λ k h. let q : p + k ≡ o + (length a + k) = omega arith in
-      rw q (w .byte (length a + k) (omega (arith, length-append a b)) ∙ getD-append-add a b k 0);
-}
 
 -- ---- pieces
 module _ (f : ℕ → List ℕ) where

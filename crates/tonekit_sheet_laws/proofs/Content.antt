@@ -35,12 +35,12 @@ module _ (s : List ℕ) where
   bits-get (suc n) o zero h = let e : o + 4 * 0 ≡ o = omega arith in rw e
   bits-get (suc n) o (suc k) h = let e : o + 4 * suc k ≡ o + 4 + 4 * k = omega arith in rw e (bits-get n (o + 4) k (omega arith))
 
-  carried-count : (o n : ℕ) → length (carriedFrom s o n) ≡ n
+  pub carried-count : (o n : ℕ) → length (carriedFrom s o n) ≡ n
   unfolding carriedFrom
   carried-count o zero = refl
   carried-count o (suc n) = simp (length-append, carried-count o n, add-one)
 
-  carried-get : (o n j : ℕ) → j < n → getD (carriedFrom s o n) j noCarried ≡ carriedAt s o j
+  pub carried-get : (o n j : ℕ) → j < n → getD (carriedFrom s o n) j noCarried ≡ carriedAt s o j
   unfolding carriedFrom
   carried-get o zero j h = absurd (omega arith)
   carried-get o (suc n) j h =

@@ -9,7 +9,8 @@ use Rattle.tonekit_expect.specs.Source.{Carried}
 use Rattle.tonekit_sheet.specs.Gather.{gather, gather-done, gather-length}
 use Rattle.tonekit_sheet.specs.Sheet.{View, rowsOf, settingsBytes, tonePiece, accentPiece, rowPiece, listPiece, bytesWith}
 use Rattle.tonekit_sheet_laws.specs.Place.{componentsBefore, toneAt, accentAt, rowAt, listAt}
-use Rattle.tonekit_sheet_laws.proofs.Bytes.{Stands, stands-at, stands-whole, stands-first, stands-then, piece-stands, even-stands, gather-next}
+use Rattle.tonekit_bytes.proofs.Stands.{Stands, stands-at, stands-whole, stands-first, stands-then}
+use Rattle.tonekit_sheet_laws.proofs.Bytes.{piece-stands, even-stands, gather-next}
 use Rattle.tonekit_sheet_laws.proofs.Placed.{before-none}
 use Rattle.tonekit_sheet_laws.proofs.Records.{Ten, list-length}
 

@@ -11,7 +11,7 @@ use Rattle.tonekit_expect.specs.declared.Context.{Context}
 use Rattle.tonekit_sheet.specs.Sheet.{settingsBytes, toneBytes, accentBytes, rowBytes, bitsBytes, componentBytes, componentsBytes, noCarried, headBytes, listBytes}
 use Rattle.tonekit_sheet.specs.Fit.{Bits}
 use Rattle.tonekit_bytes.proofs.Back.{le16-back, le32-back}
-use Rattle.tonekit_sheet_laws.proofs.Bytes.{Stands, field16, field32, kind, stands-first, stands-then}
+use Rattle.tonekit_bytes.proofs.Stands.{Stands, field16, field32, kind, stands-first, stands-then}
 
 module _ (s : List ℕ) (o : ℕ) where
   pub record SettingsThere (x : Settings) : Type 0 where

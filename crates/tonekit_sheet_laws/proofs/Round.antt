@@ -13,7 +13,7 @@ use Rattle.tonekit_sheet.specs.Sheet.{View, viewOf, rowsOf, listsOf, bytesOf, s
 use Rattle.tonekit_sheet.specs.Reader.{Sst, Out, loaded, refused, sizeOf, dueNext, bodyVerdict, start, readSheet, loadSheet, checkSheet}
 use Rattle.tonekit_sheet.specs.Fit.{Fit}
 use Rattle.tonekit_sheet_laws.specs.Place.{componentsBefore, toneAt, accentAt, rowAt, listAt, readTo, lastOf, stOfView, stOf}
-use Rattle.tonekit_sheet_laws.proofs.Bytes.{kind}
+use Rattle.tonekit_bytes.proofs.Stands.{kind}
 use Rattle.tonekit_sheet_laws.proofs.Placed.{before-none, before-all}
 use Rattle.tonekit_sheet_laws.proofs.Laid.{Laid, laid}
 use Rattle.tonekit_sheet_laws.proofs.Fitting.{ViewFit, view-fit}
