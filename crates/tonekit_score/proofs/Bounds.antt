@@ -1,11 +1,13 @@
--- What `clamp_log` returns lies within ±1,000,000 and is no NaN, whatever it is given. Assumes nothing.
+-- What `clamp_log` returns is an f32, lies within ±1,000,000 and is no NaN, whatever it is given. Assumes nothing.
 use mathlib.Core.Path.{_≡_, refl}
 use mathlib.Core.Bool.{Bool, true, false, cond}
 use lib.Dec.{T}
-use lib.Ieee.{Float, nan, inf, fin, isNan, neg, lt, le, round, ofBits}
+use lib.Ieee.{Float, nan, inf, fin, binary32, isNan, neg, lt, le, round, ofBits, fits}
+use lib.Ieee.Fits.{cond-fits}
 use lib.Ieee.Scale.{finite}
 use Rattle.tonekit_float.specs.Narrow.{narrowed}
 use Rattle.tonekit_float.specs.Bounds.{In}
+use Rattle.tonekit_float.proofs.Narrowing.{narrow-fits}
 use Rattle.tonekit_float.proofs.Order.{no, not-lt→le}
 use Rattle.tonekit_float.proofs.Nans.{finite-number}
 use Rattle.tonekit_float.proofs.Bounds.{in-finite, in-wider, in-narrow}
@@ -54,3 +56,10 @@ ways v false false false e f g = inner v (real v e f g) f g
 pub clamp-bounded : (v : Float) → Bounded (clampLog v)
 unfolding clampLog
 clamp-bounded v = ways v (isNan v) (lt v (neg million)) (lt million v) refl refl refl
+
+pub clamp-fits : (v : Float) → T (fits binary32 (clampLog v))
+unfolding clampLog
+clamp-fits v =
+    cond-fits binary32 (isNan v) _ _ (narrow-fits (neg million))
+    (cond-fits binary32 (lt v (neg million)) _ _ (narrow-fits (neg million))
+    (cond-fits binary32 (lt million v) _ _ (narrow-fits million) (narrow-fits v)))
