@@ -25,9 +25,9 @@ use Rattle.tonekit_expect.proofs.Walk.{index-found, winner-is}
 use Rattle.tonekit_expect.proofs.Curves.{listed-fine}
 use Rattle.tonekit_inventory.specs.Slots.{Looked}
 
-record Few (l : Listing) : Type 0 where
-  some : 1 ≤ l .count
-  few : l .count ≤ 4
+pub record Few (l : Listing) : Type 0 where
+  pub some : 1 ≤ l .count
+  pub few : l .count ≤ 4
 
 module _ (s : List ℕ) (st : Pst) (e : ℕ) (l : Loads s st e) (c : Context) where
   -- a rule with a part
@@ -57,7 +57,7 @@ module _ (s : List ℕ) (st : Pst) (e : ℕ) (l : Loads s st e) (c : Context) wh
   of-places m found.Nothing g a q = let n : _≡_ {A = ℕ} 0 1 = cc in absurd (omega arith)
   of-places m (found.At i) found.Nothing a q = let n : _≡_ {A = ℕ} 0 1 = cc in absurd (omega arith)
 
-look-few : (s : List ℕ) (st : Pst) (e : ℕ) → readPack s ≡ loaded st e → (c : Context) (l : Listing) → lookUp s st c ≡ look.Found l → Few l
+pub look-few : (s : List ℕ) (st : Pst) (e : ℕ) → readPack s ≡ loaded st e → (c : Context) (l : Listing) → lookUp s st c ≡ look.Found l → Few l
 unfolding lookUp
 look-few s st e p c l q = of-places s st e (loads s st e p) c l (indexOf s (st .accents) (c .accent)) (indexOf s (st .tones) (c .tone)) refl q
 

@@ -4,3 +4,5 @@ pub mod Few
 pub mod Going
 pub mod Tones
 pub mod Search
+pub mod Listed
+pub mod Alike

@@ -2,3 +2,4 @@ mod Slots
 mod Agree
 mod Parts
 pub mod Bounds
+pub mod Winner

@@ -4,3 +4,4 @@ pub mod Lookup
 pub mod Slots
 pub mod Tones
 pub mod Search
+pub mod Alike
