@@ -103,14 +103,14 @@ leaves (refused r place) h before after a n d w =
 leaves (written bs) h before after a n d w =
     split (leb (length bs) (length before))
     (λ t.
-      let e : Written n ≡ Written (length bs) = sym w ∙ rw t at (d .answer) in
-      let m : n ≡ length bs = cc in
-      let f : after ≡ bs ++ drop (length bs) before = rw t at (d .buffer) in
-      rw (m, f, take-append-seam bs (drop (length bs) before)) h)
+    let e : Written n ≡ Written (length bs) = sym w ∙ rw t at (d .answer) in
+    let m : n ≡ length bs = cc in
+    let f : after ≡ bs ++ drop (length bs) before = rw t at (d .buffer) in
+    rw (m, f, take-append-seam bs (drop (length bs) before)) h)
     (λ t.
-      let no : Written n ≡ Refused ShortBuffer (length bs) = sym w ∙ rw t at (d .answer) in
-      let z : _≡_ {A = ℕ} 0 1 = cc in
-      absurd (omega arith))
+    let no : Written n ≡ Refused ShortBuffer (length bs) = sym w ∙ rw t at (d .answer) in
+    let z : _≡_ {A = ℕ} 0 1 = cc in
+    absurd (omega arith))
 
 pub buffers-bounded : BuffersBounded
 buffers-bounded p q = (leaves (judgeOutcome p q) (judge-sound p q), leaves (judgeSheetOutcome p q) (judge-sheet-sound p q))

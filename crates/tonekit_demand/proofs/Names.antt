@@ -72,8 +72,7 @@ module _ (src : Source) (few : length (src .tones) ≤ 8) (alike : (c : Context)
       let owner = rw tone at (n .owner) ∙ en .owner ∙ sym (u .owner) in
       let form = rw tone at (n .form) ∙ en .form ∙ sym (u .form) in
       let label = rw tone at (n .label) ∙ en .label ∙ sym (u .label) in
-      let part = rw (tone, place, en .form) at (n .part) ∙ sym (u .part) in
-      (
+      let part = rw (tone, place, en .form) at (n .part) ∙ sym (u .part) in (
         getD given (a .component) noCarried,
         record {
           tone = a .tone;
