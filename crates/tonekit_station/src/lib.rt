@@ -2,7 +2,7 @@
 ghost use mathlib.Core.Path.{_≡_};
 ghost use Prim.Native.Nat.{_≤_};
 ghost use Rattle.tonekit_core.specs.Calls.{Delivers};
-ghost use Rattle.tonekit_judge.specs.Judge.{Sound};
+ghost use Rattle.tonekit_judge.specs.Judge.{Sound, Placed, judgementOf};
 ghost use Rattle.tonekit_inventory.specs.Gather.{listedOf, gatheringOf};
 ghost use Rattle.tonekit_station.specs.Judgement.{contextOf, tonesVerdict, queryVerdict, judgeGathered, judgeOutcome, judgeSheetOutcome, stationOutcome, stationSheetOutcome};
 use tonekit_core::Answer;
@@ -11,9 +11,12 @@ use tonekit_core::Verdict;
 use tonekit_expect::Context;
 use tonekit_inventory::Gathered;
 use tonekit_judge::Inventory;
+use tonekit_judge::Targets;
+use tonekit_judge::ToneJudgement;
 use tonekit_pack::PackRead;
 use tonekit_query::Query;
 use tonekit_query::QueryRead;
+use tonekit_shape::ToneShape;
 use tonekit_sheet_read::SheetRead;
 
 // The context that a query is judged in.
@@ -73,6 +76,34 @@ fn query_verdict(
     Verdict::Refused(Refusal::BadVariant)
 }
 
+// The judgement of a shape by what a station gathered, as whoever gathered it made it.
+fn judged(
+    x: ToneShape,
+    g: Gathered,
+    weights: &[f32],
+    points: &[f32],
+    targets: Targets,
+    issues: u16,
+) -> ToneJudgement
+    requires { ⌜ Sound (listedOf (g .inventory) (now weights) (now points)) × Placed (g .inventory .tones) targets ⌝ }
+    ensures { λ r. ⌜ r ≡ judgementOf x (g .temperature) (g .threshold) (g .tolerance)
+        (listedOf (g .inventory) (now (weights .entry)) (now (points .entry))) targets issues ⌝ }
+{
+    let tolerance = g.tolerance;
+    let inventory = g.inventory;
+    tonekit_judge::judge(
+        x,
+        g.temperature,
+        g.threshold,
+        tolerance,
+        inventory,
+        weights,
+        points,
+        targets,
+        issues,
+    )
+}
+
 // The judgement of a query that loads, by what a station gathered for its context: refusals 11 to 15
 // and 9, or the record. The slots are as whoever gathered them made them.
 fn judge_gathered(
@@ -101,20 +132,9 @@ fn judge_gathered(
     if !aimed.held {
         return Answer::Refused(Refusal::UnknownTone, 0);
     }
-    let tolerance = g.tolerance;
     let x = tonekit_shape::shape_of(frames, e, q.start, q.end, q.floor, q.ceil);
     let issues = tonekit_shape::united(q.issues, x.frames);
-    let j = tonekit_judge::judge(
-        x,
-        g.temperature,
-        g.threshold,
-        tolerance,
-        inventory,
-        weights,
-        points,
-        targets,
-        issues,
-    );
+    let j = judged(x, g, weights, points, targets, issues);
     let record = tonekit_judge::record::judgement_record(q.tone, tones as u8, j);
     tonekit_bytes::write_record(out, &record)
 }

@@ -35,7 +35,7 @@ returns-2 c =
 
 shape-of-requires : tie.Need-shape-of-requires
 shape-of-requires c κs =
-    let t = c .before .before .before .before .before .before in
+    let t = c .before .before .before .before .before in
     let k = t .before .before in
     let v = k .before .before in
     let s = v .before .before .before .before .before .before in
@@ -44,16 +44,16 @@ shape-of-requires c κs =
     let h = e .inside (omega (arith, n)) in
     record { enough = n; ordered = e .ordered; counted = e .counted; inside = omega (arith, h, s .pre .1) }
 
-judge-requires : tie.Need-judge-requires
-judge-requires c κs =
-    let h = c .before .before .before in
+judged-requires : tie.Need-judged-requires
+judged-requires c κs =
+    let h = c .before .before in
     let g = h .before .before .before in
     let s = g .before .before .before .before .before .before .before .before .before .before .before .before in
     (s .pre .0, g .targets-of .ensures .1 (not-false (g .targets-of .result .held) (h .if1 .left)))
 
 cast-judgement-record : tie.Need-cast-judgement-record
 cast-judgement-record c =
-    let s = c .before .before .before .before .before .before .before .before .before .before .before .before .before .before .before .before .before .before .before in
+    let s = c .before .before .before .before .before .before .before .before .before .before .before .before .before .before .before .before .before .before in
     omega (arith, s .pre .0 .counted .few)
 
 returns-3 : tie.Need-returns-3
@@ -61,14 +61,14 @@ returns-3 c =
     let r = c .before .before .before .before .before in
     let i = r .before .before in
     let x = i .before in
-    let h = x .before .before in
+    let h = x .before in
     let g = h .before .before .before in
     let t = g .before .before in
     let k = t .before .before in
     let v = k .before .before in
     delivers-same _ _ _ _ _
     (target-held _ _ _ (v .voiced-frames .result) (voiced v) (sym (k .query-verdict .ensures) ∙ t .enum-told .given .1) _ (g .targets-of .ensures .0) (g .targets-of .result .targets) (rw (not-false (g .targets-of .result .held) (h .if1 .left)))
-    (x .shape-of .result) (rw (← (v .before .frames .ensures)) (x .shape-of .ensures)) (i .united .result) (i .united .ensures) (r .before .judge .result) (r .before .judge .ensures) (r .judgement-record .result) (r .judgement-record .ensures))
+    (x .shape-of .result) (rw (← (v .before .frames .ensures)) (x .shape-of .ensures)) (i .united .result) (i .united .ensures) (r .before .judged .result) (r .before .judged .ensures) (r .judgement-record .result) (r .judgement-record .ensures))
     (c .before .before .write-record .ensures)
 
 pub judge-gathered-spec : {M : Type 1} → statement M
@@ -85,7 +85,7 @@ judge-gathered-spec =
     returns-2
     shape-of-requires
     (λ c κs. search needs)
-    judge-requires
+    judged-requires
     cast-judgement-record
     (λ c κs. search needs)
     (λ c. search needs)
