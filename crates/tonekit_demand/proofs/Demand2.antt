@@ -8,93 +8,37 @@ use lib.ListN.{length, drop}
 use lib.Seq.{take-append-seam}
 use lib.Ieee.{Float}
 use Rattle.tonekit_core.specs.Calls.{Outcome, refused, written, answerIn, bufferAfter, Delivers}
-use Rattle.tonekit_core.specs.declared.Answer.{Answer}
 use Rattle.tonekit_core.specs.declared.Answer.the-variants.{Written, Refused}
 use Rattle.tonekit_core.specs.declared.Refusal.the-variants.{ShortBuffer}
-use Rattle.tonekit_core.specs.declared.Verdict.{Verdict}
-use Rattle.tonekit_core.specs.declared.Verdict.the-variants as verdict
-use Rattle.tonekit_query.specs.Query.{loadQuery, framesOf}
-use Rattle.tonekit_query.specs.declared.Query.{Query}
-use Rattle.tonekit_query.specs.declared.QueryRead.{QueryRead}
-use Rattle.tonekit_query.specs.declared.QueryRead.the-variants as query
 use Rattle.tonekit_pack.proofs.Split.{split}
-use Rattle.tonekit_pack.specs.Pack.{Out, loadPack}
-use Rattle.tonekit_pack.specs.Pack as pack
-use Rattle.tonekit_sheet.specs.Reader.{loadSheet}
-use Rattle.tonekit_sheet.specs.Reader as sheet
-use Rattle.tonekit_sheet.specs.FromSheet.{sourceOfSheet}
-use Rattle.tonekit_expect.specs.Source.{Source, sourceOfPack}
-use Rattle.tonekit_shape.specs.Extract.{extentOf, shapeOf}
-use Rattle.tonekit_shape.specs.Record.{united}
-use Rattle.tonekit_shape.specs.declared.Extent.{Extent}
 use Rattle.tonekit_score.proofs.Bounds.{Bounded, bounded-number}
 use Rattle.tonekit_judge.proofs.Bounds.{judgement-length, loglik-read, llr-read}
-use Rattle.tonekit_target.specs.Target.{Aim, held, loose, targetsOf}
-use Rattle.tonekit_inventory.specs.Gather.{Gathering, gathered}
-use Rattle.tonekit_station.specs.Judgement.{contextOf, queryVerdict, recorded, unless, judgeGathered, onQuery, judgement, onPack, judgeOutcome, onSheet, judgeSheetOutcome}
+use Rattle.tonekit_station.specs.Judgement.{judgeOutcome, judgeSheetOutcome}
+use Rattle.tonekit_station.proofs.Written.{Writes, Records, judge-writes, judge-sheet-writes}
 use Rattle.tonekit_demand.specs.Demand2.{WithinMillion, BoundedRecord, LeavesBounded, OutcomesBounded, BuffersBounded}
-
--- an outcome's bytes, where it has some
-abbrev Sound : Outcome → Type 0
-Sound (refused r place) = Unit
-Sound (written bs) = BoundedRecord bs
 
 within : {x : Float} → Bounded x → WithinMillion x
 within b = record { low = b .low; high = b .high; number = bounded-number b }
 
--- ---- from the record up to the calls
-recorded-sound : (g : Gathering) (q : Query) (frames : List ℕ) (e : Extent) (a : Aim) → Sound (recorded g q frames e a)
-recorded-sound g q frames e (loose a) = tt
-recorded-sound g q frames e (held a) =
-    let x = shapeOf frames e (q .start) (q .end) (q .floor) (q .ceil) in
-    let i = united (q .issues) (x .frames) in
-    let n = g .listed .inventory .tones in
-    record {
-      size = judgement-length x (g .temperature) (g .threshold) (g .tolerance) (g .listed) a i (q .tone) n;
-      loglik = λ k h. within (loglik-read x (g .temperature) (g .threshold) (g .tolerance) (g .listed) a i (q .tone) n k h);
-      llr = within (llr-read x (g .temperature) (g .threshold) (g .tolerance) (g .listed) a i (q .tone) n);
-    }
+-- the record of every judgement
+records : Records BoundedRecord
+records x temperature threshold t l g issues expected tones = record {
+  size = judgement-length x temperature threshold t l g issues expected tones;
+  loglik = λ k h. within (loglik-read x temperature threshold t l g issues expected tones k h);
+  llr = within (llr-read x temperature threshold t l g issues expected tones);
+}
 
-unless-sound : (v : Verdict) (o : Outcome) → Sound o → Sound (unless v o)
-unless-sound (verdict.Refused r) o h = tt
-unless-sound verdict.Fine o h = h
+judge-bounded : (p q : List ℕ) → Writes BoundedRecord (judgeOutcome p q)
+judge-bounded = judge-writes BoundedRecord records
 
-query-sound : (src : Source) (s : List ℕ) (q : QueryRead) → Sound (onQuery src s q)
-unfolding judgeGathered
-query-sound src s (query.Refused r place) = tt
-query-sound src s (query.Good q) =
-    let g = gathered src (contextOf q) in
-    let frames = framesOf s (q .count) in
-    let e = extentOf frames (q .count) (q .start) (q .end) in
-    let i = g .listed .inventory in
-    unless-sound (queryVerdict (e .count) (g .accent) (g .prev) i s q) _
-    (recorded-sound g q frames e (targetsOf (i .tones) (i .numbers) s (q .tone) (q .variants)))
-
-judgement-sound : (src : Source) (s : List ℕ) → Sound (judgement src s)
-unfolding judgement
-judgement-sound src s = query-sound src s (loadQuery s)
-
-pack-sound : (p s : List ℕ) (o : Out) → Sound (onPack p s o)
-pack-sound p s (pack.refused r place) = tt
-pack-sound p s (pack.loaded st e) = judgement-sound (sourceOfPack p st) s
-
-sheet-sound : (p s : List ℕ) (o : sheet.Out) → Sound (onSheet p s o)
-sheet-sound p s (sheet.refused r place) = tt
-sheet-sound p s (sheet.loaded st e) = judgement-sound (sourceOfSheet p st) s
-
-judge-sound : (p s : List ℕ) → Sound (judgeOutcome p s)
-unfolding judgeOutcome
-judge-sound p s = pack-sound p s (loadPack p)
-
-judge-sheet-sound : (p s : List ℕ) → Sound (judgeSheetOutcome p s)
-unfolding judgeSheetOutcome
-judge-sheet-sound p s = sheet-sound p s (loadSheet p)
+judge-sheet-bounded : (p q : List ℕ) → Writes BoundedRecord (judgeSheetOutcome p q)
+judge-sheet-bounded = judge-sheet-writes BoundedRecord records
 
 pub outcomes-bounded : OutcomesBounded
-outcomes-bounded p q bs = (λ e. subst Sound e (judge-sound p q), λ e. subst Sound e (judge-sheet-sound p q))
+outcomes-bounded p q bs = (λ e. subst (Writes BoundedRecord) e (judge-bounded p q), λ e. subst (Writes BoundedRecord) e (judge-sheet-bounded p q))
 
 -- ---- a lent buffer
-leaves : (o : Outcome) → Sound o → LeavesBounded o
+leaves : (o : Outcome) → Writes BoundedRecord o → LeavesBounded o
 unfolding answerIn bufferAfter
 leaves (refused r place) h before after a n d w =
     let no : Written n ≡ Refused r place = sym w ∙ d .answer in
@@ -113,4 +57,4 @@ leaves (written bs) h before after a n d w =
     absurd (omega arith))
 
 pub buffers-bounded : BuffersBounded
-buffers-bounded p q = (leaves (judgeOutcome p q) (judge-sound p q), leaves (judgeSheetOutcome p q) (judge-sheet-sound p q))
+buffers-bounded p q = (leaves (judgeOutcome p q) (judge-bounded p q), leaves (judgeSheetOutcome p q) (judge-sheet-bounded p q))

@@ -2,3 +2,4 @@ pub mod Ways
 pub mod Enough
 pub mod Depends
 pub mod Together
+pub mod Written
