@@ -11,7 +11,7 @@ use lib.Seq.{getD-append-add, getD-drop}
 use Rattle.tonekit_core.specs.declared.Verdict.the-variants as verdict
 use Rattle.tonekit_bytes.specs.Fields.{byteAt}
 use Rattle.tonekit_pack.specs.Pack.{Pst, sizeOf, numberAt, ruleFine, partFine, added, start}
-use Rattle.tonekit_pack.proofs.Split.{split, both, either, neither}
+use Rattle.tonekit_core.proofs.Split.{split, both, either, neither}
 use Rattle.tonekit_pack.proofs.Records.{passed, size-pos}
 use Rattle.tonekit_expect.specs.Lookup.{toRule}
 use Rattle.tonekit_expect.specs.Source.{accentAt}

@@ -7,7 +7,7 @@ use mathlib.Core.List.{List, _∷_, _++_, append-assoc}
 use native.Mathlib.Omega.{arith}
 use lib.ListN.{length, drop}
 use Rattle.tonekit_pack.specs.Pack.{Pst, dueAfter, sizeOf, loaded, start, readPack}
-use Rattle.tonekit_pack.proofs.Split.{absurd-bool}
+use Rattle.tonekit_core.proofs.Split.{absurd-bool}
 use Rattle.tonekit_pack.proofs.Records.{Due, due-is, settings, tone, accent, rule, part, finish}
 use Rattle.tonekit_expect.specs.Source.{settingsAt, sourceOfPack}
 use Rattle.tonekit_sheet.specs.Sheet.{sheet}

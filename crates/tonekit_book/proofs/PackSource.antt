@@ -10,7 +10,7 @@ use lib.ListN.{length, getD}
 use Rattle.tonekit_core.specs.Loop.{Turn, next, stop, fold, turns, range, turnsTo, rangeTo, loopOn, loopTo}
 use Rattle.tonekit_bytes.specs.Fields.{byteAt}
 use Rattle.tonekit_pack.specs.Pack.{Pst, numberAt, partsFrom}
-use Rattle.tonekit_pack.proofs.Split.{split}
+use Rattle.tonekit_core.proofs.Split.{split}
 use Rattle.tonekit_expect.specs.declared.Context.{Context}
 use Rattle.tonekit_expect.specs.declared.Found.{Found}
 use Rattle.tonekit_expect.specs.declared.Found.the-variants as found

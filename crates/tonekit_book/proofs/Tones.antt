@@ -12,7 +12,7 @@ use Rattle.tonekit_core.specs.declared.Verdict.the-variants as verdict
 use Rattle.tonekit_bytes.specs.Fields.{byteAt}
 use Rattle.tonekit_pack.specs.Ranges.{oneF}
 use Rattle.tonekit_pack.specs.Pack.{Pst, sizeOf, numberAt, toneFine, added, start}
-use Rattle.tonekit_pack.proofs.Split.{split, neither}
+use Rattle.tonekit_core.proofs.Split.{split, neither}
 use Rattle.tonekit_pack.proofs.Records.{passed}
 use Rattle.tonekit_expect.specs.Knots.{knotsAt, expanded}
 use Rattle.tonekit_expect.specs.Lookup.{citation, componentOf}

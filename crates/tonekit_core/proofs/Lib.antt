@@ -1,3 +1,4 @@
+pub mod Split
 pub mod LoopLaws
 pub mod Issues
 pub mod Calls

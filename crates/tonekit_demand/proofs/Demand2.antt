@@ -10,7 +10,7 @@ use lib.Ieee.{Float}
 use Rattle.tonekit_core.specs.Calls.{Outcome, refused, written, answerIn, bufferAfter, Delivers}
 use Rattle.tonekit_core.specs.declared.Answer.the-variants.{Written, Refused}
 use Rattle.tonekit_core.specs.declared.Refusal.the-variants.{ShortBuffer}
-use Rattle.tonekit_pack.proofs.Split.{split}
+use Rattle.tonekit_core.proofs.Split.{split}
 use Rattle.tonekit_score.proofs.Bounds.{Bounded, bounded-number}
 use Rattle.tonekit_judge.proofs.Bounds.{judgement-length, loglik-read, llr-read}
 use Rattle.tonekit_station.specs.Judgement.{judgeOutcome, judgeSheetOutcome}

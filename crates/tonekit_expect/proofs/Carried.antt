@@ -15,7 +15,7 @@ use borrow.Author.Tests.{eqb-true, eq-eqb}
 use Rattle.tonekit_expect.specs.declared.Listing.{Listing}
 use Rattle.tonekit_expect.specs.Lookup.{componentOf}
 use Rattle.tonekit_expect.specs.Source.{Carried, carried, components}
-use Rattle.tonekit_pack.proofs.Split.{split}
+use Rattle.tonekit_core.proofs.Split.{split}
 
 module _ (s : List ℕ) (l : Listing) where
   -- under the listing's name

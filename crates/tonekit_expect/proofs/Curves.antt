@@ -28,7 +28,7 @@ use Rattle.tonekit_expect.specs.declared.Listing.{Listing}
 use Rattle.tonekit_expect.specs.declared.Look.the-variants as look
 use Rattle.tonekit_expect.specs.Knots.{Knot, Point, Knots, knotsAt}
 use Rattle.tonekit_expect.specs.Lookup.{indexOf, toRule, findRule, ruleListing, citation, listed, lookAt, lookUp, knotsOf, componentOf, Listed}
-use Rattle.tonekit_pack.proofs.Split.{split}
+use Rattle.tonekit_core.proofs.Split.{split}
 use Rattle.tonekit_pack.proofs.Loads.{RuleFine, Loads, loads, firsts-bound}
 use Rattle.tonekit_expect.proofs.Bound.{length-knots, points-bounded}
 use Rattle.tonekit_expect.proofs.Walk.{index-found, winner-is}

@@ -6,7 +6,7 @@ use lib.Dec.{ltb}
 use lib.ListN.{getD, List·getD-eq-default}
 use borrow.Author.Tests.{ltb-true, ltb-false}
 use Rattle.tonekit_pack.specs.Held.{inOrder}
-use Rattle.tonekit_pack.proofs.Split.{split}
+use Rattle.tonekit_core.proofs.Split.{split}
 use Rattle.tonekit_pack.proofs.InOrder.{order-length, order-get}
 
 pub order-past : (xs : List ℕ) (n i : ℕ) → n ≤ i → getD (inOrder xs n) i 0 ≡ 0

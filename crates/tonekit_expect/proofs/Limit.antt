@@ -20,7 +20,7 @@ use Rattle.tonekit_expect.specs.declared.Winner.the-variants as winner
 use Rattle.tonekit_expect.specs.declared.Context.{Context}
 use Rattle.tonekit_expect.specs.Lookup.{indexTurn, indexOf, bestRule, parentOf, climbTurn, findRule}
 use Rattle.tonekit_expect.specs.Chain.{Earlier, Ends, top, up}
-use Rattle.tonekit_pack.proofs.Split.{split}
+use Rattle.tonekit_core.proofs.Split.{split}
 use Rattle.tonekit_pack.proofs.Loads.{loads, parent-before}
 use Rattle.tonekit_expect.proofs.Walk.{index-found, climb-hit, climb-top, climb-on}
 

@@ -9,7 +9,7 @@ use lib.ListN.{length, getD}
 use borrow.Author.Tests.{eqb-true}
 use Rattle.tonekit_core.specs.Loop.{Turn, next, stop, turns, range, turnsTo, rangeTo, loopOn, loopTo}
 use Rattle.tonekit_pack.specs.Pack.{Pst, numberAt}
-use Rattle.tonekit_pack.proofs.Split.{split}
+use Rattle.tonekit_core.proofs.Split.{split}
 use Rattle.tonekit_expect.specs.declared.Found.{Found}
 use Rattle.tonekit_expect.specs.declared.Found.the-variants as found
 use Rattle.tonekit_expect.specs.declared.Winner.{Winner}

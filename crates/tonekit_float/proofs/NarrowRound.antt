@@ -64,7 +64,7 @@ field-is X = ⊎-elim (λ h. less h) (λ h. more h) (either (size X) 53)
         whole k (X / 2 ^ k) lo hi ∙ z
 
 -- ---- a power of two by its pattern
-fields : (b : ℕ) → ofBits binary64 b ≡ ofFields binary64 (leb (2 ^ 63) b) (b % 2 ^ 63 / 2 ^ 52) (b % 2 ^ 52)
+pub fields : (b : ℕ) → ofBits binary64 b ≡ ofFields binary64 (leb (2 ^ 63) b) (b % 2 ^ 63 / 2 ^ 52) (b % 2 ^ 52)
 unfolding ofBits
 fields b = refl
 

@@ -113,7 +113,7 @@ units-number f s q k = go (ltb (q * 2 ^ k) (2 ^ (low f + suc (emax f))))
     go true = odd-number (suc (prec f)) s q k (low f)
     go false = tt
 
-round-number : (f : Format) (s : Bool) (a b : ℕ) → T (not (isNan (round f s a b)))
+pub round-number : (f : Format) (s : Bool) (a b : ℕ) → T (not (isNan (round f s a b)))
 unfolding round
 round-number f s a b = units-number f s _ _
 

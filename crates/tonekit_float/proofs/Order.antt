@@ -50,7 +50,7 @@ ge-either a b k = go (ltb b a) (nltb→le b a)
     go true p = tt
     go false p = and-i (eqb a b) true (eq→eqb {a = a} {b = b} (let z = p tt in omega arith)) tt
 
-either-ge : (a b : ℕ) (c : Bool) → T (ltb b a || (eqb a b && c)) → b ≤ a
+pub either-ge : (a b : ℕ) (c : Bool) → T (ltb b a || (eqb a b && c)) → b ≤ a
 either-ge a b c h = go (ltb b a) (ltb→lt b a) h
   where
     go : (x : Bool) → (T x → b < a) → T (x || (eqb a b && c)) → b ≤ a

@@ -13,7 +13,7 @@ use lib.Ieee.Digits.{size-le}
 use lib.Ieee.Fits.{down-pos, up-pos}
 use lib.Ieee.Exact.{HasValue, odd-sign}
 use Rattle.tonekit_float.proofs.Units.{unitsOf, units-value, toBits-is, size-shift, size-gt}
-use Rattle.tonekit_float.proofs.NarrowRound.{L, field-is}
+use Rattle.tonekit_float.proofs.NarrowRound.{L, fields, field-is}
 use Rattle.tonekit_float.proofs.Exact.{held}
 
 pub L-pos : 0 < L
@@ -33,10 +33,6 @@ rescale (fin t m e) s w l a den p h v = (
 )
 
 -- ---- a pattern with the sign clear
-fields : (b : ℕ) → ofBits binary64 b ≡ ofFields binary64 (leb (2 ^ 63) b) (b % 2 ^ 63 / 2 ^ 52) (b % 2 ^ 52)
-unfolding ofBits
-fields b = refl
-
 fields-at : (b : ℕ) → b < 2 ^ 63 → ofBits binary64 b ≡ ofFields binary64 false (b / 2 ^ 52) (b % 2 ^ 52)
 fields-at b h =
     fields b

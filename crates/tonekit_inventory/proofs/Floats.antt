@@ -10,7 +10,7 @@ use lib.Ieee.Fits.{nan-fits, cond-fits}
 use Rattle.tonekit_float.proofs.Narrowing.{narrow-fits}
 use Rattle.tonekit_bytes.specs.Fields.{byteAt, u32At, f32At}
 use Rattle.tonekit_pack.specs.Ranges.{oneF}
-use Rattle.tonekit_pack.proofs.Split.{split}
+use Rattle.tonekit_core.proofs.Split.{split}
 use Rattle.tonekit_expect.specs.Knots.{segment, fraction, onLine, pointAt, firstPoints, expanded, knotsAt}
 use Rattle.tonekit_expect.specs.Lookup.{componentOf}
 use Rattle.tonekit_expect.specs.Source.{carried}

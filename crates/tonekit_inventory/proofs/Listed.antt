@@ -14,6 +14,7 @@ use Rattle.tonekit_expect.specs.declared.Context.{Context}
 use Rattle.tonekit_judge.specs.Judge.{Listed}
 use Rattle.tonekit_inventory.specs.Gather.{namedOf, withTone, weightsOf, pointsOf, slotted, noTone, givenOf, inContext, listTone, listings, nothingYet, noInventory, f32}
 use Rattle.tonekit_inventory.proofs.Going.{map-at}
+use Rattle.tonekit_inventory.proofs.Slots.{weights-length}
 
 -- ---- a run of entries that was set
 module _ {A : Type 0} (d : A) where
@@ -37,11 +38,6 @@ abbrev pub Tens : Carried → List Carried → Type 0
 Tens d cs = (k : ℕ) → k < length cs → length (getD cs k d .points) ≡ 10
 
 module _ (d : Carried) where
-  pub weights-many : (cs : List Carried) → length (weightsOf cs) ≡ length cs
-  unfolding weightsOf
-  weights-many [] = refl
-  weights-many (c ∷ cs) = ap suc (weights-many cs)
-
   pub weight-of : (cs : List Carried) (k : ℕ) → k < length cs → getD (weightsOf cs) k nan ≡ f32 (getD cs k d .weight)
   unfolding weightsOf
   weight-of [] k h = absurd (not-suc-le-zero h)
@@ -114,7 +110,7 @@ module _ (d : Carried) (t : ℕ) (tone : Tone) (cs : List Carried) (l : Listed) 
       form = getD-set-same (l .inventory .forms) t _ 0 (omega (arith, r .forms));
       label = getD-set-same (l .inventory .labels) t _ 0 (omega (arith, r .labels));
       weight = λ k h.
-          sets-at nan (l .weights) (4 * t) (weightsOf cs) k (omega (arith, weights-many d cs)) (omega (arith, weights-many d cs, r .weights)) ∙ weight-of d cs k h;
+          sets-at nan (l .weights) (4 * t) (weightsOf cs) k (omega (arith, weights-length cs)) (omega (arith, weights-length cs, r .weights)) ∙ weight-of d cs k h;
       point = λ k i h g.
           let e : 10 * (4 * t + k) + i ≡ 40 * t + (10 * k + i) = omega arith in
           rw e

@@ -13,7 +13,7 @@ use Rattle.tonekit_core.specs.Loop.{Turn, next, stop, turnsTo, rangeTo}
 use Rattle.tonekit_pack.specs.Pack.{numberAt}
 use Rattle.tonekit_pack.specs.declared.Pack.{Pack}
 use Rattle.tonekit_pack.specs.Held.{shown}
-use Rattle.tonekit_pack.proofs.Split.{split}
+use Rattle.tonekit_core.proofs.Split.{split}
 use Rattle.tonekit_pack.proofs.InOrder.{order-length, order-get}
 use Rattle.tonekit_expect.specs.Lookup.{indexTurn, indexOf}
 use Rattle.tonekit_expect.specs.Source.{Tone, Accent, accentAt, accentIn, toneIn, sourceOfPack}

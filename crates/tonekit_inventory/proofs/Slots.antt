@@ -24,7 +24,7 @@ unfolding pointsOf
 points-snoc [] c = append-nil (map f32 (c .points))
 points-snoc (d ∷ cs) c = ap (λ (r : List Float). map f32 (d .points) ++ r) (points-snoc cs c) ∙ sym (append-assoc (map f32 (d .points)) (pointsOf cs) (map f32 (c .points)))
 
-weights-length : (cs : List Carried) → length (weightsOf cs) ≡ length cs
+pub weights-length : (cs : List Carried) → length (weightsOf cs) ≡ length cs
 unfolding weightsOf
 weights-length [] = refl
 weights-length (c ∷ cs) = ap suc (weights-length cs)

@@ -9,7 +9,7 @@ use lib.IntN.{ℤ, pos, negℤ}
 use lib.Ieee.{Float, nan, inf, fin, binary64, up, down, neg, lt, le, eq, ofInt, toUnsigned}
 use lib.Ieee.Fits.{down-pos, and-l}
 use lib.Ieee.Exact.{HasValue}
-use Rattle.tonekit_float.proofs.Order.{yes, no}
+use Rattle.tonekit_float.proofs.Order.{yes, no, either-ge}
 use Rattle.tonekit_float.proofs.Exact.{whole-value}
 use Rattle.tonekit_float.proofs.Monotone.{zeroF}
 use Rattle.tonekit_log.specs.Exp.{floorOf}
@@ -64,13 +64,6 @@ pub record Deep (t : Float) : Type 0 where
   pub some : 0 < m * up e
   pub few : m * up e ≤ 1022 * down e
 
-or-le : (a b : ℕ) (c : Bool) → T (ltb b a || (eqb a b && c)) → b ≤ a
-or-le a b c h = go (ltb b a) (ltb→lt b a) h
-  where
-    go : (x : Bool) → (T x → b < a) → T (x || (eqb a b && c)) → b ≤ a
-    go true p h = let k = p tt in omega arith
-    go false p h = le-of-eq (sym (eqb→eq a b (and-l (eqb a b) c h)))
-
 pub deep : (t : Float) → T (lt t zeroF) → T (le (fin true 511 (pos 1)) t) → Deep t
 unfolding lt le eq
 deep nan g h = absurd g
@@ -82,7 +75,7 @@ deep (fin true m e) g h = record {
   e = e;
   is = refl;
   some = let k = ltb→lt 0 (m * up e * 1 + 0 * down e) g in omega arith;
-  few = let k = or-le (1022 * down e) (m * up e * 1) _ h in omega arith;
+  few = let k = either-ge (1022 * down e) (m * up e * 1) _ h in omega arith;
 }
 
 pub flipped : (t : Float) (d : Deep t) → neg t ≡ fin false (d .m) (d .e)

@@ -1,4 +1,3 @@
-mod Numbers
 mod PartsOf
 mod LogCases
 mod Powers

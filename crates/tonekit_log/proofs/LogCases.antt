@@ -10,7 +10,7 @@ use Rattle.tonekit_float.proofs.Signs as signs
 use Rattle.tonekit_log.specs.declared.Parts.{Parts}
 use Rattle.tonekit_log.specs.Log.{partsOf, centred, scaled, logBy, lnAt, log2At, lnOf, log2Of}
 use Rattle.tonekit_log.proofs.PartsOf.{scaled-is}
-use Rattle.tonekit_log.proofs.Numbers.{round-number}
+use Rattle.tonekit_float.proofs.Narrowing.{round-number}
 
 pub ln-is : (x : Float) → lnOf x ≡ logBy lnAt x
 unfolding lnOf

@@ -19,7 +19,7 @@ use lib.Ieee.Scale.{round-same}
 use Rattle.tonekit_log.specs.declared.Parts.{Parts}
 use Rattle.tonekit_log.specs.Constants.{num, scale, least}
 use Rattle.tonekit_log.specs.Log.{fields, partsOf, scaled}
-use Rattle.tonekit_float.proofs.Units.{units-value, unique, sub-at, size-gt}
+use Rattle.tonekit_float.proofs.Units.{units-value, unique, opened, sub-at, size-gt}
 use Rattle.tonekit_float.proofs.NarrowRound.{L}
 use Rattle.tonekit_float.proofs.Exact.{whole-value}
 use Rattle.tonekit_float.proofs.Patterns.{L-pos, rescale, normal-value, same-value, field-of, pattern-lt, units-are, units-pos, units-lt, size-shl}
@@ -50,10 +50,6 @@ mant-is t h =
     le-lt a b h = omega arith
 
 -- ---- whole numbers: differences are exact
-opened : (f : Format) (m : ℕ) (e : ℤ) (n : ℕ) (d : ℤ) → sub f (fin false m e) (fin false n d) ≡ sum f false (m * up e * down d) true (n * up d * down e) (down e * down d)
-unfolding sub
-opened f m e n d = refl
-
 pick-less : (f : Format) (a b c : ℕ) → a < b → sum f false a true b c ≡ round f true (b - a) c
 unfolding sum
 pick-less f a b c h = go (ltb a b) (lt-ltb' h)

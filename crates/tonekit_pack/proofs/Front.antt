@@ -15,7 +15,7 @@ use Rattle.tonekit_bytes.specs.Fields.{byteAt}
 use Rattle.tonekit_bytes.proofs.Agreeing.{Agree, taken-agrees, four, float}
 use Rattle.tonekit_pack.specs.Ranges.{slotFine, slotTurn, knotsFine, regionFine, tolerancesFine}
 use Rattle.tonekit_pack.specs.Pack.{Pst, Out, loaded, refused, sizeOf, holds, zeroOrHeld, numberAt, lastRule, settingsVerdict, toneVerdict, accentVerdict, ruleVerdict, partVerdict, bodyVerdict, dueAfter, recordVerdict, added, start, readPack, singly, loadPack}
-use Rattle.tonekit_pack.proofs.Split.{split}
+use Rattle.tonekit_core.proofs.Split.{split}
 use Rattle.tonekit_pack.proofs.Each.{each-snoc}
 use Rattle.tonekit_pack.proofs.Records.{Due, due-is, settings, tone, accent, rule, part, finish, sound, tone-room, accent-room, rule-room, part-room}
 use Rattle.tonekit_pack.proofs.Reading.{Near, near-next}

@@ -9,7 +9,7 @@ use borrow.Author.Tests.{ltb-true, ltb-false}
 use lib.ListN.{length, getD, set, replicate, length-append, List·getD-append}
 use lib.Seq.{getD-set-other, getD-set-same, getD-at}
 use Rattle.tonekit_pack.specs.Held.{inOrder}
-use Rattle.tonekit_pack.proofs.Split.{split}
+use Rattle.tonekit_core.proofs.Split.{split}
 
 pub order-length : (xs : List ℕ) (n : ℕ) → length (inOrder xs n) ≡ n
 unfolding inOrder

@@ -1,4 +1,3 @@
-pub mod Split
 pub mod Numbers
 pub mod InOrder
 pub mod Each

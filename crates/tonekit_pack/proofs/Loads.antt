@@ -14,7 +14,7 @@ use Rattle.tonekit_core.specs.declared.Verdict.the-variants as verdict
 use Rattle.tonekit_bytes.specs.Fields.{byteAt, u32At, f32At}
 use Rattle.tonekit_pack.specs.Ranges.{aboveZero, aShare, weightFine, knotsFine, regionFine, tolerancesFine}
 use Rattle.tonekit_pack.specs.Pack.{Pst, Out, loaded, refused, sizeOf, numberAt, holds, zeroOrHeld, single, settingsVerdict, bodyVerdict, added, start, partsFrom, readPack}
-use Rattle.tonekit_pack.proofs.Split.{split, either, neither, both}
+use Rattle.tonekit_core.proofs.Split.{split, either, neither, both}
 use Rattle.tonekit_pack.proofs.Numbers.{zero-or-before, none-before}
 use Rattle.tonekit_pack.proofs.Each.{Each, each-snoc}
 use Rattle.tonekit_pack.proofs.Records.{Due, settings, tone, accent, rule, part, finish, passed, tone-passed, accent-passed, rule-passed, part-passed, tone-room, accent-room, rule-room, part-room}

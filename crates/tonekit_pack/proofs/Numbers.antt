@@ -11,7 +11,7 @@ use lib.Dec.{eqb}
 use lib.ListN.{length, getD, take, drop, drop-of-length-le}
 use lib.Seq.{drop-cons, length-take-le, getD-take}
 use Rattle.tonekit_pack.specs.Pack.{holds, zeroOrHeld, numberAt}
-use Rattle.tonekit_pack.proofs.Split.{absurd-bool, either, neither}
+use Rattle.tonekit_core.proofs.Split.{absurd-bool, either, neither}
 
 module _ (s os : List ℕ) (x i : ℕ) where
   pub hit : i < length os → numberAt s (getD os i 0) ≡ x → holds s (drop i os) x ≡ true

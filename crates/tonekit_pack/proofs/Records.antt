@@ -12,7 +12,7 @@ use Rattle.tonekit_core.specs.declared.Refusal.the-variants.{Misplaced, CutShor
 use Rattle.tonekit_core.specs.declared.Verdict.the-variants as verdict
 use Rattle.tonekit_bytes.specs.Fields.{byteAt}
 use Rattle.tonekit_pack.specs.Pack.{Pst, dueAfter, sizeOf, numberAt, holds, zeroOrHeld, inTurn, toneCrowded, toneFine, toneVerdict, accentFine, accentVerdict, ruleFine, ruleHeld, ruleVerdict, single, partCrowded, partFine, partVerdict, bodyVerdict, recordVerdict}
-use Rattle.tonekit_pack.proofs.Split.{split, absurd-bool, either, neither}
+use Rattle.tonekit_core.proofs.Split.{split, absurd-bool, either, neither}
 
 -- which kind is due
 pub data Due (last : ℕ) : ℕ → Type 0 where

@@ -13,7 +13,7 @@ use Rattle.tonekit_pack.specs.declared.PackRead.the-variants.{Good, Refu
 use Rattle.tonekit_pack.specs.declared.Loaded.{Loaded}
 use Rattle.tonekit_pack.specs.Pack.{Pst, Out, loaded, refused, singly, readPack, loadPack, checkPack}
 use Rattle.tonekit_pack.specs.Held.{answered}
-use Rattle.tonekit_pack.proofs.Split.{split}
+use Rattle.tonekit_core.proofs.Split.{split}
 use Rattle.tonekit_pack.proofs.Turns.{not-loaded}
 
 module _ (s : List ℕ) (l : Loaded) (h : answered l ≡ readPack s) where

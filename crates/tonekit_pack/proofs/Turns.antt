@@ -13,7 +13,7 @@ use Rattle.tonekit_core.specs.declared.Verdict.{Verdict}
 use Rattle.tonekit_core.specs.declared.Verdict.the-variants as verdict
 use Rattle.tonekit_bytes.specs.Fields.{byteAt}
 use Rattle.tonekit_pack.specs.Pack.{Pst, Out, loaded, refused, sizeOf, added, recordVerdict, recordTurn, start, readPack}
-use Rattle.tonekit_pack.proofs.Split.{split}
+use Rattle.tonekit_core.proofs.Split.{split}
 use Rattle.tonekit_pack.proofs.Records.{Sound, sound, size-pos}
 
 pub by-verdict : {P : Type 0} (v : Verdict) → (v ≡ verdict.Fine → P) → ((r : Refusal) → v ≡ verdict.Refused r → P) → P

@@ -8,6 +8,7 @@ use borrow.Author.Tests.{ltb-true, ltb-false, leb-true}
 use lib.Dec.{eqb, leb, ltb}
 use lib.ListN.{length, drop, length-drop}
 use lib.Seq.{length-take-le}
+use Rattle.tonekit_core.proofs.Split.{neither, both}
 use Rattle.tonekit_core.specs.Loop.{Turn, next, stop, turnsTo, rangeTo}
 use Rattle.tonekit_core.specs.declared.Refusal.{Refusal}
 use Rattle.tonekit_core.specs.declared.Refusal.the-variants.{Misplaced, CutShort, Overrun, Crowded, BadQuery}
@@ -18,14 +19,6 @@ use Rattle.tonekit_query.specs.declared.Query.{Query}
 use Rattle.tonekit_query.specs.declared.QueryRead.{QueryRead}
 use Rattle.tonekit_query.specs.declared.QueryRead.the-variants.{Good, Refused}
 use Rattle.tonekit_query.specs.Query.{variantsFine, recordVerdict, frameVerdict, fieldsOf, afterFrame, frameTurn, afterRecord, readQuery, single, loadQuery, endOf, framesOf}
-
-both-false : (a b : Bool) → (a || b) ≡ false → (a ≡ false) × (b ≡ false)
-both-false true b e = absurd (true≢false e)
-both-false false b e = (refl, e)
-
-both-true : (a b : Bool) → (a && b) ≡ true → (a ≡ true) × (b ≡ true)
-both-true true b e = (refl, e)
-both-true false b e = absurd (true≢false (sym e))
 
 differ : (r : Refusal) → verdict.Refused r ≡ verdict.Fine → ⊥
 differ r e = let z : _≡_ {A = ℕ} 0 1 = cc in omega arith
@@ -64,9 +57,9 @@ fixed s e =
     (ltb (length s) 46)
     (ltb 4 (byteAt s 23) || ltb 1024 (u16At s 44))
     (leb (byteAt s 4) 1 && (ltb (u16At s 21) 1024 && variantsFine s)) e in
-    let m = both-false (ltb 4 (byteAt s 23)) (ltb 1024 (u16At s 44)) (t .1) in
-    let f = both-true (leb (byteAt s 4) 1) (ltb (u16At s 21) 1024 && variantsFine s) (t .2) in
-    let i = both-true (ltb (u16At s 21) 1024) (variantsFine s) (f .1) in
+    let m = neither (ltb 4 (byteAt s 23)) (ltb 1024 (u16At s 44)) (t .1) in
+    let f = both (leb (byteAt s 4) 1) (ltb (u16At s 21) 1024 && variantsFine s) (t .2) in
+    let i = both (ltb (u16At s 21) 1024) (variantsFine s) (f .1) in
     record {
       whole = ltb-false (length s) 46 (t .0);
       variants = ltb-false 4 (byteAt s 23) (m .0);

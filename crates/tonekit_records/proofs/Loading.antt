@@ -15,7 +15,7 @@ use Rattle.tonekit_core.specs.declared.Refusal.the-variants.{Misplaced, CutShor
 use Rattle.tonekit_core.specs.declared.Verdict.the-variants as verdict
 use Rattle.tonekit_bytes.specs.Fields.{byteAt}
 use Rattle.tonekit_pack.specs.Pack.{Pst, Out, loaded, refused, dueAfter, sizeOf, recordVerdict, added, start, readPack}
-use Rattle.tonekit_pack.proofs.Split.{split}
+use Rattle.tonekit_core.proofs.Split.{split}
 use Rattle.tonekit_pack.proofs.Records.{sound, size-pos, not-fine}
 use Rattle.tonekit_pack.proofs.Turns.{by-verdict, run, run-refused, run-end, run-on, limit-idle, not-loaded, no-turns}
 use Rattle.tonekit_records.specs.Records.{Tally, noTally, kind, bodyVerdictOf, recordVerdictOf, tallied, ReadsOn, none, more, recordsBytes, addedAll}

@@ -12,7 +12,7 @@ use lib.Seq.{getD-at}
 use Rattle.tonekit_core.specs.declared.Verdict.the-variants as verdict
 use Rattle.tonekit_bytes.specs.Fields.{byteAt}
 use Rattle.tonekit_pack.specs.Pack.{Pst, inTurn, dueAfter, sizeOf, holds, zeroOrHeld, numberAt, lastRule, toneVerdict, accentVerdict, ruleVerdict, partVerdict, bodyVerdict, recordVerdict, partFine, added, start}
-use Rattle.tonekit_pack.proofs.Split.{split}
+use Rattle.tonekit_core.proofs.Split.{split}
 use Rattle.tonekit_pack.proofs.Records.{Due, due-is, settings, tone, accent, rule, part, finish}
 use Rattle.tonekit_records.specs.Records.{Tally, noTally, among, zeroOrAmong, kind, toneVerdictOf, accentVerdictOf, ruleVerdictOf, lastSingle, partVerdictOf, bodyVerdictOf, recordVerdictOf, tallied}
 use Rattle.tonekit_bytes.proofs.Stands.{Stands}

@@ -6,7 +6,7 @@ use mathlib.Core.List.{List, [], _∷_, _++_}
 use lib.Dec.{eqb}
 use lib.ListN.{length}
 use borrow.Author.Tests.{eq-eqb, eqb-true}
-use Rattle.tonekit_pack.proofs.Split.{split, absurd-bool, both}
+use Rattle.tonekit_core.proofs.Split.{split, absurd-bool, both}
 use Rattle.tonekit_expect.specs.Source.{Carried}
 use Rattle.tonekit_sheet.specs.Number.{sameNumbers, sameCarried, same, seenIn, placeIn}
 

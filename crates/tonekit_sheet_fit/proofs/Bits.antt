@@ -15,7 +15,7 @@ use borrow.Author.Tests.{ltb-true, le-ltb}
 use Rattle.tonekit_bytes.specs.Fields.{byteAt, u32At, f32At}
 use Rattle.tonekit_float.proofs.Narrowing.{narrow-fits}
 use Rattle.tonekit_pack.specs.Ranges.{weightFine}
-use Rattle.tonekit_pack.proofs.Split.{split}
+use Rattle.tonekit_core.proofs.Split.{split}
 use Rattle.tonekit_expect.specs.declared.Listing.{Listing}
 use Rattle.tonekit_expect.specs.Knots.{Point, knotsAt, onLine, segment, fraction, pointAt, firstPoints}
 use Rattle.tonekit_expect.specs.Lookup.{componentOf}

@@ -10,7 +10,7 @@ use native.Mathlib.Omega.{arith}
 use lib.Dec.{eqb}
 use borrow.Author.Tests.{eqb-true, eqb-false}
 use Rattle.tonekit_expect.specs.Source.{Carried}
-use Rattle.tonekit_pack.proofs.Split.{split}
+use Rattle.tonekit_core.proofs.Split.{split}
 use Rattle.tonekit_core.proofs.LoopLaws.{range-keeps}
 use Rattle.tonekit_sheet.specs.Number.{seenIn, noted}
 use Rattle.tonekit_sheet.specs.Sheet.{View, rowsOf, noteTurn, listsOf}

@@ -10,7 +10,7 @@ use borrow.Author.Tests.{eqb-true, eqb-false, ltb-true, lt-ltb, le-leb, lt-leb}
 use Rattle.tonekit_core.specs.Loop.{Turn, next, stop, turns, range, loopOn, loopTo}
 use Rattle.tonekit_bytes.specs.Fields.{byteAt}
 use Rattle.tonekit_pack.specs.Pack.{Pst, numberAt}
-use Rattle.tonekit_pack.proofs.Split.{split}
+use Rattle.tonekit_core.proofs.Split.{split}
 use Rattle.tonekit_pack.proofs.Loads.{Loads, firsts-ascend, firsts-bound}
 use Rattle.tonekit_expect.specs.declared.Found.{Found}
 use Rattle.tonekit_expect.specs.declared.Found.the-variants as found

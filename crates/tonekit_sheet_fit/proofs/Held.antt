@@ -12,7 +12,7 @@ use Rattle.tonekit_bytes.specs.Fields.{f32At}
 use Rattle.tonekit_bytes.proofs.Fields.{u32-below}
 use Rattle.tonekit_pack.specs.Ranges.{aboveZero, regionFine, tolerancesFine}
 use Rattle.tonekit_pack.specs.Pack.{Pst, numberAt}
-use Rattle.tonekit_pack.proofs.Split.{split, both}
+use Rattle.tonekit_core.proofs.Split.{split, both}
 use Rattle.tonekit_pack.proofs.Loads.{ToneFine, AccentFine, Loads, tones-once, accents-once}
 use Rattle.tonekit_expect.specs.Source.{Tone, Accent, settingsAt, toneAt, accentAt, accentIn}
 use Rattle.tonekit_sheet.specs.Agree.{Bytes}

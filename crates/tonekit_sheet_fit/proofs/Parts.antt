@@ -11,7 +11,7 @@ use Rattle.tonekit_core.specs.declared.Refusal.the-variants.{CutShort}
 use Rattle.tonekit_core.specs.declared.Verdict.the-variants as verdict
 use Rattle.tonekit_bytes.specs.Fields.{byteAt}
 use Rattle.tonekit_pack.specs.Pack.{Pst, loaded, refused, sizeOf, bodyVerdict, added, partsFrom, start, readPack}
-use Rattle.tonekit_pack.proofs.Split.{split}
+use Rattle.tonekit_core.proofs.Split.{split}
 use Rattle.tonekit_pack.proofs.Records.{Due, settings, tone, accent, rule, part, finish, part-room}
 use Rattle.tonekit_pack.proofs.Turns.{run, accepted, no-turns}
 use Rattle.tonekit_pack.proofs.Loads.{loads}

@@ -12,7 +12,7 @@ use lib.Seq.{drop-cons}
 use borrow.Author.Tests.{eqb-true}
 use Rattle.tonekit_core.specs.Layout.{sheetMost}
 use Rattle.tonekit_pack.specs.Pack.{Pst, loaded, readPack}
-use Rattle.tonekit_pack.proofs.Split.{split}
+use Rattle.tonekit_core.proofs.Split.{split}
 use Rattle.tonekit_pack.proofs.Loads.{loads}
 use Rattle.tonekit_expect.specs.declared.Listing.{Listing}
 use Rattle.tonekit_expect.specs.Lookup.{componentOf}

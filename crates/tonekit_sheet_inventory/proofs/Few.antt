@@ -8,7 +8,7 @@ use lib.ListN.{length, getD, length-append}
 use borrow.Author.Tests.{eqb-true, eqb-false}
 use Rattle.tonekit_core.specs.declared.Verdict.the-variants as verdict
 use Rattle.tonekit_bytes.specs.Fields.{byteAt}
-use Rattle.tonekit_pack.proofs.Split.{split}
+use Rattle.tonekit_core.proofs.Split.{split}
 use Rattle.tonekit_pack.proofs.Each.{Each, each-snoc}
 use Rattle.tonekit_sheet.specs.Reader.{Sst, loaded, sizeOf, bodyVerdict, added, start, readSheet}
 use Rattle.tonekit_sheet_read.proofs.Records.{tone-room, list-room}

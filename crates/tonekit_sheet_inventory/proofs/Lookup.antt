@@ -8,7 +8,7 @@ use native.Mathlib.Numerals.{sub-one}
 use lib.Dec.{eqb}
 use lib.ListN.{length, getD}
 use Rattle.tonekit_bytes.specs.Fields.{byteAt}
-use Rattle.tonekit_pack.proofs.Split.{split}
+use Rattle.tonekit_core.proofs.Split.{split}
 use Rattle.tonekit_pack.proofs.InOrder.{order-get}
 use Rattle.tonekit_expect.specs.Lookup.{indexOf}
 use Rattle.tonekit_expect.specs.declared.Context.{Context}

@@ -7,7 +7,7 @@ use native.Mathlib.Nat.{mul-le-mul, le-refl}
 use lib.Dec.{eqb}
 use lib.ListN.{length}
 use Rattle.tonekit_bytes.specs.Fields.{byteAt}
-use Rattle.tonekit_pack.proofs.Split.{split}
+use Rattle.tonekit_core.proofs.Split.{split}
 use Rattle.tonekit_expect.specs.declared.Context.{Context}
 use Rattle.tonekit_sheet.specs.Sheet.{rowCount}
 use Rattle.tonekit_sheet.specs.Reader.{Sst, loaded, rowAt, readSheet}

@@ -12,7 +12,7 @@ use lib.Seq.{getD-append-seam}
 use borrow.Author.Tests.{ltb-true, ltb-false, lt-ltb, le-ltb}
 use Rattle.tonekit_core.specs.Loop.{range, range-done}
 use Rattle.tonekit_core.proofs.LoopLaws.{range-keeps}
-use Rattle.tonekit_pack.proofs.Split.{split}
+use Rattle.tonekit_core.proofs.Split.{split}
 use Rattle.tonekit_expect.specs.Source.{Carried}
 use Rattle.tonekit_sheet.specs.Number.{seenIn, placeIn, noted, numberIn}
 use Rattle.tonekit_sheet.specs.Reader.{Sst, most}

@@ -6,7 +6,7 @@ use native.Mathlib.Omega.{arith}
 use native.Mathlib.Numerals.{add-one}
 use lib.ListN.{length, getD, length-map}
 use Rattle.tonekit_pack.specs.Pack.{numberAt}
-use Rattle.tonekit_pack.proofs.Split.{absurd-bool}
+use Rattle.tonekit_core.proofs.Split.{absurd-bool}
 use Rattle.tonekit_expect.specs.Source.{Tone, Accent, settingsAt}
 use Rattle.tonekit_sheet.specs.Agree.{Bytes}
 use Rattle.tonekit_sheet.specs.Gather.{gather}

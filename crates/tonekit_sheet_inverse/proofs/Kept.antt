@@ -11,7 +11,7 @@ use borrow.Author.Tests.{leb-true, leb-false, ltb-true, ltb-false}
 use Rattle.tonekit_core.specs.declared.Verdict.the-variants as verdict
 use Rattle.tonekit_bytes.specs.Fields.{byteAt}
 use Rattle.tonekit_pack.specs.Pack.{numberAt, holds}
-use Rattle.tonekit_pack.proofs.Split.{split}
+use Rattle.tonekit_core.proofs.Split.{split}
 use Rattle.tonekit_pack.proofs.Each.{Each, each-snoc}
 use Rattle.tonekit_sheet.specs.Reader.{Sst, rowsDue, sizeOf, bodyVerdict, added, rowsFrom, rowAt}
 use Rattle.tonekit_sheet_inverse.specs.Place.{listPlace, listsFrom}

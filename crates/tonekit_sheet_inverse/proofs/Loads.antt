@@ -8,7 +8,7 @@ use lib.Dec.{eqb, ltb}
 use borrow.Author.Tests.{eqb-true, eqb-false, ltb-true, ltb-false}
 use Rattle.tonekit_bytes.specs.Fields.{byteAt}
 use Rattle.tonekit_pack.specs.Pack.{numberAt}
-use Rattle.tonekit_pack.proofs.Split.{split}
+use Rattle.tonekit_core.proofs.Split.{split}
 use Rattle.tonekit_pack.proofs.Numbers.{none-before}
 use Rattle.tonekit_sheet.specs.Reader.{Sst, loaded, rowsDue, sizeOf, added, rowAt, start, readSheet, loadSheet}
 use Rattle.tonekit_sheet_inverse.specs.Place.{listPlace, listsFrom}

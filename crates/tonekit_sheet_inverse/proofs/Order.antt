@@ -11,7 +11,7 @@ use borrow.Author.Tests.{eqb-true, leb-true, ltb-true, not-true}
 use Rattle.tonekit_core.specs.Loop.{range}
 use Rattle.tonekit_bytes.specs.Fields.{byteAt}
 use Rattle.tonekit_pack.specs.Pack.{numberAt, zeroOrHeld}
-use Rattle.tonekit_pack.proofs.Split.{either, both}
+use Rattle.tonekit_core.proofs.Split.{either, both}
 use Rattle.tonekit_pack.proofs.Numbers.{zero-or-at}
 use Rattle.tonekit_expect.specs.declared.Found.the-variants as found
 use Rattle.tonekit_sheet.specs.Sheet.{accentPlace, tonePlace, prevPlace}

@@ -10,7 +10,7 @@ use lib.Seq.{getD-append-seam}
 use borrow.Author.Tests.{eq-eqb, ltb-true, ltb-false}
 use Rattle.tonekit_bytes.specs.Fields.{byteAt}
 use Rattle.tonekit_pack.specs.Pack.{numberAt}
-use Rattle.tonekit_pack.proofs.Split.{split}
+use Rattle.tonekit_core.proofs.Split.{split}
 use Rattle.tonekit_expect.specs.Source.{Carried, settingsAt}
 use Rattle.tonekit_expect.specs.declared.Context.{Context}
 use Rattle.tonekit_sheet.specs.Agree.{Bytes}

@@ -8,7 +8,7 @@ use lib.ListN.{length, length-append, List·getD-append}
 use lib.Seq.{getD-append-add, ext-getD}
 use borrow.Author.Tests.{ltb-true, ltb-false}
 use Rattle.tonekit_bytes.specs.Fields.{byteAt, u16At, u32At, le16, le32}
-use Rattle.tonekit_pack.proofs.Split.{split}
+use Rattle.tonekit_core.proofs.Split.{split}
 use Rattle.tonekit_sheet.specs.Agree.{Bytes}
 use Rattle.tonekit_sheet.specs.Gather.{gather, gather-done, gather-step}
 use Rattle.tonekit_bytes.proofs.Back.{le16-of, le32-of}

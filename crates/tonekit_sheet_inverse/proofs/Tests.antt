@@ -7,7 +7,7 @@ use lib.Dec.{eqb}
 use borrow.Author.Tests.{eqb-true, eqb-false}
 use Rattle.tonekit_core.specs.Loop.{Turn, next, stop, range, range-done, rangeTo, to-again, to-stop}
 use Rattle.tonekit_core.proofs.LoopLaws.{range-keeps}
-use Rattle.tonekit_pack.proofs.Split.{split, absurd-bool, either}
+use Rattle.tonekit_core.proofs.Split.{split, absurd-bool, either}
 use Rattle.tonekit_expect.specs.declared.Found.{Found}
 use Rattle.tonekit_expect.specs.declared.Found.the-variants as found
 use Rattle.tonekit_sheet_laws.proofs.Loops.{range-last, range-any}

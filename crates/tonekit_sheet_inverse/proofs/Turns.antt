@@ -11,7 +11,7 @@ use Rattle.tonekit_core.specs.declared.Refusal.{Refusal}
 use Rattle.tonekit_core.specs.declared.Refusal.the-variants.{CutShort, Overrun, Loose, Unordered}
 use Rattle.tonekit_core.specs.declared.Verdict.the-variants as verdict
 use Rattle.tonekit_bytes.specs.Fields.{byteAt}
-use Rattle.tonekit_pack.proofs.Split.{split}
+use Rattle.tonekit_core.proofs.Split.{split}
 use Rattle.tonekit_pack.proofs.Turns.{by-verdict}
 use Rattle.tonekit_expect.specs.declared.Found.{Found}
 use Rattle.tonekit_expect.specs.declared.Found.the-variants as found

@@ -8,7 +8,7 @@ use native.Mathlib.Omega.{arith}
 use lib.Dec.{eqb}
 use lib.ListN.{length, getD}
 use borrow.Author.Tests.{eq-eqb, eqb-true}
-use Rattle.tonekit_pack.proofs.Split.{split, absurd-bool}
+use Rattle.tonekit_core.proofs.Split.{split, absurd-bool}
 use Rattle.tonekit_expect.specs.Source.{Tone, Source, toneIn}
 use Rattle.tonekit_sheet.specs.Sheet.{noTone, noAccent, rowCount, accentPlace, tonePlace, prevPlace, prevNumber, rowContext, ascending, viewOf, rowsOf}
 use Rattle.tonekit_sheet.specs.Agree.{Held}

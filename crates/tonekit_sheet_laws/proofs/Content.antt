@@ -10,7 +10,7 @@ use lib.ListN.{length, getD, length-append, List·getD-append}
 use lib.Seq.{getD-at, ext-getD}
 use borrow.Author.Tests.{ltb-true, ltb-false}
 use Rattle.tonekit_bytes.specs.Fields.{byteAt, u32At}
-use Rattle.tonekit_pack.proofs.Split.{split}
+use Rattle.tonekit_core.proofs.Split.{split}
 use Rattle.tonekit_expect.specs.Source.{Carried, Source}
 use Rattle.tonekit_sheet.specs.Sheet.{View, noCarried, listsOf}
 use Rattle.tonekit_sheet.specs.Reader.{Out}

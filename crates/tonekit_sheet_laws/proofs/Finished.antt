@@ -11,7 +11,7 @@ use borrow.Author.Tests.{eq-eqb, eqb-true, le-leb, lt-ltb}
 use Rattle.tonekit_core.specs.Loop.{next}
 use Rattle.tonekit_bytes.specs.Fields.{byteAt}
 use Rattle.tonekit_pack.specs.Pack.{numberAt, zeroOrHeld}
-use Rattle.tonekit_pack.proofs.Split.{split}
+use Rattle.tonekit_core.proofs.Split.{split}
 use Rattle.tonekit_expect.specs.Source.{Carried, Source}
 use Rattle.tonekit_expect.specs.declared.Found.the-variants as found
 use Rattle.tonekit_sheet.specs.Number.{numberIn}

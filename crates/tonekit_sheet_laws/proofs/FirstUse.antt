@@ -11,7 +11,7 @@ use lib.ListN.{length, getD, List·getD-append}
 use borrow.Author.Tests.{ltb-true, ltb-false}
 use Rattle.tonekit_core.specs.Loop.{range, range-done}
 use Rattle.tonekit_core.proofs.LoopLaws.{range-keeps}
-use Rattle.tonekit_pack.proofs.Split.{split}
+use Rattle.tonekit_core.proofs.Split.{split}
 use Rattle.tonekit_expect.specs.Source.{Carried}
 use Rattle.tonekit_sheet.specs.Number.{seenIn, placeIn, noted, numberIn}
 use Rattle.tonekit_sheet.specs.Reader.{most}

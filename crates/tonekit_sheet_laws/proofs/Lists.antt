@@ -11,7 +11,7 @@ use borrow.Author.Tests.{eq-eqb, ne-eqb, eqb-true, eqb-false, le-leb, lt-leb, lt
 use Rattle.tonekit_bytes.specs.Fields.{byteAt, f32At}
 use Rattle.tonekit_pack.specs.Ranges.{weightFine}
 use Rattle.tonekit_pack.specs.Pack.{holds}
-use Rattle.tonekit_pack.proofs.Split.{split}
+use Rattle.tonekit_core.proofs.Split.{split}
 use Rattle.tonekit_expect.specs.Source.{Carried, Source}
 use Rattle.tonekit_sheet.specs.Sheet.{View, noCarried, rowsOf, listsOf}
 use Rattle.tonekit_sheet.specs.Reader.{Sst, Out, sizeOf, complete, dueNext, listCrowded, listFine, listVerdict, pointFine, pointsFine, lastList, componentFine, componentVerdict, bodyVerdict, added}

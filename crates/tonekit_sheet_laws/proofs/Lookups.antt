@@ -11,7 +11,7 @@ use borrow.Author.Tests.{eq-eqb, ne-eqb, eqb-true, eqb-false}
 use Rattle.tonekit_core.specs.Loop.{rangeTo, to-again, to-stop}
 use Rattle.tonekit_bytes.specs.Fields.{byteAt}
 use Rattle.tonekit_pack.specs.Pack.{numberAt}
-use Rattle.tonekit_pack.proofs.Split.{split}
+use Rattle.tonekit_core.proofs.Split.{split}
 use Rattle.tonekit_expect.specs.Source.{Carried, Source}
 use Rattle.tonekit_expect.specs.Lookup.{indexTurn, indexOf}
 use Rattle.tonekit_expect.proofs.Walk.{index-found}

@@ -7,7 +7,7 @@ use lib.Dec.{eqb}
 use borrow.Author.Tests.{eqb-true, eqb-false}
 use Rattle.tonekit_core.specs.Loop.{Turn, next, turns, range, rangeTo, to-again, to-ended}
 use Rattle.tonekit_core.proofs.LoopLaws.{range-keeps}
-use Rattle.tonekit_pack.proofs.Split.{split, both}
+use Rattle.tonekit_core.proofs.Split.{split, both}
 
 module _ {S : Type 0} (f : ℕ → S → S) where
   last-turn : (k i : ℕ) (s : S) → turns f (suc k) i s ≡ f (i + k) (turns f k i s)

@@ -10,7 +10,7 @@ use lib.Dec.{ltb}
 use lib.ListN.{length, getD, length-append, List·getD-append}
 use lib.Seq.{getD-append-seam}
 use borrow.Author.Tests.{ltb-true, ltb-false, lt-ltb, le-ltb}
-use Rattle.tonekit_pack.proofs.Split.{split, absurd-bool}
+use Rattle.tonekit_core.proofs.Split.{split, absurd-bool}
 use Rattle.tonekit_expect.specs.Source.{Carried}
 use Rattle.tonekit_sheet.specs.Number.{sameCarried, same, seenIn, placeIn, noted, numberIn}
 use Rattle.tonekit_sheet.specs.Reader.{most}

@@ -10,7 +10,7 @@ use lib.ListN.{length, getD, length-append, List·getD-append}
 use lib.Seq.{getD-at}
 use borrow.Author.Tests.{ltb-true, ltb-false, eq-eqb}
 use Rattle.tonekit_pack.specs.Pack.{numberAt, holds, zeroOrHeld}
-use Rattle.tonekit_pack.proofs.Split.{split}
+use Rattle.tonekit_core.proofs.Split.{split}
 use Rattle.tonekit_pack.proofs.Numbers.{held-at, not-held}
 use Rattle.tonekit_expect.specs.Source.{Carried}
 use Rattle.tonekit_sheet.specs.Fit.{componentsIn}

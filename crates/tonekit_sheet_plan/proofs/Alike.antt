@@ -10,7 +10,7 @@ use lib.ListN.{length, getD, drop, length-append, drop-of-length-le}
 use lib.Seq.{drop-cons}
 use lib.Ieee.{Float, nan, binary32, toBits}
 use borrow.Author.Tests.{eq-eqb, ne-eqb, eqb-true}
-use Rattle.tonekit_pack.proofs.Split.{split, both}
+use Rattle.tonekit_core.proofs.Split.{split, both}
 use Rattle.tonekit_expect.specs.declared.Component.{Component}
 use Rattle.tonekit_expect.specs.declared.Listing.{Listing}
 use Rattle.tonekit_expect.specs.Knots.{firstPoints}

@@ -8,7 +8,7 @@ use lib.ListN.{length, getD, drop, drop-of-length-le}
 use lib.Seq.{drop-cons}
 use lib.Ieee.{Float, nan, binary32, toBits}
 use Rattle.tonekit_core.specs.Loop.{fold}
-use Rattle.tonekit_pack.proofs.Split.{split}
+use Rattle.tonekit_core.proofs.Split.{split}
 use Rattle.tonekit_expect.specs.declared.Component.{Component}
 use Rattle.tonekit_expect.specs.declared.Listing.{Listing}
 use Rattle.tonekit_expect.specs.Lookup.{componentOf}

@@ -9,7 +9,7 @@ use Rattle.tonekit_core.specs.Loop.{turns, range, range-step}
 use Rattle.tonekit_pack.specs.Pack.{Pst}
 use Rattle.tonekit_pack.specs.Held.{inOrder, shown}
 use Rattle.tonekit_pack.specs.declared.Pack.{Pack}
-use Rattle.tonekit_pack.proofs.Split.{split}
+use Rattle.tonekit_core.proofs.Split.{split}
 use Rattle.tonekit_pack.proofs.InOrder.{order-length}
 use Rattle.tonekit_pack.proofs.Loads.{loads, some-tones}
 use Rattle.tonekit_expect.specs.Lookup.{lookUp}

@@ -16,7 +16,7 @@ use Rattle.tonekit_bytes.proofs.Agreeing.{Agree, taken-agrees, two, four, float
 use Rattle.tonekit_expect.specs.declared.Found.{Found}
 use Rattle.tonekit_expect.specs.declared.Found.the-variants as found
 use Rattle.tonekit_pack.specs.Pack.{numberAt, settingsVerdict}
-use Rattle.tonekit_pack.proofs.Split.{split}
+use Rattle.tonekit_core.proofs.Split.{split}
 use Rattle.tonekit_pack.proofs.Turns.{by-verdict}
 use Rattle.tonekit_pack.proofs.Front.{region-same, tolerances-same, holds-same, zero-or-same}
 use Rattle.tonekit_sheet.specs.Sheet.{accentPlace, tonePlace, prevPlace}

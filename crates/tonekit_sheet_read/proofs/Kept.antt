@@ -9,7 +9,7 @@ use lib.Dec.{ltb}
 use borrow.Author.Tests.{ltb-true, ltb-false}
 use Rattle.tonekit_core.specs.declared.Verdict.the-variants as verdict
 use Rattle.tonekit_bytes.specs.Fields.{byteAt}
-use Rattle.tonekit_pack.proofs.Split.{split}
+use Rattle.tonekit_core.proofs.Split.{split}
 use Rattle.tonekit_sheet.specs.Reader.{Sst, sizeOf, lastList, bodyVerdict, added, start}
 use Rattle.tonekit_sheet_read.proofs.Records.{Closed, rows, components, Due, settings, tone, accent, row, list, component, finish, tone-room, accent-room, list-room, list-some, component-room}
 use Rattle.tonekit_sheet_read.proofs.Reading.{Placed, placed-next, after-list}

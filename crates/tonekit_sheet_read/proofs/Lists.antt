@@ -13,7 +13,7 @@ use Rattle.tonekit_pack.specs.Held.{inOrder}
 use Rattle.tonekit_pack.specs.Pack.{holds, zeroOrHeld}
 use Rattle.tonekit_pack.proofs.InOrder.{order-length, order-get}
 use Rattle.tonekit_pack.proofs.Numbers.{not-held}
-use Rattle.tonekit_pack.proofs.Split.{split}
+use Rattle.tonekit_core.proofs.Split.{split}
 use Rattle.tonekit_expect.specs.declared.Found.the-variants as found
 use Rattle.tonekit_sheet.specs.Reader.{named, listSize, sameTurn, sameLists, equalTurn, repeated, listTurn}
 use Rattle.tonekit_sheet_read.specs.declared.Sheet.{Sheet}

@@ -4,7 +4,7 @@ use mathlib.Core.Path.{_≡_, refl, sym, _∙_}
 use mathlib.Core.Bool.{Bool, true, false}
 use native.Mathlib.Omega.{arith}
 use Rattle.tonekit_core.specs.Loop.{turns, range, again}
-use Rattle.tonekit_pack.proofs.Split.{split}
+use Rattle.tonekit_core.proofs.Split.{split}
 
 module _ {S : Type 0} (f : ℕ → S → S) where
   turns-stay : (k i : ℕ) (w : S) → ((j : ℕ) → f j w ≡ w) → turns f k i w ≡ w

@@ -11,7 +11,7 @@ use Rattle.tonekit_core.specs.Loop.{range}
 use Rattle.tonekit_core.proofs.LoopLaws.{range-same}
 use Rattle.tonekit_core.proofs.Entries.{entries-more}
 use Rattle.tonekit_bytes.specs.Fields.{byteAt, u32At}
-use Rattle.tonekit_pack.proofs.Split.{split, absurd-bool}
+use Rattle.tonekit_core.proofs.Split.{split, absurd-bool}
 use Rattle.tonekit_sheet.specs.Marks.{mixed}
 use Rattle.tonekit_sheet.specs.Reader.{listSize, sameLists}
 use Rattle.tonekit_sheet_read.specs.Marks.{markTurn, markAt, Marked}

@@ -11,7 +11,7 @@ use Rattle.tonekit_core.specs.declared.Refusal.the-variants.{Misplaced, CutShor
 use Rattle.tonekit_core.specs.declared.Verdict.the-variants as verdict
 use Rattle.tonekit_bytes.specs.Fields.{byteAt}
 use Rattle.tonekit_pack.specs.Pack.{numberAt, holds}
-use Rattle.tonekit_pack.proofs.Split.{split, either, neither, both}
+use Rattle.tonekit_core.proofs.Split.{split, either, neither, both}
 use Rattle.tonekit_pack.proofs.Records.{not-fine, Passed, passed}
 use Rattle.tonekit_sheet.specs.Reader.{Sst, rowsDue, complete, dueNext, sizeOf, toneFine, toneVerdict, accentFine, accentVerdict, listCrowded, listFine, listVerdict, componentFine, componentVerdict, bodyVerdict, recordVerdict}
 

@@ -13,7 +13,7 @@ use Rattle.tonekit_sheet_read.specs.declared.SheetRead.the-variants.{Goo
 use Rattle.tonekit_sheet_read.specs.declared.Loaded.{Loaded}
 use Rattle.tonekit_sheet.specs.Reader.{Sst, Out, loaded, refused, singly, readSheet, loadSheet, checkSheet}
 use Rattle.tonekit_sheet_read.specs.Held.{answered}
-use Rattle.tonekit_pack.proofs.Split.{split}
+use Rattle.tonekit_core.proofs.Split.{split}
 use Rattle.tonekit_sheet_read.proofs.Turns.{not-loaded}
 
 module _ (s : List ℕ) (l : Loaded) (h : answered l ≡ readSheet s) where

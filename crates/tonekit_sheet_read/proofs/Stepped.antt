@@ -9,7 +9,7 @@ use lib.Dec.{ltb}
 use borrow.Author.Tests.{ltb-true, ltb-false}
 use lib.ListN.{length, getD, length-append, List·getD-append}
 use lib.Seq.{getD-at}
-use Rattle.tonekit_pack.proofs.Split.{split}
+use Rattle.tonekit_core.proofs.Split.{split}
 use Rattle.tonekit_sheet_read.specs.Held.{stepped}
 
 module _ (o step : ℕ) where

@@ -17,7 +17,7 @@ use Rattle.tonekit_query.specs.declared.Query.{Query}
 use Rattle.tonekit_query.specs.declared.QueryRead.{QueryRead}
 use Rattle.tonekit_query.specs.declared.QueryRead.the-variants as query
 use Rattle.tonekit_query.proofs.Laws.{load-reads, read-holds}
-use Rattle.tonekit_pack.proofs.Split.{split}
+use Rattle.tonekit_core.proofs.Split.{split}
 use Rattle.tonekit_expect.specs.Source.{Tone, Accent, Carried, Source, accentIn, toneIn}
 use Rattle.tonekit_expect.specs.declared.Context.{Context}
 use Rattle.tonekit_shape.specs.Extract.{extentOf}

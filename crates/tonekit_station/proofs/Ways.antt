@@ -13,7 +13,7 @@ use Rattle.tonekit_core.specs.declared.Verdict.the-variants as verdict
 use Rattle.tonekit_query.specs.Query.{loadQuery, framesOf}
 use Rattle.tonekit_query.specs.declared.Query.{Query}
 use Rattle.tonekit_query.specs.declared.QueryRead.the-variants as query
-use Rattle.tonekit_pack.proofs.Split.{split}
+use Rattle.tonekit_core.proofs.Split.{split}
 use Rattle.tonekit_pack.specs.Pack.{loadPack}
 use Rattle.tonekit_pack.specs.Pack as pack
 use Rattle.tonekit_pack.specs.Held.{shown, answered, Roomy, ReadFrom}

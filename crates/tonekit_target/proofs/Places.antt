@@ -12,7 +12,7 @@ use lib.Seq.{getD-set-same, getD-set-other}
 use lib.Ieee.{Float}
 use Rattle.tonekit_core.specs.Loop.{Turn, next, stop, turnsTo, rangeTo}
 use Rattle.tonekit_query.specs.Query.{variantTone, variantWeight}
-use Rattle.tonekit_pack.proofs.Split.{split}
+use Rattle.tonekit_core.proofs.Split.{split}
 use Rattle.tonekit_expect.specs.declared.Found.{Found}
 use Rattle.tonekit_expect.specs.declared.Found.the-variants as found
 use Rattle.tonekit_judge.specs.Judge.{Placed}
