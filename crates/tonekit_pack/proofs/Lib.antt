@@ -1,6 +1,7 @@
 pub mod Split
 pub mod Numbers
 pub mod InOrder
+pub mod HandedBack
 pub mod Each
 pub mod Records
 pub mod Reading
