@@ -14,12 +14,24 @@ unfolding inOrder
 empty-starts = refl
 
 pub empty-roomy : Roomy emptyPack
-empty-roomy = record { few-tones = omega arith; few-accents = omega arith; few-rules = omega arith; few-parts = omega arith; few-in-all = omega arith; tone-slots = refl; accent-slots = refl; first-slots = refl; rule-slots = refl; few-before = λ i. omega (arith, zeros 8 i) }
+empty-roomy = record {
+  few-tones = omega arith;
+  few-accents = omega arith;
+  few-rules = omega arith;
+  few-parts = omega arith;
+  few-in-all = omega arith;
+  tone-slots = refl;
+  accent-slots = refl;
+  first-slots = refl;
+  rule-slots = refl;
+  few-before = λ i. omega (arith, zeros 8 i);
+}
 
 -- an answer that is no refusal
 pub not-refused : (l : Loaded) (e : ℕ) → l .read ≡ Good e → EmptyIfRefused l
 not-refused l e g r place h = let z : _≡_ {A = ℕ} 0 1 = cc in absurd (omega arith)
 
 -- a refusal, as the reader promises it
-pub is-refusal : (l : Loaded) (o : Out) (r : Refusal) (place : ℕ) → l ≡ turnedBack r place → refused r place ≡ o → (answered l ≡ o) × Roomy (l .pack) × EmptyIfRefused l
+pub is-refusal : (l : Loaded) (o : Out) (r : Refusal) (place : ℕ) → l ≡ turnedBack r place → refused r place ≡ o →
+    (answered l ≡ o) × Roomy (l .pack) × EmptyIfRefused l
 is-refusal l o r place e h = rw e (h, empty-roomy, λ _ _ _. refl)

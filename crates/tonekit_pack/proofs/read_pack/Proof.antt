@@ -37,7 +37,8 @@ record-verdict-requires c κs = c .loop .inv .roomy
 returns : tie.Need-returns Inv-loop μ-loop
 returns c =
     let l = c .before .before .before .before .before .loop in
-    is-refusal _ _ _ _ (c .turned-back .ensures) (refuses _ (l .st) (l .at) (l .inv) _ (sym (c .before .before .before .before .record-verdict .ensures) ∙ c .before .before .v .given .1))
+    is-refusal _ _ _ _ (c .turned-back .ensures)
+    (refuses _ (l .st) (l .at) (l .inv) _ (sym (c .before .before .before .before .record-verdict .ensures) ∙ c .before .before .v .given .1))
 
 shared-slice-read-k : tie.Need-shared-slice-read-k Inv-loop μ-loop
 shared-slice-read-k c =

@@ -21,7 +21,8 @@ abbrev μ-loop : tie.MeasureT-loop
 returns : tie.Need-returns Inv-loop μ-loop
 returns c =
     let l = c .before .before .before .before .before .loop in
-    is-refusal _ _ _ _ (c .turned-back .ensures) (refuses _ (l .st) (l .at) (l .inv) _ (sym (c .before .before .before .before .record-verdict .ensures) ∙ c .before .before .v .given .1))
+    is-refusal _ _ _ _ (c .turned-back .ensures)
+    (refuses _ (l .st) (l .at) (l .inv) _ (sym (c .before .before .before .before .record-verdict .ensures) ∙ c .before .before .v .given .1))
 
 returns-2 : tie.Need-returns-2 Inv-loop μ-loop
 returns-2 c =
