@@ -2,7 +2,8 @@
 use Prim.Native.Nat.{ℕ, zero, suc, _≤_}
 use mathlib.Core.Path.{_≡_}
 use mathlib.Core.List.{List, [], _∷_, _++_}
-use lib.ListN.{length, getD}
+use lib.ListN.{length, getD, replicate}
+use Rattle.tonekit_core.specs.declared.Refusal.{Refusal}
 use Rattle.tonekit_pack.specs.declared.Pack.{Pack}
 use Rattle.tonekit_pack.specs.declared.PackRead.{PackRead}
 use Rattle.tonekit_pack.specs.declared.PackRead.the-variants.{Good, Refused}
@@ -32,6 +33,28 @@ outcome (Refused r place) st = refused r place
 
 abbrev pub answered : Loaded → Out
 answered l = outcome (l .read) (shown (l .pack))
+
+-- nothing read
+abbrev pub emptyPack : Pack
+emptyPack = record {
+  last = 0;
+  tones = 0;
+  accents = 0;
+  rules = 0;
+  parts = 0;
+  total = 0;
+  toneat = replicate 8 0;
+  accentat = replicate 8 0;
+  firstrule = replicate 8 0;
+  ruleat = replicate 64 0;
+}
+
+abbrev pub turnedBack : Refusal → ℕ → Loaded
+turnedBack r place = record { read = Refused r place; pack = emptyPack }
+
+-- with a refusal nothing is handed back, whatever was read before it
+abbrev pub EmptyIfRefused : Loaded → Type 0
+EmptyIfRefused l = (r : Refusal) (place : ℕ) → l .read ≡ Refused r place → l .pack ≡ emptyPack
 
 -- the counts keep document 01's limits, the arrays have the length of theirs, and no accent has more rules before it than there can be
 pub record Roomy (p : Pack) : Type 0 where

@@ -3,8 +3,8 @@ ghost use mathlib.Core.Path.{_≡_};
 ghost use Prim.Native.Nat.{_+_, _<_, _≤_};
 ghost use lib.ListN.{length};
 ghost use Rattle.tonekit_core.specs.Layout.{toneSize, accentSize, partSize, toneKind, accentKind, ruleKind, partKind};
-ghost use Rattle.tonekit_pack.specs.Pack.{dueAfter, sizeOf, holds, zeroOrHeld, inTurn, settingsVerdict, toneVerdict, accentVerdict, ruleVerdict, lastRule, single, partVerdict, bodyVerdict, recordVerdict, added, start};
-ghost use Rattle.tonekit_pack.specs.Held.{inOrder, shown, Roomy};
+ghost use Rattle.tonekit_pack.specs.Pack.{dueAfter, sizeOf, holds, zeroOrHeld, inTurn, settingsVerdict, toneVerdict, accentVerdict, ruleVerdict, lastRule, single, partVerdict, bodyVerdict, recordVerdict, added};
+ghost use Rattle.tonekit_pack.specs.Held.{inOrder, shown, emptyPack, Roomy};
 use crate::Pack;
 use crate::ranges::a_share;
 use crate::ranges::above_zero;
@@ -227,7 +227,7 @@ pub fn record_verdict(s: &[u8], o: usize, st: Pack) -> Verdict
 
 // Before the first record.
 pub fn nothing() -> Pack
-    ensures { λ r. ⌜ (shown r ≡ start .st) × Roomy r ⌝ }
+    ensures { λ r. ⌜ r ≡ emptyPack ⌝ }
 {
     Pack {
         last: 0,

@@ -6,6 +6,7 @@ pub mod Lists
 pub mod Marks
 pub mod Records
 pub mod Reading
+pub mod HandedBack
 pub mod AtEnd
 pub mod Turns
 pub mod Single

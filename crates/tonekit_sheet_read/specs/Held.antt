@@ -2,7 +2,8 @@
 use Prim.Native.Nat.{ℕ, zero, suc, _+_, _*_, _≤_, _<_}
 use mathlib.Core.Path.{_≡_}
 use mathlib.Core.List.{List, [], _∷_, _++_}
-use lib.ListN.{length}
+use lib.ListN.{length, replicate}
+use Rattle.tonekit_core.specs.declared.Refusal.{Refusal}
 use Rattle.tonekit_core.specs.Layout.{settingsSize, sheetToneKind, sheetToneSize, sheetAccentKind, sheetAccentSize, sheetRowKind}
 use Rattle.tonekit_core.specs.Layout.{sheetListKind, sheetComponentKind, sheetToneAt, sheetAccentAt}
 use Rattle.tonekit_pack.specs.Held.{inOrder}
@@ -33,11 +34,19 @@ abbrev pub outcome : SheetRead → Sst → Out
 outcome (Good e) st = loaded st e
 outcome (Refused r place) st = refused r place
 
-abbrev pub answeredAt : SheetRead → Sheet → Out
-answeredAt r p = outcome r (shown p)
-
 abbrev pub answered : Loaded → Out
-answered l = answeredAt (l .read) (l .sheet)
+answered l = outcome (l .read) (shown (l .sheet))
+
+-- nothing read
+abbrev pub emptySheet : Sheet
+emptySheet = record { last = 0; tones = 0; accents = 0; rows = 0; lists = 0; due = 0; total = 0; listat = replicate 128 0 }
+
+abbrev pub turnedBack : Refusal → ℕ → Loaded
+turnedBack r place = record { read = Refused r place; sheet = emptySheet }
+
+-- with a refusal nothing is handed back, whatever was read before it
+abbrev pub EmptyIfRefused : Loaded → Type 0
+EmptyIfRefused l = (r : Refusal) (place : ℕ) → l .read ≡ Refused r place → l .sheet ≡ emptySheet
 
 -- the counts keep document 01's limits, and the array has the length of its own
 pub record Roomy (p : Sheet) : Type 0 where

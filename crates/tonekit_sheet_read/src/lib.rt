@@ -2,7 +2,7 @@
 ghost use mathlib.Core.Path.{_≡_};
 ghost use Prim.Native.Nat.{_≤_};
 ghost use Rattle.tonekit_sheet.specs.Reader.{rowsDue, finished, readSheet, loadSheet, checkSheet};
-ghost use Rattle.tonekit_sheet_read.specs.Held.{shown, answered, answeredAt, Roomy};
+ghost use Rattle.tonekit_sheet_read.specs.Held.{shown, answered, turnedBack, Roomy, EmptyIfRefused};
 
 mod order;
 mod read;
@@ -26,58 +26,66 @@ pub struct Sheet {
     pub listat: [u16; 128],
 }
 
-// The answer of the reader, beside what was read: where the sheet ends, or why it is none and where.
+// The answer of the reader: where the sheet ends, or why it is none and where.
 pub enum SheetRead {
     Good(usize),
     Refused(Refusal, usize),
 }
 
+// What is handed back: the answer, and what was read; with a refusal, nothing.
 pub struct Loaded {
     pub read: SheetRead,
     pub sheet: Sheet,
 }
 
+// The answer of a refusal: nothing is handed back with it.
+fn turned_back(why: Refusal, place: usize) -> Loaded
+    ensures { λ r. ⌜ r ≡ turnedBack why place ⌝ }
+{
+    Loaded {
+        read: SheetRead::Refused(why, place),
+        sheet: read::nothing(),
+    }
+}
+
 // What is judged once the end is read, at e: a row that names a list that is not there, then what is
 // out of order. All rows are there.
-fn finish(s: &[u8], st: Sheet, e: usize) -> SheetRead
+fn finish(s: &[u8], st: Sheet, e: usize) -> Loaded
     requires { ⌜ Roomy st × (st .rows ≤ rowsDue (shown st)) ⌝ }
-    ensures { λ r. ⌜ answeredAt r st ≡ finished (now (s .entry)) (shown st) e ⌝ }
+    ensures { λ r. ⌜ (answered r ≡ finished (now (s .entry)) (shown st) e) × Roomy (r .sheet) × EmptyIfRefused r ⌝ }
 {
     if let Found::At(o) = order::loose_row(s, st) {
-        return SheetRead::Refused(Refusal::Loose, o);
+        return turned_back(Refusal::Loose, o);
     }
     if let Found::At(o) = order::accent_down(s, st) {
-        return SheetRead::Refused(Refusal::Unordered, o);
+        return turned_back(Refusal::Unordered, o);
     }
     if let Found::At(o) = order::row_wrong(s, st) {
-        return SheetRead::Refused(Refusal::Unordered, o);
+        return turned_back(Refusal::Unordered, o);
     }
     if let Found::At(o) = order::list_wrong(s, st) {
-        return SheetRead::Refused(Refusal::Unordered, o);
+        return turned_back(Refusal::Unordered, o);
     }
-    SheetRead::Good(e)
+    Loaded {
+        read: SheetRead::Good(e),
+        sheet: st,
+    }
 }
 
 // Reads the sheet at the front of a longer input: where it ends, or its refusal and place.
 pub fn read_sheet(sheet: &[u8]) -> Loaded
-    ensures { λ r. ⌜ (answered r ≡ readSheet (now (sheet .entry))) × Roomy (r .sheet) ⌝ }
+    ensures { λ r. ⌜ (answered r ≡ readSheet (now (sheet .entry))) × Roomy (r .sheet) × EmptyIfRefused r ⌝ }
 {
     let mut st = read::nothing();
     let mut at: usize = 0;
     loop {
         let v = read::record_verdict(sheet, at, st);
         if let Verdict::Refused(r) = v {
-            return Loaded {
-                read: SheetRead::Refused(r, at),
-                sheet: st,
-            };
+            return turned_back(r, at);
         }
         let k = sheet[at];
         if k == layout::SHEET_END_KIND {
-            return Loaded {
-                read: finish(sheet, st, at + layout::SHEET_END_SIZE),
-                sheet: st,
-            };
+            return finish(sheet, st, at + layout::SHEET_END_SIZE);
         }
         let count = tonekit_bytes::byte_at(sheet, at, layout::SHEET_LIST_COUNT);
         st = read::add(k, at, count, st);
@@ -87,18 +95,14 @@ pub fn read_sheet(sheet: &[u8]) -> Loaded
 
 // Reads an input that is one sheet: what read_sheet answers, and Overrun at the first byte behind it.
 pub fn load_sheet(sheet: &[u8]) -> Loaded
-    ensures { λ r. ⌜ (answered r ≡ loadSheet (now (sheet .entry))) × Roomy (r .sheet) ⌝ }
+    ensures { λ r. ⌜ (answered r ≡ loadSheet (now (sheet .entry))) × Roomy (r .sheet) × EmptyIfRefused r ⌝ }
 {
     let l = read_sheet(sheet);
     let read = l.read;
-    let held = l.sheet;
     match read {
         SheetRead::Good(e) => {
             if e < sheet.len() {
-                return Loaded {
-                    read: SheetRead::Refused(Refusal::Overrun, e),
-                    sheet: held,
-                };
+                return turned_back(Refusal::Overrun, e);
             }
             l
         }

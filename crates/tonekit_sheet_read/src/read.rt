@@ -4,8 +4,8 @@ ghost use Prim.Native.Nat.{_+_, _≤_};
 ghost use lib.ListN.{length};
 ghost use Rattle.tonekit_core.specs.Layout.{sheetToneSize, sheetAccentSize, sheetComponentSize};
 ghost use Rattle.tonekit_pack.specs.Pack.{holds};
-ghost use Rattle.tonekit_sheet.specs.Reader.{rowsDue, complete, dueNext, sizeOf, toneVerdict, accentVerdict, rowVerdict, listVerdict, pointFine, pointsFine, lastList, componentVerdict, bodyVerdict, recordVerdict, added, start};
-ghost use Rattle.tonekit_sheet_read.specs.Held.{stepped, shown, Roomy, Follows};
+ghost use Rattle.tonekit_sheet.specs.Reader.{rowsDue, complete, dueNext, sizeOf, toneVerdict, accentVerdict, rowVerdict, listVerdict, pointFine, pointsFine, lastList, componentVerdict, bodyVerdict, recordVerdict, added};
+ghost use Rattle.tonekit_sheet_read.specs.Held.{stepped, shown, emptySheet, Roomy, Follows};
 use crate::Sheet;
 use tonekit_bytes::byte_at;
 use tonekit_bytes::f32_at;
@@ -228,7 +228,7 @@ pub fn record_verdict(s: &[u8], o: usize, st: Sheet) -> Verdict
 
 // Before the first record.
 pub fn nothing() -> Sheet
-    ensures { λ r. ⌜ (shown r ≡ start .st) × Roomy r ⌝ }
+    ensures { λ r. ⌜ r ≡ emptySheet ⌝ }
 {
     Sheet {
         last: 0,

@@ -1,10 +1,12 @@
 -- `read_sheet` meets its contract: before each record, what is left to read gives what the whole gives (`Going`). Assumes nothing.
-use mathlib.Core.Path.{refl, sym, _∙_}
+use mathlib.Core.Path.{refl, sym, ap, _∙_}
 use borrow.Author.Needs.{needs}
 use native.Mathlib.Omega.{arith}
 use Prim.Native.Nat.{_+_, _-_}
 use lib.ListN.{length, getD}
 use Rattle.tonekit_sheet.specs.Reader.{readSheet}
+use Rattle.tonekit_sheet_read.specs.Held.{shown}
+use Rattle.tonekit_sheet_read.proofs.HandedBack.{empty-starts, empty-roomy, is-refusal}
 use Rattle.tonekit_sheet_read.proofs.Records.{size-pos}
 use Rattle.tonekit_sheet_read.proofs.Reading.{Going, refuses, ok, ends, follows, goes}
 use Rattle.tonekit_sheet_read.proofs.read_sheet.Statement.{statement}
@@ -18,14 +20,15 @@ abbrev μ-loop : tie.MeasureT-loop
 
 returns : tie.Need-returns Inv-loop μ-loop
 returns c =
-    let l = c .before .before .before .before .loop in
-    (refuses _ (l .st) (l .at) (l .inv) _ (sym (c .before .before .before .record-verdict .ensures) ∙ c .before .v .given .1), l .inv .roomy)
+    let l = c .before .before .before .before .before .loop in
+    is-refusal _ _ _ _ (c .turned-back .ensures)
+    (refuses _ (l .st) (l .at) (l .inv) _ (sym (c .before .before .before .before .record-verdict .ensures) ∙ c .before .before .v .given .1))
 
 returns-2 : tie.Need-returns-2 Inv-loop μ-loop
 returns-2 c =
     let l = c .before .before .before .before .before .before .loop in
     let v = sym (c .before .before .before .before .before .record-verdict .ensures) ∙ c .before .before .before .enum-told .given .1 in
-    (c .finish .ensures ∙ ends _ (l .st) (l .at) (l .inv) v (c .before .if1 .taken), l .inv .roomy)
+    (c .finish .ensures .0 ∙ ends _ (l .st) (l .at) (l .inv) v (c .before .if1 .taken), c .finish .ensures .1, c .finish .ensures .2)
 
 loop-again : tie.Need-loop-again Inv-loop μ-loop
 loop-again c =
@@ -36,9 +39,9 @@ loop-again c =
 loop-holds : tie.Need-loop-holds Inv-loop μ-loop
 unfolding readSheet
 loop-holds c =
-    let e = c .nothing .ensures .0 in
+    let e = ap shown (c .nothing .ensures) ∙ empty-starts in
     record {
-      roomy = c .nothing .ensures .1;
+      roomy = rw (c .nothing .ensures) empty-roomy;
       placed = rw e (record { first = λ q. refl; place = λ q. absurd (omega arith); no-tones = λ q. refl; no-accents = λ q. refl; no-rows = λ q. refl; no-lists = λ q. (refl, refl, refl); few-rows = omega arith; all-rows = λ q. absurd (omega arith) });
       inside = omega arith;
       fuel = length (c .before .before .args .sheet .now) + 1;
@@ -94,6 +97,7 @@ read-sheet-spec =
     loop-holds
     record-verdict-requires
     (λ c. search needs)
+    (λ c κs. search needs)
     returns
     (λ c. search needs)
     shared-slice-read-k
