@@ -146,6 +146,9 @@ fn balance(r: &mut Rng, p: &mut Pack, q: &mut Query) {
             }
         })
         .collect();
+    if reference::judge(&p.bytes(), &q.bytes()).is_err() {
+        (q.tone, q.variants) = (p.tones[0].number, Vec::new());
+    }
     let query = q.bytes();
     let judged = |p: &Pack| -> Option<f32> {
         let record = reference::judge(&p.bytes(), &query).ok()?;
@@ -174,19 +177,42 @@ fn balance(r: &mut Rng, p: &mut Pack, q: &mut Query) {
             _ => high = middle,
         }
     }
-    // Among neighbours of these tolerances, those that bring it closest to 0.
     first(p, f32::from_bits(low));
+    settle(p, accent, &judged);
+}
+
+/// Moves the first three tolerances by some f32 steps each, so that what is judged comes as close to 0 as they allow. Over few
+/// steps it follows each of them nearly in a straight line: for every pair of steps of two the third's is known.
+fn settle(p: &mut Pack, accent: usize, judged: &dyn Fn(&Pack) -> Option<f32>) {
+    const FAR: i32 = 48;
     let base = p.accents[accent].tolerances;
-    let mut best = (f32::INFINITY, base);
-    for _ in 0..60 {
+    let mut moved = |steps: [i32; 3]| -> (f64, [f32; 4]) {
         let mut tried = base;
-        for t in &mut tried[..3] {
-            *t = f32::from_bits(t.to_bits() + r.below(8) as u32);
+        for (t, step) in tried.iter_mut().zip(steps) {
+            *t = f32::from_bits(t.to_bits().wrapping_add_signed(step));
         }
         p.accents[accent].tolerances = tried;
-        let v = judged(p).unwrap_or(0.0).abs();
-        if v < best.0 && v > 0.0 {
-            best = (v, tried);
+        (judged(p).map_or(f64::INFINITY, f64::from), tried)
+    };
+    let start = moved([0; 3]).0;
+    let slopes = [[FAR, 0, 0], [0, FAR, 0], [0, 0, FAR]]
+        .map(|steps| (moved(steps).0 - start) / f64::from(FAR));
+    let mut near: Vec<(f64, [i32; 3])> = Vec::new();
+    for i in -FAR..FAR {
+        for j in -FAR..FAR {
+            let rest = start + f64::from(i) * slopes[0] + f64::from(j) * slopes[1];
+            let k = (-rest / slopes[2]).round();
+            if k.abs() <= f64::from(FAR) {
+                near.push(((rest + k * slopes[2]).abs(), [i, j, k as i32]));
+            }
+        }
+    }
+    near.sort_by(|a, b| a.0.total_cmp(&b.0));
+    let mut best = (f64::INFINITY, base);
+    for &(_, steps) in near.iter().take(24) {
+        let (v, tried) = moved(steps);
+        if v.abs() < best.0 && v != 0.0 {
+            best = (v.abs(), tried);
         }
     }
     p.accents[accent].tolerances = best.1;

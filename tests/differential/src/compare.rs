@@ -6,6 +6,7 @@ use crate::case::*;
 use crate::port;
 use crate::predict;
 use crate::rng::Rng;
+use crate::samples::{told, Sample};
 use crate::tally::Tally;
 
 fn hex(b: &[u8]) -> String {
@@ -227,7 +228,14 @@ const GUARD: usize = 32;
 
 /// Asks the port in rooms around each boundary; every byte of the room, and of a strip before and
 /// after it, must be as document 01 says. The inputs must be what they were.
-fn with_port(t: &mut Tally, r: &mut Rng, case: u64, c: &Call, ours: &Answer) {
+fn with_port(
+    t: &mut Tally,
+    r: &mut Rng,
+    case: u64,
+    c: &Call,
+    ours: &Answer,
+    own_room: Option<usize>,
+) {
     if !port::has(c.call) {
         return;
     }
@@ -268,7 +276,7 @@ fn with_port(t: &mut Tally, r: &mut Rng, case: u64, c: &Call, ours: &Answer) {
         Err(_) => vec![r.below(200), 0, r.pick(&[64, 124, 14000])],
     };
     let fill = r.byte();
-    for room in rooms {
+    for room in rooms.into_iter().chain(own_room) {
         let before: Vec<u8> = (0..GUARD + room + GUARD)
             .map(|i| (i as u8).wrapping_mul(37).wrapping_add(fill))
             .collect();
@@ -435,7 +443,7 @@ pub fn compare(t: &mut Tally, seed: u64, index: u64) {
         *t.outcomes.entry((c.call, number)).or_default() += 1;
         look_at(t, c, &ours);
         with_oracle(t, index, case.kind, c, &ours);
-        with_port(t, &mut r, index, c, &ours);
+        with_port(t, &mut r, index, c, &ours, None);
         if c.call == MIN_MAX {
             extremes(t, index, c, &ours);
         }
@@ -462,12 +470,13 @@ pub fn compare(t: &mut Tally, seed: u64, index: u64) {
     }
 }
 
-/// A fixed sample: reference, oracle and port must still give it.
-pub fn replayed(t: &mut Tally, index: u64, c: &Call, fixed: &Answer) {
-    let ours = reference_answer(c);
-    t.same("reference = sample", ours == *fixed, index, || {
-        words(c, &say(&ours), &say(fixed))
+/// A fixed sample: reference, oracle and port must still give it, the port in the sample's own room and in others.
+pub fn replayed(t: &mut Tally, index: u64, s: &Sample) {
+    let (c, ours) = (&s.call, reference_answer(&s.call));
+    let told = told(c, s.room).0;
+    t.same("reference = sample", told == s.fixed, index, || {
+        words(c, &say(&told), &say(&s.fixed))
     });
-    with_oracle(t, index, 0, c, fixed);
-    with_port(t, &mut Rng::new(0, index), index, c, fixed);
+    with_oracle(t, index, 0, c, &ours);
+    with_port(t, &mut Rng::new(0, index), index, c, &ours, s.room);
 }

@@ -1,12 +1,17 @@
-//! Planted mistakes of the reference, and how many of them the cases tell apart.
+//! Planted mistakes of the reference: how many cases tell each apart, and which sample does.
 
 use std::panic::{catch_unwind, AssertUnwindSafe};
+use std::path::Path;
 
 use crate::ask::{reference_answer, Answer};
 use crate::case::{case, Call, CALLS, JUDGE_SHEET, KINDS, WRITE_SHAPE};
+use crate::cover::{found, table, units, Unit};
+use crate::samples::load;
 
 /// A mistake that so many cases have seen is not asked again.
 const ENOUGH: u64 = 50;
+
+const THREADS: usize = 2;
 
 /// The reference's answer, and what it leaves in rooms around the needed length.
 fn told(c: &Call) -> (Answer, Vec<(Result<u64, (u8, u64)>, Vec<u8>)>) {
@@ -26,61 +31,109 @@ fn told(c: &Call) -> (Answer, Vec<(Result<u64, (u8, u64)>, Vec<u8>)>) {
     (answer, rooms)
 }
 
-struct Planted {
-    number: u32,
-    words: &'static str,
-    seen: u64,
+/// How many cases saw a unit, and the first of them in words.
+#[derive(Clone, Default)]
+struct Seen {
+    cases: u64,
     first: String,
 }
 
-/// Takes every `parts`-th mistake, from `part`; prints a line for each.
-pub fn coverage(cases: u64, seed: u64, part: usize, parts: usize) {
-    std::panic::set_hook(Box::new(|_| {}));
-    let mut all: Vec<Planted> = reference::PLANTED
-        .iter()
-        .enumerate()
-        .filter(|(i, _)| i % parts == part)
-        .map(|(_, &(number, words))| Planted {
-            number,
-            words,
-            seen: 0,
-            first: String::new(),
-        })
-        .collect();
+/// Asks the cases about every `THREADS`-th unit from `part`, in order.
+fn asked(all: &[Unit], cases: u64, seed: u64, part: usize) -> Vec<Seen> {
+    let mine: Vec<&Unit> = all.iter().skip(part).step_by(THREADS).collect();
+    let mut seen = vec![Seen::default(); mine.len()];
     for index in 0..cases {
-        if all.iter().all(|p| p.seen >= ENOUGH) {
+        if seen.iter().all(|s| s.cases >= ENOUGH) {
             break;
         }
         reference::plant(0);
         let case = case(seed, index);
         let right: Vec<_> = case.calls.iter().map(told).collect();
-        for p in all.iter_mut().filter(|p| p.seen < ENOUGH) {
-            reference::plant(p.number);
+        for (unit, s) in mine.iter().zip(&mut seen).filter(|(_, s)| s.cases < ENOUGH) {
+            reference::plant(unit.number);
             let differs = case.calls.iter().zip(&right).find(|(c, right)| {
-                match catch_unwind(AssertUnwindSafe(|| told(c))) {
-                    Ok(answer) => answer != **right,
-                    Err(_) => true,
-                }
+                unit.takes(c.call)
+                    && match catch_unwind(AssertUnwindSafe(|| told(c))) {
+                        Ok(answer) => answer != **right,
+                        Err(_) => true,
+                    }
             });
             if let Some((c, _)) = differs {
-                p.seen += 1;
-                if p.seen == 1 {
+                s.cases += 1;
+                if s.cases == 1 {
                     let call = CALLS[usize::from(c.call)];
-                    p.first = format!("case {index}, {}, {call}", KINDS[case.kind]);
+                    s.first = format!("case {index}, {}, {call}", KINDS[case.kind]);
                 }
             }
         }
     }
-    for p in &all {
-        let more = if p.seen >= ENOUGH { "+" } else { "" };
-        let first = if p.seen == 0 {
-            "NO CASE SAW IT"
+    reference::plant(0);
+    seen
+}
+
+/// One line for each unit: the cases that saw it, its words, the first case, and the sample. Whether all is as it should be:
+/// every mistake seen, each unit that a case saw told apart by a sample, and the table as it would be written.
+pub fn coverage(dir: &Path, words: &Path, cases: u64, seed: u64) -> bool {
+    std::panic::set_hook(Box::new(|_| {}));
+    let all = units();
+    let samples = found(&load(dir), &all);
+    let mut seen = vec![Seen::default(); all.len()];
+    std::thread::scope(|s| {
+        let threads: Vec<_> = (0..THREADS)
+            .map(|part| {
+                let all = &all;
+                s.spawn(move || asked(all, cases, seed, part))
+            })
+            .collect();
+        for (part, thread) in threads.into_iter().enumerate() {
+            for (i, one) in thread.join().expect("a thread").into_iter().enumerate() {
+                seen[part + THREADS * i] = one;
+            }
+        }
+    });
+    let mut missing = 0;
+    for ((unit, s), sample) in all.iter().zip(&seen).zip(&samples) {
+        let more = if s.cases >= ENOUGH { "+" } else { "" };
+        let first = if s.cases == 0 {
+            "no case saw it"
         } else {
-            &p.first
+            &s.first
+        };
+        let sample = match sample {
+            Some(at) => at,
+            None if s.cases == 0 => "none",
+            None => {
+                missing += 1;
+                "NO SAMPLE"
+            }
         };
         println!(
-            "{:>4} {:>5}{more:1} {} ({first})",
-            p.number, p.seen, p.words
+            "{:>4} {:>5}{more:1} {} ({first}): {sample}",
+            unit.number,
+            s.cases,
+            unit.name()
         );
     }
+    let of = |test: &dyn Fn(usize) -> bool| {
+        let mut numbers: Vec<u32> = (0..all.len())
+            .filter(|&i| test(i))
+            .map(|i| all[i].number)
+            .collect();
+        numbers.dedup();
+        numbers.len()
+    };
+    let (mistakes, by_cases) = (of(&|_| true), of(&|i| seen[i].cases > 0));
+    println!(
+        "{by_cases} of {mistakes} planted mistakes told apart in {cases} cases of seed {seed}"
+    );
+    println!(
+        "{} of {mistakes} told apart by a sample",
+        of(&|i| samples[i].is_some())
+    );
+    println!("{missing} lines where a case tells apart and no sample does");
+    let kept = std::fs::read_to_string(words).unwrap_or_default() == table(&all, &samples);
+    if !kept {
+        println!("{} is not as `run cover` would write it", words.display());
+    }
+    by_cases == mistakes && missing == 0 && kept
 }

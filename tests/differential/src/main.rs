@@ -4,8 +4,10 @@ mod ask;
 mod bytes;
 mod case;
 mod compare;
+mod cover;
 mod coverage;
 mod damage;
+mod limits;
 mod pack;
 mod port;
 mod predict;
@@ -119,8 +121,12 @@ fn main() {
     let ok = match args[0].as_str() {
         "run" => run(number(1, 100_000), number(2, 1), number(3, 0) as u32),
         "coverage" => {
-            let (part, parts) = (number(3, 0) as usize, number(4, 1) as usize);
-            coverage::coverage(number(1, 100_000), number(2, 1), part, parts);
+            let (dir, table) = (Path::new(&args[1]), Path::new(&args[2]));
+            coverage::coverage(dir, table, number(3, 100_000), number(4, 1))
+        }
+        "cover" => {
+            let (dir, table) = (Path::new(&args[1]), Path::new(&args[2]));
+            cover::write(dir, table, number(4, 100_000), number(3, 1));
             true
         }
         "samples" => {

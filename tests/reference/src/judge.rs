@@ -336,6 +336,8 @@ fn main_weight(q: &Query) -> Option<f32> {
         main < 0.0
     } else if planted(VARIANT_WIDE_SLACK) {
         main < -1e-5
+    } else if planted(VARIANT_SLACK_HALF_MORE) {
+        main < -1.5e-6
     } else {
         main < -1e-6
     };
@@ -360,6 +362,23 @@ fn rust_tail(q: &Query, main: f32, issues: u16) -> f32 {
     narrow(total.with(ln(f64::from(main))).value())
 }
 
+/// Usable exactly when every contour point and weight is finite.
+fn usable(shape: &Shape) -> bool {
+    if planted(USABLE_BY_ENDS) {
+        return shape.contour[0].is_finite() && shape.contour[9].is_finite();
+    }
+    shape.contour.iter().chain(&shape.weights).all(|v| v.is_finite())
+}
+
+/// "not measured puts InvalidEvidence only"; every log-likelihood is the lower bound.
+fn not_measured(tones: usize, expected: u8, issues: u16) -> Record {
+    let mut record = Record { expected, tones: tones as u8, measured: 2, ..Record::default() };
+    record.loglik[..tones.min(8)].fill(narrow(-CLAMP));
+    record.issues =
+        if planted(NOT_MEASURED_UNION) { issues | INVALID_EVIDENCE } else { INVALID_EVIDENCE };
+    record
+}
+
 /// The answer to a query from a pack or from a sheet: 11, 12, 13 for prev, 14, 15, 13 for targets,
 /// then 64 bytes.
 pub fn judge<S: Source>(source: &S, q: &Query) -> Result<Vec<u8>, Refusal> {
@@ -369,6 +388,9 @@ pub fn judge<S: Source>(source: &S, q: &Query) -> Result<Vec<u8>, Refusal> {
         return refuse(12, 0);
     }
     let shape = shape?;
+    if planted(NOT_FINITE_FIRST) && !usable(&shape) {
+        return Ok(not_measured(source.tones().len(), q.tone, shape.issues).bytes());
+    }
     if planted(PREV_BEFORE_ACCENT) && q.prev != 0 && source.tone(q.prev).is_none() {
         return refuse(13, 0);
     }
@@ -418,25 +440,11 @@ pub fn judge<S: Source>(source: &S, q: &Query) -> Result<Vec<u8>, Refusal> {
         return refuse(13, 0);
     }
 
-    // Usable exactly when every contour point and weight is finite.
-    let usable = if planted(USABLE_BY_ENDS) {
-        shape.contour[0].is_finite() && shape.contour[9].is_finite()
-    } else {
-        shape.contour.iter().chain(&shape.weights).all(|v| v.is_finite())
-    };
+    if !usable(&shape) {
+        return Ok(not_measured(tones.len(), q.tone, shape.issues).bytes());
+    }
     let target = source.tone(q.tone).unwrap_or(0);
     let mut record = Record { expected: q.tone, tones: tones.len() as u8, ..Record::default() };
-    if !usable {
-        // "not measured puts InvalidEvidence only"
-        record.loglik[..tones.len().min(8)].fill(narrow(-CLAMP));
-        record.measured = 2;
-        record.issues = if planted(NOT_MEASURED_UNION) {
-            shape.issues | INVALID_EVIDENCE
-        } else {
-            INVALID_EVIDENCE
-        };
-        return Ok(record.bytes());
-    }
     let judge = Judge { source, accent, shape: &shape, target };
 
     // The log-likelihood of every inventory tone, the background and the best score.

@@ -160,6 +160,8 @@ mistakes! {
     147 FRAME_HZ_RANGE "a voiced hz that is not finite is 10";
     148 QUERY_FIRST "the query judged before pack or sheet";
     // Sheet, read
+    149 POINTS_256 "points of size up to 256 pass";
+    150 LIST_ZERO "list number 0 passes";
     151 SURPLUS_BEFORE_ORDER "3 before 7 and 8";
     152 ORDER_BEFORE_LOOSE "8 before a list reference's 7";
     153 ROWS_FEWER "a list may come before the rows are complete";
@@ -254,6 +256,7 @@ mistakes! {
     242 CURVATURE_BY_N "curvature over i/n";
     243 TURN_UNSMOOTHED "turning on the unsmoothed curve";
     244 SPAN_CLAMPED "span clamped to the frames in duration and fraction";
+    245 TURN_AT_FIRST_TENTH "turning at 0.1 passes";
     246 MEAN_IN_F64 "mean in f64";
     247 MEAN_TIMES_TENTH "mean times 0.1";
     248 CONFIDENCE_IN_F64 "confidence in f64";
@@ -268,6 +271,7 @@ mistakes! {
     257 SHAPE_INTERLEAVED "shape record: points and weights in turn";
     258 SHAPE_NO_TURN_NAN "shape record: NaN where nothing turns";
     259 SHAPE_INVALID_ONLY "shape record: InvalidEvidence only where not finite";
+    260 TURN_AT_LAST_TENTH "turning at 0.9 passes";
     // Judgement
     261 SUM_NAN_GREATEST "two infinite products score +1,000,000";
     262 WIDEN_SHORT "TooShort widens";
@@ -350,6 +354,8 @@ mistakes! {
     339 PART_AFTER_DROPPING "part counted after dropping";
     340 PART_FROM_1 "part counted from 1";
     341 PART_OF_MIXTURE "part counted over all tones of the target";
+    342 VARIANT_SLACK_HALF_MORE "slack 1.5e−6";
+    343 NOT_FINITE_FIRST "a contour that is not finite judged before 12 to 15";
     // Lent buffers
     351 ROOM_BEFORE_UNVOICED "9 before 11 to 15";
     352 ROOM_TO_SPARE "a buffer of just the length refused";

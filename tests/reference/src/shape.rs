@@ -297,8 +297,9 @@ pub fn turning_point(curve: &[f64]) -> Option<f64> {
     let mut best: Option<(f64, f64)> = None;
     for (excursion, u) in candidates {
         let enough = if planted(TURN_ABOVE_HALF) { excursion > 0.5 } else { excursion >= 0.5 };
-        let inside =
-            if planted(TURN_AT_BORDER) { (0.1..=0.9).contains(&u) } else { u > 0.1 && u < 0.9 };
+        let inside = u > 0.1 && u < 0.9
+            || u == 0.1 && (planted(TURN_AT_BORDER) || planted(TURN_AT_FIRST_TENTH))
+            || u == 0.9 && (planted(TURN_AT_BORDER) || planted(TURN_AT_LAST_TENTH));
         if !enough || !inside {
             continue;
         }

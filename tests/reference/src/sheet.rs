@@ -226,7 +226,7 @@ impl Sheet {
         let count = usize::from(bytes[at + 6]);
         // "A list's count above 4, or above 1 unless the form is 3, is 4; count 0 is 5."
         let crowded = count > 4 || count > 1 && form != 3;
-        let in_range = number != 0
+        let in_range = (number != 0 || planted(LIST_ZERO))
             && owner != 0
             && (1..=3).contains(&form)
             && (count != 0 || planted(LIST_EMPTY))
@@ -259,7 +259,13 @@ impl Sheet {
         };
         // "forms 1 and 2 have one component of weight 1"
         let single = current.list.form != 3;
-        let most = if planted(POINTS_100) { 100.0 } else { 128.0 };
+        let most = if planted(POINTS_100) {
+            100.0
+        } else if planted(POINTS_256) {
+            256.0
+        } else {
+            128.0
+        };
         let in_range = weight(value)
             && (!single || value == 1.0 || planted(SHEET_SINGLE_WEIGHT))
             && points.iter().all(|&p| sized(p, most));

@@ -555,6 +555,10 @@ fn chosen() -> Vec<Case> {
     let small_sheet = write_sheet(&small).unwrap();
     let unused = [list(2, 1, 3, 0, 1), component(1.0, [0.0; 10]), vec![23]].concat();
     cases.push(Case::Sheet([&small_sheet[..small_sheet.len() - 1], &unused].concat()));
+    // Variants whose sum is 10 f32 steps above 1, which 1e−6 refuses and 1.5e−6 would not.
+    let mut ask = Ask::of(steady(8, 110.0));
+    ask.variants = vec![(1, 0.5), (1, 0.5 + 10.0 * f32::EPSILON)];
+    cases.push(Case::Judge(small_pack(), ask.bytes()));
     cases.extend((0..2000).map(|_| near_zero(&mut r)));
     cases.extend((0..2000).map(|_| through_zero(&mut r)));
     cases.push(Case::Pack(full));
