@@ -74,6 +74,38 @@ small-sheet : sheet small
 unfolding sheet bytesOf bytesWith viewOf ascending ascFrom accentIn listsOf rowContext noted numberIn seenIn placeIn same sameCarried sameNumbers bitsBytes componentsBytes gather pieces range turns
 small-sheet = refl
 
+-- a source of tones 7 and 4, in this order, and of accent 3. After tone 4, tone 7 takes the list of label 9, and nothing at the end of a phrase; tone 4 has
+-- that of label 8 after none; else label 7
+abbrev toned : ℕ → Tone
+toned n = record { number = n; prior = 0; flag = 0; from = 0; to = 0 }
+
+abbrev sought : Context → Option (List Carried)
+sought c =
+    cond (eqb (c .tone) 7)
+    (cond (eqb (c .prev) 4) (cond (eqb (c .last) 0) (some (lone 3 9 0 0)) none) (some (lone 3 7 0 0)))
+    (cond (eqb (c .prev) 0) (some (lone 3 8 0 0)) (some (lone 3 7 0 0)))
+
+abbrev pair : Source
+pair = record { settings = record { temperature = 0; threshold = 0 }; tones = toned 7 ∷ toned 4 ∷ []; accents = accent 3 ∷ []; look = sought }
+
+-- "tone in pack order, prev 0 then tones in pack order", "0 nothing"
+pair-sheet : sheet pair
+    ≡ (17 ∷ replicate 8 0)
+    ++ ((18 ∷ 7 ∷ replicate 13 0)
+    ++ ((18 ∷ 4 ∷ replicate 13 0)
+    ++ ((19 ∷ 3 ∷ replicate 16 0)
+    ++ ((20 ∷ 3 ∷ 7 ∷ 0 ∷ 1 ∷ 1 ∷ [])
+    ++ ((20 ∷ 3 ∷ 7 ∷ 7 ∷ 1 ∷ 1 ∷ [])
+    ++ ((20 ∷ 3 ∷ 7 ∷ 4 ∷ 2 ∷ 0 ∷ [])
+    ++ ((20 ∷ 3 ∷ 4 ∷ 0 ∷ 3 ∷ 3 ∷ [])
+    ++ ((20 ∷ 3 ∷ 4 ∷ 7 ∷ 1 ∷ 1 ∷ [])
+    ++ ((20 ∷ 3 ∷ 4 ∷ 4 ∷ 1 ∷ 1 ∷ [])
+    ++ ((21 ∷ 1 ∷ 3 ∷ 2 ∷ 7 ∷ 0 ∷ 1 ∷ 22 ∷ replicate 44 0)
+    ++ ((21 ∷ 2 ∷ 3 ∷ 2 ∷ 9 ∷ 0 ∷ 1 ∷ 22 ∷ replicate 44 0)
+    ++ ((21 ∷ 3 ∷ 3 ∷ 2 ∷ 8 ∷ 0 ∷ 1 ∷ 22 ∷ replicate 44 0) ++ (23 ∷ [])))))))))))))
+unfolding sheet bytesOf bytesWith viewOf ascending ascFrom accentIn listsOf rowContext noted numberIn seenIn placeIn same sameCarried sameNumbers bitsBytes componentsBytes gather pieces range turns
+pair-sheet = refl
+
 -- a sheet of one tone and of accents 3 and 5, with those two lists, looked up by position
 abbrev lists : List ℕ
 lists = (21 ∷ 1 ∷ 3 ∷ 2 ∷ 7 ∷ 0 ∷ 1 ∷ 22 ∷ replicate 44 0) ++ ((21 ∷ 2 ∷ 3 ∷ 2 ∷ 8 ∷ 0 ∷ 1 ∷ 22 ∷ replicate 44 0) ++ (23 ∷ []))
