@@ -6,9 +6,10 @@ use lib.ListN.{replicate}
 use lib.Ieee.{lt, le, ofBits}
 use Rattle.tonekit_core.specs.Loop.{range, turns, rangeTo, turnsTo, loopTo, loopOn}
 use Rattle.tonekit_core.specs.declared.Refusal.the-variants.{Misplaced, Overrun, Crowded, OffScale, Doubled, Loose, Unordered}
+use Rattle.tonekit_core.specs.declared.Verdict.the-variants as verdict
 use Rattle.tonekit_pack.specs.Ranges.{aboveZero, aShare, weightFine, regionFine, tolerancesFine}
 use Rattle.tonekit_pack.specs.Pack.{holds, zeroOrHeld, settingsVerdict}
-use Rattle.tonekit_sheet.specs.Reader.{Out, loaded, refused, complete, dueNext, sizeOf, toneVerdict, accentVerdict, rowVerdict, listVerdict, pointFine, pointsFine, componentVerdict, bodyVerdict, recordVerdict, added, looseRow, accentDown, rowDue, rowNames, rowWrong, named, sameLists, repeated, listWrong, finished, readSheet, loadSheet}
+use Rattle.tonekit_sheet.specs.Reader.{Out, Sst, loaded, refused, complete, dueNext, sizeOf, toneVerdict, accentVerdict, rowVerdict, listVerdict, pointFine, pointsFine, componentVerdict, bodyVerdict, recordVerdict, added, looseRow, accentDown, rowDue, rowNames, rowWrong, named, sameLists, repeated, listWrong, finished, readSheet, loadSheet}
 
 -- what an input is, as a single sheet; opened, it computes
 unfoldable read : List ℕ → Out
@@ -120,8 +121,8 @@ tone-due : read (pair (row 1 4 7 0 0)) ≡ refused Unordered 63
 unfolding read
 tone-due = refl
 
--- "a row naming a list above 1 more than the greatest before it": after list 1 the second row may name 2, not 3, and a row's list when final may be 1 above
--- that when not final, not 2
+-- "a row naming a list above 1 more than the greatest before it": after list 1 the second row may name 2, not 3, and a row's list
+-- when final may be 1 above that when not final, not 2
 greatest-and-one : read (rows 1 1 2 3 ++ (list 1 1 2 7 ++ (list 2 1 2 8 ++ (list 3 1 2 9 ++ (23 ∷ []))))) ≡ loaded (record { last = 22; tones = 9 ∷ []; accents = 24 ∷ []; rows = 2; lists = 54 ∷ 106 ∷ 158 ∷ []; due = 0; total = 3 }) 211
 unfolding read
 greatest-and-one = refl
@@ -196,6 +197,26 @@ list-zero = refl
 number-255 : read (settings ++ (tone 255 ++ (accent 255 ++ (row 255 255 0 0 0 ++ (row 255 255 255 0 0 ++ (23 ∷ [])))))) ≡ loaded (record { last = 20; tones = 9 ∷ []; accents = 24 ∷ []; rows = 2; lists = []; due = 0; total = 0 }) 55
 unfolding read
 number-255 = refl
+
+-- "At most 128 lists and 192 components; the record that goes past is 4": a list and a component after so many
+abbrev after : ℕ → ℕ → Sst
+after lists components = record { last = 22; tones = []; accents = 0 ∷ []; rows = 0; lists = replicate lists 0; due = 1; total = components }
+
+list-128 : listVerdict (0 ∷ 1 ∷ head 1 1 3 0 1) 2 (after 127 0) ≡ verdict.Fine
+unfolding listVerdict holds
+list-128 = refl
+
+list-129 : listVerdict (0 ∷ 1 ∷ head 1 1 3 0 1) 2 (after 128 0) ≡ verdict.Refused Crowded
+unfolding listVerdict
+list-129 = refl
+
+component-192 : componentVerdict (list 1 1 3 0) 7 (after 1 191) ≡ verdict.Fine
+unfolding componentVerdict weightFine pointsFine pointFine range turns lt le ofBits
+component-192 = refl
+
+component-193 : componentVerdict (list 1 1 3 0) 7 (after 1 192) ≡ verdict.Refused Crowded
+unfolding componentVerdict
+component-193 = refl
 
 -- "points are finite, size at most 128": 128 and -128 are points; the f32 above 128, the infinities and a NaN are off scale
 abbrev points : List ℕ → List ℕ
