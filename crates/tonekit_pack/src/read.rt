@@ -99,7 +99,8 @@ pub fn in_turn(crowded: bool, fine: bool, new: bool, held: bool) -> Verdict
     Verdict::Fine
 }
 
-// What is said of a record of each kind that is due and whole. Every test is made, since only the last record read can fail one.
+// What is said of a record of each kind that is due and whole, here and below. Every test is made, since only the last record read
+// can fail one. Settings: temperature and threshold.
 pub fn settings_verdict(s: &[u8], o: usize) -> Verdict
     ensures { λ r. ⌜ r ≡ settingsVerdict (now (s .entry)) o ⌝ }
 {
@@ -108,6 +109,7 @@ pub fn settings_verdict(s: &[u8], o: usize) -> Verdict
     in_turn(false, fine, true, true)
 }
 
+// A tone: number, prior, knots, region.
 fn tone_verdict(s: &[u8], o: usize, st: Pack) -> Verdict
     requires { ⌜ Roomy st × (o + toneSize ≤ length (now s)) ⌝ }
     ensures { λ r. ⌜ r ≡ toneVerdict (now (s .entry)) o (shown st) ⌝ }
@@ -125,6 +127,7 @@ fn tone_verdict(s: &[u8], o: usize, st: Pack) -> Verdict
     in_turn(crowded, fine, new, true)
 }
 
+// An accent: number, parent, tolerances.
 fn accent_verdict(s: &[u8], o: usize, st: Pack) -> Verdict
     requires { ⌜ Roomy st × (o + accentSize ≤ length (now s)) ⌝ }
     ensures { λ r. ⌜ r ≡ accentVerdict (now (s .entry)) o (shown st) ⌝ }
@@ -143,6 +146,7 @@ fn accent_verdict(s: &[u8], o: usize, st: Pack) -> Verdict
     )
 }
 
+// A rule: tone, prev, final, form.
 fn rule_verdict(s: &[u8], o: usize, st: Pack) -> Verdict
     requires { ⌜ Roomy st ⌝ }
     ensures { λ r. ⌜ r ≡ ruleVerdict (now (s .entry)) o (shown st) ⌝ }
@@ -179,6 +183,7 @@ fn single(s: &[u8], st: Pack) -> bool
     byte_at(s, last_rule(st), layout::RULE_FORM) == 2
 }
 
+// A part: weight and knots; of a single rule the first alone, of weight 1.
 fn part_verdict(s: &[u8], o: usize, st: Pack) -> Verdict
     requires { ⌜ Roomy st × (o + partSize ≤ length (now s)) ⌝ }
     ensures { λ r. ⌜ r ≡ partVerdict (now (s .entry)) o (shown st) ⌝ }
@@ -193,6 +198,7 @@ fn part_verdict(s: &[u8], o: usize, st: Pack) -> Verdict
     in_turn(crowded, fine, true, true)
 }
 
+// What is said of a record of kind k, by its kind; End has nothing to be wrong.
 fn body_verdict(k: u8, s: &[u8], o: usize, st: Pack) -> Verdict
     requires { ⌜ Roomy st × (o + sizeOf k ≤ length (now s)) ⌝ }
     ensures { λ r. ⌜ r ≡ bodyVerdict k (now (s .entry)) o (shown st) ⌝ }

@@ -4,12 +4,15 @@ use mathlib.Core.Path.{_≡_, refl}
 use mathlib.Core.Bool.{true, false, cond}
 use mathlib.Core.List.{List, [], _∷_, _++_}
 use mathlib.Core.Option.{Option, none, some}
+use mathlib.Core.Logic.{inl, inr}
+use native.Mathlib.Omega.{arith}
 use lib.Dec.{eqb}
 use lib.ListN.{replicate}
 use Rattle.tonekit_core.specs.Loop.{turns, range, turnsTo, rangeTo}
-use Rattle.tonekit_expect.specs.Source.{Settings, Tone, Accent, Carried, Source, accentIn, settingsAt}
+use Rattle.tonekit_expect.specs.Source.{Settings, Tone, Accent, Carried, Source, accentIn, toneIn, settingsAt}
 use Rattle.tonekit_expect.specs.Lookup.{indexOf}
 use Rattle.tonekit_expect.specs.declared.Context.{Context}
+use Rattle.tonekit_sheet.specs.Agree.{Held}
 use Rattle.tonekit_sheet.specs.Number.{sameNumbers, sameCarried, same, seenIn, placeIn, noted, numberIn}
 use Rattle.tonekit_sheet.specs.Gather.{pieces, gather}
 use Rattle.tonekit_sheet.specs.Sheet.{ascFrom, ascending, rowContext, viewOf, listsOf, bitsBytes, componentsBytes, bytesWith, bytesOf, sheet}
@@ -73,6 +76,47 @@ small-sheet : sheet small
     ++ ((21 ∷ 2 ∷ 3 ∷ 2 ∷ 8 ∷ 0 ∷ 1 ∷ 22 ∷ replicate 44 0) ++ (23 ∷ []))))))))))
 unfolding sheet bytesOf bytesWith viewOf ascending ascFrom accentIn listsOf rowContext noted numberIn seenIn placeIn same sameCarried sameNumbers bitsBytes componentsBytes gather pieces range turns
 small-sheet = refl
+
+-- a source of tones 7 and 4, in this order, and of accent 3. After tone 4, tone 7 takes the list of label 9, and nothing at the end of
+-- a phrase; tone 4 has that of label 8 after none; else label 7
+abbrev toned : ℕ → Tone
+toned n = record { number = n; prior = 0; flag = 0; from = 0; to = 0 }
+
+abbrev sought : Context → Option (List Carried)
+sought c =
+    cond (eqb (c .tone) 7)
+    (cond (eqb (c .prev) 4) (cond (eqb (c .last) 0) (some (lone 3 9 0 0)) none) (some (lone 3 7 0 0)))
+    (cond (eqb (c .prev) 0) (some (lone 3 8 0 0)) (some (lone 3 7 0 0)))
+
+abbrev pair : Source
+pair = record { settings = record { temperature = 0; threshold = 0 }; tones = toned 7 ∷ toned 4 ∷ []; accents = accent 3 ∷ []; look = sought }
+
+-- "tone in pack order, prev 0 then tones in pack order", "0 nothing"
+pair-sheet : sheet pair
+    ≡ (17 ∷ replicate 8 0)
+    ++ ((18 ∷ 7 ∷ replicate 13 0)
+    ++ ((18 ∷ 4 ∷ replicate 13 0)
+    ++ ((19 ∷ 3 ∷ replicate 16 0)
+    ++ ((20 ∷ 3 ∷ 7 ∷ 0 ∷ 1 ∷ 1 ∷ [])
+    ++ ((20 ∷ 3 ∷ 7 ∷ 7 ∷ 1 ∷ 1 ∷ [])
+    ++ ((20 ∷ 3 ∷ 7 ∷ 4 ∷ 2 ∷ 0 ∷ [])
+    ++ ((20 ∷ 3 ∷ 4 ∷ 0 ∷ 3 ∷ 3 ∷ [])
+    ++ ((20 ∷ 3 ∷ 4 ∷ 7 ∷ 1 ∷ 1 ∷ [])
+    ++ ((20 ∷ 3 ∷ 4 ∷ 4 ∷ 1 ∷ 1 ∷ [])
+    ++ ((21 ∷ 1 ∷ 3 ∷ 2 ∷ 7 ∷ 0 ∷ 1 ∷ 22 ∷ replicate 44 0)
+    ++ ((21 ∷ 2 ∷ 3 ∷ 2 ∷ 9 ∷ 0 ∷ 1 ∷ 22 ∷ replicate 44 0)
+    ++ ((21 ∷ 3 ∷ 3 ∷ 2 ∷ 8 ∷ 0 ∷ 1 ∷ 22 ∷ replicate 44 0) ++ (23 ∷ [])))))))))))))
+unfolding sheet bytesOf bytesWith viewOf ascending ascFrom accentIn listsOf rowContext noted numberIn seenIn placeIn same sameCarried sameNumbers bitsBytes componentsBytes gather pieces range turns
+pair-sheet = refl
+
+-- "A lookup takes accent, tone, prev (a held tone or 0) and final (0 or 1)": after none at the end of a phrase, after tone 4 elsewhere
+held-after-none : Held pair (record { accent = 3; tone = 7; prev = 0; last = 1 })
+unfolding accentIn toneIn
+held-after-none = record { accent = (accent 3, refl); tone = refl; prev = inl refl; final = omega arith }
+
+held-after-tone : Held pair (record { accent = 3; tone = 7; prev = 4; last = 0 })
+unfolding accentIn toneIn
+held-after-tone = record { accent = (accent 3, refl); tone = refl; prev = inr refl; final = omega arith }
 
 -- a sheet of one tone and of accents 3 and 5, with those two lists, looked up by position
 abbrev lists : List ℕ

@@ -42,7 +42,7 @@ fn index_from(s: &[u8], o: usize, step: usize, count: usize, n: u8) -> Found
     Found::Nothing
 }
 
-// The place of the accent with number n among a sheet's, or none; and of the tone. The sheet is one
+// The place of the accent with number n among a sheet's, or none. The sheet is one
 // that the reader handed back for these bytes, here and below.
 pub fn accent_index(s: &[u8], st: Sheet, n: u8) -> Found
     requires { ⌜ Roomy st ⌝ }
@@ -57,6 +57,7 @@ pub fn accent_index(s: &[u8], st: Sheet, n: u8) -> Found
     )
 }
 
+// The place of the tone with number n among a sheet's, or none.
 pub fn tone_index(s: &[u8], st: Sheet, n: u8) -> Found
     requires { ⌜ Roomy st ⌝ }
     ensures { λ r. ⌜ r ≡ indexOf (now (s .entry)) (shown st .tones) n ⌝ }

@@ -78,7 +78,7 @@ fn holds_from(s: &[u8], o: usize, step: usize, n: usize, x: u8) -> bool
     false
 }
 
-// Whether a tone has x as its number; and an accent.
+// Whether a tone has x as its number.
 fn tone_held(s: &[u8], st: Sheet, x: u8) -> bool
     requires { ⌜ Roomy st ⌝ }
     ensures { λ r. ⌜ r ≡ holds (now (s .entry)) (shown st .tones) x ⌝ }
@@ -92,6 +92,7 @@ fn tone_held(s: &[u8], st: Sheet, x: u8) -> bool
     )
 }
 
+// Whether an accent has x as its number.
 fn accent_held(s: &[u8], st: Sheet, x: u8) -> bool
     requires { ⌜ Roomy st ⌝ }
     ensures { λ r. ⌜ r ≡ holds (now (s .entry)) (shown st .accents) x ⌝ }
@@ -100,7 +101,7 @@ fn accent_held(s: &[u8], st: Sheet, x: u8) -> bool
     holds_from(s, o, layout::SHEET_ACCENT_SIZE, st.accents, x)
 }
 
-// What is said of a record of each kind that is due and whole.
+// What is said of a record of each kind that is due and whole, here and below. A tone: number, prior, region.
 fn tone_verdict(s: &[u8], o: usize, st: Sheet) -> Verdict
     requires { ⌜ Roomy st × (o + sheetToneSize ≤ length (now s)) ⌝ }
     ensures { λ r. ⌜ r ≡ toneVerdict (now (s .entry)) o (shown st) ⌝ }
@@ -113,6 +114,7 @@ fn tone_verdict(s: &[u8], o: usize, st: Sheet) -> Verdict
     in_turn(limits::TONES <= st.tones, fine, new, true)
 }
 
+// An accent: number, tolerances. Its order waits for the end.
 fn accent_verdict(s: &[u8], o: usize, st: Sheet) -> Verdict
     requires { ⌜ Roomy st × (o + sheetAccentSize ≤ length (now s)) ⌝ }
     ensures { λ r. ⌜ r ≡ accentVerdict (now (s .entry)) o (shown st) ⌝ }
@@ -123,6 +125,7 @@ fn accent_verdict(s: &[u8], o: usize, st: Sheet) -> Verdict
     in_turn(limits::ACCENTS <= st.accents, fine, new, true)
 }
 
+// A row: its accent, its tone and what stood before are held. Its order and its lists wait for the end.
 fn row_verdict(s: &[u8], o: usize, st: Sheet) -> Verdict
     requires { ⌜ Roomy st ⌝ }
     ensures { λ r. ⌜ r ≡ rowVerdict (now (s .entry)) o (shown st) ⌝ }
@@ -136,6 +139,7 @@ fn row_verdict(s: &[u8], o: usize, st: Sheet) -> Verdict
     in_turn(false, fine, true, held)
 }
 
+// A list: count, number, owner, form, label.
 fn list_verdict(s: &[u8], o: usize, st: Sheet) -> Verdict
     requires { ⌜ Roomy st ⌝ }
     ensures { λ r. ⌜ r ≡ listVerdict (now (s .entry)) o (shown st) ⌝ }
@@ -182,6 +186,7 @@ fn last_list(st: Sheet) -> usize
     at[n - 1] as usize
 }
 
+// A component: weight and points.
 fn component_verdict(s: &[u8], o: usize, st: Sheet) -> Verdict
     requires { ⌜ Roomy st × (o + sheetComponentSize ≤ length (now s)) ⌝ }
     ensures { λ r. ⌜ r ≡ componentVerdict (now (s .entry)) o (shown st) ⌝ }
@@ -193,6 +198,7 @@ fn component_verdict(s: &[u8], o: usize, st: Sheet) -> Verdict
     in_turn(limits::COMPONENTS <= st.total, fine, true, true)
 }
 
+// What is said of a record of kind k, by its kind; the end has nothing to be wrong.
 fn body_verdict(k: u8, s: &[u8], o: usize, st: Sheet) -> Verdict
     requires { ⌜ Roomy st × (o + sizeOf k ≤ length (now s)) ⌝ }
     ensures { λ r. ⌜ r ≡ bodyVerdict k (now (s .entry)) o (shown st) ⌝ }

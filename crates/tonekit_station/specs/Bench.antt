@@ -3,11 +3,11 @@ use Prim.Native.Nat.{ℕ}
 use mathlib.Core.Path.{_≡_, refl}
 use mathlib.Core.List.{List, [], _∷_, _++_}
 use lib.ListN.{replicate}
-use mathlib.Core.Bool.{false}
+use mathlib.Core.Bool.{true, false}
 use lib.Ieee.{binary32, add, sub, mul, div, lt, le, eq, neg, ofBits, toBits, ofInt, round, isNan}
 use lib.Ieee.Scale.{finite}
 use Rattle.tonekit_core.specs.Calls.{refused, written}
-use Rattle.tonekit_core.specs.declared.Refusal.the-variants.{CutShort, UnknownAccent}
+use Rattle.tonekit_core.specs.declared.Refusal.the-variants.{CutShort, Unvoiced, UnknownAccent, NoRealisation, BadVariant}
 use Rattle.tonekit_core.specs.declared.Verdict.the-variants.{Refused}
 use Rattle.tonekit_core.specs.Loop.{turns, range, turnsTo, rangeTo, loopOn, loopTo, while, whileIf}
 use Rattle.tonekit_float.specs.Narrow.{narrowed}
@@ -96,7 +96,12 @@ pub pack-first : judgeOutcome [] (1 ∷ []) ≡ refused CutShort 0
 unfolding judgeOutcome loadPack readPack loopTo loopOn reader.recordVerdict
 pack-first = refl
 
--- "12" before "13 for prev", with three voiced frames
+-- "11 · unvoiced · under 3 voiced frames", from a pack's and a query's bytes: two frames
+pub two-voiced : judgeOutcome pack (fixed 2 (replicate 4 0) (0 ∷ 0 ∷ 0xc0 ∷ 0x41 ∷ []) ++ frames) ≡ refused Unvoiced 0
+unfolding judgeOutcome judgement judgeGathered queryVerdict loadPack readPack loopTo loopOn reader.recordVerdict bodyVerdict settingsVerdict toneVerdict accentVerdict ruleVerdict partVerdict dueAfter sizeOf holds zeroOrHeld added aboveZero aShare knotFine weightFine slotFine knotsFine regionFine tolerancesFine range turns ofBits le lt loadQuery readQuery recordVerdict frameVerdict fieldsOf variantFine variantsFine rangeTo turnsTo frameAt extentOf
+two-voiced = refl
+
+-- "12" before "13 for prev", with three voiced frames; with two "11" before both
 abbrev nothing : Inventory
 nothing = record { tones = 0; numbers = []; priors = []; regions = []; counts = []; owners = []; forms = []; labels = [] }
 
@@ -106,3 +111,26 @@ asked = record { accent = 0; tone = 0; prev = 0; last = 0; start = 0; end = 0; f
 pub accent-first : queryVerdict 3 false false nothing [] asked ≡ Refused UnknownAccent
 unfolding queryVerdict
 accent-first = refl
+
+pub unvoiced-first : queryVerdict 2 false false nothing [] asked ≡ Refused Unvoiced
+unfolding queryVerdict
+unvoiced-first = refl
+
+-- "14" before "15": of one tone with so many components, and a query with one variant of weight -1
+abbrev listed : ℕ → Inventory
+listed count = record { tones = 1; numbers = 1 ∷ []; priors = []; regions = []; counts = count ∷ []; owners = []; forms = []; labels = [] }
+
+abbrev varied : Query
+varied = record { accent = 1; tone = 1; prev = 0; last = 0; start = 0; end = 3; floor = ofBits binary32 0; ceil = ofBits binary32 0; issues = 0; variants = 1; count = 3 }
+
+abbrev below : List ℕ
+below = (48 ∷ 1 ∷ 1 ∷ 0 ∷ 0 ∷ []) ++ (replicate 18 0 ++ ((1 ∷ 1 ∷ 0 ∷ 0 ∷ 0x80 ∷ 0xbf ∷ []) ++ (replicate 15 0 ++ (3 ∷ 0 ∷ []))))
+
+pub tones-first : queryVerdict 3 true true (listed 0) below varied ≡ Refused NoRealisation
+unfolding queryVerdict tonesVerdict rangeTo turnsTo
+tones-first = refl
+
+-- once the tone has a component the variant is refused
+pub variant-next : queryVerdict 3 true true (listed 1) below varied ≡ Refused BadVariant
+unfolding queryVerdict tonesVerdict rangeTo turnsTo target.variantsFine weightsFine target.weightFine mainWeight range turns finite le lt ofBits neg add sub round
+variant-next = refl

@@ -1,8 +1,8 @@
 -- `add_table` is safe and ends: the rows that are left fall. Assumes nothing.
 use borrow.Author.Needs.{needs}
 use Prim.Native.Nat.{_-_, _≤_}
-use Rattle.sheet_text.proofs.add_table.Statement.{statement}
-use Rattle.sheet_text.proofs.add_table.Tie as tie
+use Rattle.sheet_text.proofs.tables.add_table.Statement.{statement}
+use Rattle.sheet_text.proofs.tables.add_table.Tie as tie
 
 abbrev Inv-loop : tie.InvT-loop
 Inv-loop page₀ n s o rows n' n'' at₀ p₀ page at p = p ≤ rows

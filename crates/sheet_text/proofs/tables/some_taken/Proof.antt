@@ -1,8 +1,8 @@
 -- `some_taken` is safe and ends: the rows that are left fall. Assumes nothing.
 use borrow.Author.Needs.{needs}
 use Prim.Native.Nat.{_-_, _≤_}
-use Rattle.sheet_text.proofs.some_taken.Statement.{statement}
-use Rattle.sheet_text.proofs.some_taken.Tie as tie
+use Rattle.sheet_text.proofs.tables.some_taken.Statement.{statement}
+use Rattle.sheet_text.proofs.tables.some_taken.Tie as tie
 
 abbrev Inv-loop : tie.InvT-loop
 Inv-loop s o rows x so some₀ p₀ some p = p ≤ rows
