@@ -1,9 +1,11 @@
-//! Samples by hand: counts at their limits and past them, lent rooms around the needed length, and refusals that meet in one call.
+//! Samples by hand: counts at their limits and past them, lent rooms around the needed length, refusals that meet in one call,
+//! and single steps of the arithmetic.
 
 use crate::bytes::{record_length, starts};
 use crate::case::*;
 use crate::pack::{Accent, Pack, Part, Rule, Tone};
 use crate::query::{Frame, Query};
+use crate::rng::Rng;
 use crate::samples::told;
 
 /// A call and the room it is lent, where that is not the longest.
@@ -277,6 +279,40 @@ fn meetings(all: &mut Asking) {
     ask(0, &of(|q| q.floor = f32::NAN), None);
 }
 
+/// Single steps: minimum and maximum of every pair of some numbers, and grids of small whole numbers, whose pivots are often
+/// equal, and two whose first pivot is 1e−12 and the number before it.
+fn steps(all: &mut Asking) {
+    let tiny = 1.0e-60;
+    let some = [
+        0.0,
+        -0.0,
+        1.0,
+        -1.0,
+        f64::NAN,
+        f64::INFINITY,
+        -f64::INFINITY,
+        tiny,
+        -tiny,
+        0.1,
+    ];
+    let bytes = |of: &[f64]| -> Vec<u8> { of.iter().flat_map(|v| v.to_le_bytes()).collect() };
+    let pairs: Vec<f64> = some
+        .iter()
+        .flat_map(|&x| some.map(|y| [x, y]))
+        .flatten()
+        .collect();
+    all.ask(0, MIN_MAX, &bytes(&pairs), &[]);
+    let mut r = Rng::new(1, 0);
+    for _ in 0..20 {
+        let grid = [0; 12].map(|_| r.range(0, 6) as f64 - 3.0);
+        all.ask(0, SOLVE, &bytes(&grid), &[]);
+    }
+    for pivot in [1e-12, f64::from_bits(1e-12f64.to_bits() - 1)] {
+        let grid = [pivot, 0.0, 0.0, 1.0, 0.0, 1.0, 0.0, 1.0, 0.0, 0.0, 1.0, 1.0];
+        all.ask(0, SOLVE, &bytes(&grid), &[]);
+    }
+}
+
 /// All of them.
 pub fn all() -> Vec<Asked> {
     let mut all = Asking(Vec::new());
@@ -285,5 +321,6 @@ pub fn all() -> Vec<Asked> {
     query_limits(&mut all);
     rooms(&mut all);
     meetings(&mut all);
+    steps(&mut all);
     all.0
 }
