@@ -2,8 +2,8 @@
 ghost use mathlib.Core.Path.{_≡_};
 ghost use Prim.Native.Nat.{_≤_};
 ghost use Rattle.tonekit_core.specs.Calls.{Delivers};
-ghost use Rattle.tonekit_judge.specs.Judge.{Sound, Placed, judgementOf};
-ghost use Rattle.tonekit_inventory.specs.Gather.{listedOf, gatheringOf};
+ghost use Rattle.tonekit_judge.specs.Judge.{Sound, Placed, listing, judgementOf};
+ghost use Rattle.tonekit_inventory.specs.Gather.{gatheringOf};
 ghost use Rattle.tonekit_station.specs.Judgement.{contextOf, tonesVerdict, queryVerdict, judgeGathered, judgeOutcome, judgeSheetOutcome, stationOutcome, stationSheetOutcome};
 use tonekit_core::Answer;
 use tonekit_core::Refusal;
@@ -85,9 +85,9 @@ fn judged(
     targets: Targets,
     issues: u16,
 ) -> ToneJudgement
-    requires { ⌜ Sound (listedOf (g .inventory) (now weights) (now points)) × Placed (g .inventory .tones) targets ⌝ }
+    requires { ⌜ Sound (listing (g .inventory) (now weights) (now points)) × Placed (g .inventory .tones) targets ⌝ }
     ensures { λ r. ⌜ r ≡ judgementOf x (g .temperature) (g .threshold) (g .tolerance)
-        (listedOf (g .inventory) (now (weights .entry)) (now (points .entry))) targets issues ⌝ }
+        (listing (g .inventory) (now (weights .entry)) (now (points .entry))) targets issues ⌝ }
 {
     let tolerance = g.tolerance;
     let inventory = g.inventory;
@@ -114,7 +114,7 @@ fn judge_gathered(
     q: Query,
     out: &mut [u8],
 ) -> Answer
-    requires { ⌜ Sound (listedOf (g .inventory) (now weights) (now points)) × (q .count ≤ 1024) × (q .variants ≤ 4) ⌝ }
+    requires { ⌜ Sound (listing (g .inventory) (now weights) (now points)) × (q .count ≤ 1024) × (q .variants ≤ 4) ⌝ }
     ensures { λ r. ⌜ Delivers
         (judgeGathered (gatheringOf g (now (weights .entry)) (now (points .entry))) (now (query .entry)) q)
         (now (out .entry)) r (now (out .exit)) ⌝ }
