@@ -168,6 +168,7 @@ fn main() {
     report(b"sheets.bin");
     report(b"judgements.bin");
     report(b"functions.bin");
+    report(b"cover.bin");
     say(b"words that check does not know: ", programs::UNKNOWN_WORDS);
     say(b", differ ", programs::unknown_words_differ());
     tonekit_report::write_out(b"replay", b"\n");

@@ -1,4 +1,4 @@
--- What `judge` and `judge_sheet` write has room in what their programs lend: 64 bytes. Assumes nothing.
+-- What `judge_input` and `judge_sheet_input` write has room in what the programs lend: 64 bytes. Assumes nothing.
 use Prim.Native.Nat.{ℕ, _≤_}
 use mathlib.Core.List.{List}
 use native.Mathlib.Omega.{arith}
@@ -14,6 +14,7 @@ use Rattle.tonekit_query.specs.declared.QueryRead.the-variants as query
 use Rattle.tonekit_shape.specs.Extract.{extentOf, shapeOf}
 use Rattle.tonekit_shape.specs.Record.{united}
 use Rattle.tonekit_shape.specs.declared.Extent.{Extent}
+use Rattle.tonekit_input.specs.Input.{heldOf, queryOf}
 use Rattle.tonekit_judge.proofs.Bounds.{judgement-length}
 use Rattle.tonekit_pack.specs.Pack.{Out, loadPack}
 use Rattle.tonekit_pack.specs.Pack as pack
@@ -24,7 +25,6 @@ use Rattle.tonekit_expect.specs.Source.{Source, sourceOfPack}
 use Rattle.tonekit_target.specs.Target.{Aim, held, loose, targetsOf}
 use Rattle.tonekit_inventory.specs.Gather.{Gathering, gathered}
 use Rattle.tonekit_station.specs.Judgement.{contextOf, queryVerdict, recorded, unless, judgeGathered, onQuery, judgement, onPack, judgeOutcome, onSheet, judgeSheetOutcome, stationOutcome, stationSheetOutcome}
-use Rattle.tonekit_input.specs.Input.{heldOf, queryOf}
 
 of-verdict : (v : Verdict) (o : Outcome) → Fits judgementSize o → Fits judgementSize (unless v o)
 of-verdict (verdict.Refused r) o f = tt
@@ -38,7 +38,12 @@ of-aim g q frames e (held a) =
 
 of-gathered : (g : Gathering) (s : List ℕ) (q : Query) → Fits judgementSize (judgeGathered g s q)
 unfolding judgeGathered
-of-gathered g s q = of-verdict _ _ (of-aim g q _ _ _)
+of-gathered g s q =
+    let frames = framesOf s (q .count) in
+    let e = extentOf frames (q .count) (q .start) (q .end) in
+    let i = g .listed .inventory in
+    let a = targetsOf (i .tones) (i .numbers) s (q .tone) (q .variants) in
+    of-verdict (queryVerdict (e .count) (g .accent) (g .prev) i s q) (recorded g q frames e a) (of-aim g q frames e a)
 
 of-query : (src : Source) (s : List ℕ) (r : QueryRead) → Fits judgementSize (onQuery src s r)
 of-query src s (query.Refused r place) = tt
@@ -56,10 +61,10 @@ of-sheet : (p s : List ℕ) (o : sheet.Out) → Fits judgementSize (onSheet p s 
 of-sheet p s (sheet.refused r place) = tt
 of-sheet p s (sheet.loaded st e) = of-source (sourceOfSheet p st) s
 
-pub judge-fits : (p s : List ℕ) → Fits judgementSize (judgeOutcome p s)
+pub station-fits : (s : List ℕ) → Fits judgementSize (stationOutcome s)
 unfolding judgeOutcome
-judge-fits p s = of-pack p s (loadPack p)
+station-fits s = of-pack (heldOf s) (queryOf s) (loadPack (heldOf s))
 
-pub judge-sheet-fits : (p s : List ℕ) → Fits judgementSize (judgeSheetOutcome p s)
+pub station-sheet-fits : (s : List ℕ) → Fits judgementSize (stationSheetOutcome s)
 unfolding judgeSheetOutcome
-judge-sheet-fits p s = of-sheet p s (loadSheet p)
+station-sheet-fits s = of-sheet (heldOf s) (queryOf s) (loadSheet (heldOf s))
