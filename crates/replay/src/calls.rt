@@ -1,5 +1,7 @@
 // The library's calls, each with exactly the room that a sample lends.
 ghost use Prim.Native.Nat.{_≤_};
+ghost use mathlib.Core.Path.{_≡_};
+ghost use lib.ListN.{length};
 use crate::functions;
 use crate::lent;
 use tonekit_core::Checked;
@@ -19,46 +21,65 @@ fn checked(c: Checked, number: u8, place: u32) -> bool {
 }
 
 // Whether a query's shape record is as recorded.
-fn shaped(query: &[u8], room: usize, number: u8, place: u32, bytes: &[u8]) -> bool
-    requires { ⌜ room ≤ 16000 ⌝ }
+fn shaped(
+    query: &[u8],
+    space: &mut [u8],
+    room: usize,
+    number: u8,
+    place: u32,
+    bytes: &[u8],
+) -> bool
+    requires { ⌜ (room ≤ 16000) × (16016 ≡ length (now space)) ⌝ }
 {
-    let mut space = [lent::FILL; ALL];
-    let a = tonekit_shape::write_shape(query, &mut space[..room]);
-    lent::answered(a, tonekit_report::front(&space, room + BEHIND), number, place, bytes)
+    let a = tonekit_shape::write_shape(query, &mut space[0..room]);
+    lent::answered(a, tonekit_report::front(space, room + BEHIND), number, place, bytes)
 }
 
 // Whether a pack's sheet is as recorded.
-fn sheeted(pack: &[u8], room: usize, number: u8, place: u32, bytes: &[u8]) -> bool
-    requires { ⌜ room ≤ 16000 ⌝ }
+fn sheeted(
+    pack: &[u8],
+    space: &mut [u8],
+    room: usize,
+    number: u8,
+    place: u32,
+    bytes: &[u8],
+) -> bool
+    requires { ⌜ (room ≤ 16000) × (16016 ≡ length (now space)) ⌝ }
 {
-    let mut space = [lent::FILL; ALL];
-    let a = tonekit_sheet_write::write_sheet(pack, &mut space[..room]);
-    lent::answered(a, tonekit_report::front(&space, room + BEHIND), number, place, bytes)
+    let a = tonekit_sheet_write::write_sheet(pack, &mut space[0..room]);
+    lent::answered(a, tonekit_report::front(space, room + BEHIND), number, place, bytes)
 }
 
 // Whether the judgement of a query against a pack is as recorded.
-fn judged(pack: &[u8], query: &[u8], room: usize, number: u8, place: u32, bytes: &[u8]) -> bool
-    requires { ⌜ room ≤ 16000 ⌝ }
+fn judged(
+    pack: &[u8],
+    query: &[u8],
+    space: &mut [u8],
+    room: usize,
+    number: u8,
+    place: u32,
+    bytes: &[u8],
+) -> bool
+    requires { ⌜ (room ≤ 16000) × (16016 ≡ length (now space)) ⌝ }
 {
-    let mut space = [lent::FILL; ALL];
-    let a = tonekit_station::judge(pack, query, &mut space[..room]);
-    lent::answered(a, tonekit_report::front(&space, room + BEHIND), number, place, bytes)
+    let a = tonekit_station::judge(pack, query, &mut space[0..room]);
+    lent::answered(a, tonekit_report::front(space, room + BEHIND), number, place, bytes)
 }
 
 // Whether the judgement of a query against a sheet is as recorded.
 fn judged_on_sheet(
     sheet: &[u8],
     query: &[u8],
+    space: &mut [u8],
     room: usize,
     number: u8,
     place: u32,
     bytes: &[u8],
 ) -> bool
-    requires { ⌜ room ≤ 16000 ⌝ }
+    requires { ⌜ (room ≤ 16000) × (16016 ≡ length (now space)) ⌝ }
 {
-    let mut space = [lent::FILL; ALL];
-    let a = tonekit_station::judge_sheet(sheet, query, &mut space[..room]);
-    lent::answered(a, tonekit_report::front(&space, room + BEHIND), number, place, bytes)
+    let a = tonekit_station::judge_sheet(sheet, query, &mut space[0..room]);
+    lent::answered(a, tonekit_report::front(space, room + BEHIND), number, place, bytes)
 }
 
 // Whether a call answers as recorded: the recorded number, place or length, and bytes. A call of another number
@@ -75,14 +96,15 @@ pub fn so(
     if MOST < room {
         return false;
     }
+    let mut space = [lent::FILL; ALL];
     match call {
         1 => checked(tonekit_pack::check_pack(first), number, place),
         2 => checked(tonekit_query::check_query(first), number, place),
         3 => checked(tonekit_sheet_read::check_sheet(first), number, place),
-        4 => shaped(first, room, number, place, bytes),
-        5 => sheeted(first, room, number, place, bytes),
-        6 => judged(first, second, room, number, place, bytes),
-        7 => judged_on_sheet(first, second, room, number, place, bytes),
+        4 => shaped(first, &mut space, room, number, place, bytes),
+        5 => sheeted(first, &mut space, room, number, place, bytes),
+        6 => judged(first, second, &mut space, room, number, place, bytes),
+        7 => judged_on_sheet(first, second, &mut space, room, number, place, bytes),
         10 | 11 | 12 | 13 => functions::f64s(call, first, number, place, bytes),
         14 => functions::narrowed(first, number, place, bytes),
         15 => functions::expanded(first, number, place, bytes),

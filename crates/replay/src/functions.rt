@@ -1,5 +1,7 @@
 // The single functions, on numbers by their bits.
-ghost use Prim.Native.Nat.{_≤_, _<_};
+ghost use Prim.Native.Nat.{ℕ, _≤_, _<_};
+ghost use lib.Ieee.{nan};
+ghost use lib.ListN.{getD};
 ghost use Rattle.tonekit_expect.specs.Knots.{Knot};
 use tonekit_bytes::f32_at;
 use tonekit_bytes::u32_at;
@@ -68,12 +70,18 @@ pub fn narrowed(input: &[u8], number: u8, place: u32, bytes: &[u8]) -> bool {
 fn knot(x: f32) -> f32
     ensures { λ r. ⌜ Knot r ⌝ }
 {
-    if (x >= -100.0) & (x <= 100.0) { x } else { 0.0 }
+    if x >= -100.0 {
+        if x <= 100.0 {
+            return x;
+        }
+    }
+    0.0
 }
 
 // Ten knots, of which so many are from the bytes.
 fn knots(input: &[u8], n: usize) -> [f32; 10]
     requires { ⌜ n ≤ 10 ⌝ }
+    ensures { λ r. ⌜ ((k : ℕ) → k < 10 → Knot (getD r k nan)) ⌝ }
 {
     let mut out = [0.0f32; 10];
     for i in 0..n {
@@ -85,7 +93,13 @@ fn knots(input: &[u8], n: usize) -> [f32; 10]
 // Whether `expand_knots` answers as recorded.
 pub fn expanded(input: &[u8], number: u8, place: u32, bytes: &[u8]) -> bool {
     let n = input.len() / 4;
-    if (n < 1) | (10 < n) | !recorded(40, number, place, bytes) {
+    if !recorded(40, number, place, bytes) {
+        return false;
+    }
+    if n < 1 {
+        return false;
+    }
+    if 10 < n {
         return false;
     }
     let from = knots(input, n);

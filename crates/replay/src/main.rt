@@ -162,6 +162,7 @@ fn report(name: &[u8]) {
     tonekit_report::write_out(b"replay", b"\n");
 }
 
+// Replays every file, and asks `check` by words that it does not know.
 fn main() {
     report(b"checks.bin");
     report(b"shapes.bin");

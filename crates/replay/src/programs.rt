@@ -86,7 +86,10 @@ fn sheeted(pack: &[u8], number: u8, place: u32, bytes: &[u8]) -> bool {
 
 // Puts together the input of a station: u16 length, pack or sheet, query. Its length, or 0 where there is no room.
 fn put_input(space: &mut [u8; INPUT], held: &[u8], query: &[u8]) -> usize {
-    if (65535 < held.len()) | (QUERY < query.len()) {
+    if 65535 < held.len() {
+        return 0;
+    }
+    if QUERY < query.len() {
         return 0;
     }
     tonekit_bytes::put_u16(space, 0, held.len() as u16);

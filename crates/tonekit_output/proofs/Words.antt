@@ -3,7 +3,7 @@ use Prim.Native.Nat.{ℕ}
 use mathlib.Core.Path.{_≡_, refl, sym, ap, subst, _∙_}
 use mathlib.Core.List.{List}
 use native.Mathlib.Omega.{arith}
-use lib.ListN.{getD}
+use lib.ListN.{length, getD}
 use Rattle.tonekit_core.specs.declared.Checked.{Checked}
 use Rattle.tonekit_report.specs.Report.{Told}
 use Rattle.tonekit_pack.specs.Pack.{checkPack}
@@ -29,13 +29,14 @@ query-sheet e = let z : _≡_ {A = ℕ} 0x71 0x73 = first e in omega arith
 pub said : (c d : Checked) (held out : List ℕ) (n : ℕ) → c ≡ d → Told (checkOutcome c) held n out → Said d held (Tells n) out
 said c d held out n e t = subst (λ (x : Checked). Said x held (Tells n) out) e (ap Tells (t .count), t .buffer)
 
-module _ (word s held out : List ℕ) (r : CheckAnswer) where
+module _ (word s held out : List ℕ) (r : CheckAnswer) (long : length out ≡ length held) where
   pub by-pack : word ≡ packWord → Said (checkPack s) held r out → Checks word s held r out
   by-pack w t = record {
     pack = λ e. t;
     query = λ e. absurd (pack-query (sym w ∙ e));
     sheet = λ e. absurd (pack-sheet (sym w ∙ e));
     other = λ p q h. absurd (p w);
+    same = long;
   }
 
   pub by-query : word ≡ queryWord → Said (checkQuery s) held r out → Checks word s held r out
@@ -44,6 +45,7 @@ module _ (word s held out : List ℕ) (r : CheckAnswer) where
     query = λ e. t;
     sheet = λ e. absurd (query-sheet (sym w ∙ e));
     other = λ p q h. absurd (q w);
+    same = long;
   }
 
   pub by-sheet : word ≡ sheetWord → Said (checkSheet s) held r out → Checks word s held r out
@@ -52,6 +54,7 @@ module _ (word s held out : List ℕ) (r : CheckAnswer) where
     query = λ e. absurd (query-sheet (sym e ∙ w));
     sheet = λ e. t;
     other = λ p q h. absurd (h w);
+    same = long;
   }
 
 pub by-none : (word s held : List ℕ) → (word ≡ packWord → ⊥) → (word ≡ queryWord → ⊥) → (word ≡ sheetWord → ⊥) → Checks word s held UnknownWord held
@@ -60,4 +63,5 @@ by-none word s held p q h = record {
   query = λ e. absurd (q e);
   sheet = λ e. absurd (h e);
   other = λ x y z. (refl, refl);
+  same = refl;
 }

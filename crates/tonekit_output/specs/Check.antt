@@ -40,3 +40,4 @@ pub record Checks (word s held : List ℕ) (r : CheckAnswer) (out : List ℕ) : 
   pub query : word ≡ queryWord → Said (checkQuery s) held r out
   pub sheet : word ≡ sheetWord → Said (checkSheet s) held r out
   pub other : (word ≡ packWord → ⊥) → (word ≡ queryWord → ⊥) → (word ≡ sheetWord → ⊥) → (r ≡ UnknownWord) × (out ≡ held)
+  pub same : length out ≡ length held

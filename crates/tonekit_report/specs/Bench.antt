@@ -19,10 +19,10 @@ abbrev lent : List ℕ
 lent = 165 ∷ 165 ∷ 165 ∷ 165 ∷ 165 ∷ 165 ∷ 165 ∷ []
 
 told-bytes : Told (written (49 ∷ 50 ∷ [])) lent 2 (49 ∷ 50 ∷ 165 ∷ 165 ∷ 165 ∷ 165 ∷ 165 ∷ [])
-told-bytes = record { count = refl; buffer = refl }
+told-bytes = record { count = refl; buffer = refl; same = refl }
 
 told-refusal : Told (refused CutShort 3) lent 6 (52 ∷ 2 ∷ 3 ∷ 0 ∷ 0 ∷ 0 ∷ 165 ∷ [])
-told-refusal = record { count = refl; buffer = refl }
+told-refusal = record { count = refl; buffer = refl; same = refl }
 
 told-nothing : Told (written []) lent 0 lent
-told-nothing = record { count = refl; buffer = refl }
+told-nothing = record { count = refl; buffer = refl; same = refl }

@@ -25,6 +25,7 @@ told (refused r place) = refusalBytes r place
 pub record Told (o : Outcome) (held : List ℕ) (n : ℕ) (out : List ℕ) : Type 0 where
   pub count : n ≡ length (told o)
   pub buffer : out ≡ told o ++ drop (length (told o)) held
+  pub same : length out ≡ length held
 
 -- of a call's answer: how many bytes there are to write, and the buffer, with the refusal's record at its front
 abbrev pub toldCount : Answer → ℕ

@@ -10,7 +10,7 @@ use Rattle.tonekit_output.proofs.tell_checked.Statement.{statement}
 use Rattle.tonekit_output.proofs.tell_checked.Tie as tie
 
 returns : tie.Need-returns
-returns c = rw (c .enum-told .given .1) (record { count = refl; buffer = refl })
+returns c = rw (c .enum-told .given .1) (record { count = refl; buffer = refl; same = refl })
 
 returns-2 : tie.Need-returns-2
 returns-2 c =
