@@ -8,7 +8,9 @@ use tonekit_core::Checked;
 
 // The room that can be lent, and what is looked at behind it.
 const MOST: usize = 16000;
+
 const BEHIND: usize = 16;
+
 const ALL: usize = 16016;
 
 // Whether a check answered as recorded.
@@ -21,33 +23,31 @@ fn checked(c: Checked, number: u8, place: u32) -> bool {
 }
 
 // Whether a query's shape record is as recorded.
-fn shaped(
-    query: &[u8],
-    space: &mut [u8],
-    room: usize,
-    number: u8,
-    place: u32,
-    bytes: &[u8],
-) -> bool
+fn shaped(query: &[u8], space: &mut [u8], room: usize, number: u8, place: u32, bytes: &[u8]) -> bool
     requires { ⌜ (room ≤ 16000) × (16016 ≡ length (now space)) ⌝ }
 {
     let a = tonekit_shape::write_shape(query, &mut space[0..room]);
-    lent::answered(a, tonekit_report::front(space, room + BEHIND), number, place, bytes)
+    lent::answered(
+        a,
+        tonekit_report::front(space, room + BEHIND),
+        number,
+        place,
+        bytes,
+    )
 }
 
 // Whether a pack's sheet is as recorded.
-fn sheeted(
-    pack: &[u8],
-    space: &mut [u8],
-    room: usize,
-    number: u8,
-    place: u32,
-    bytes: &[u8],
-) -> bool
+fn sheeted(pack: &[u8], space: &mut [u8], room: usize, number: u8, place: u32, bytes: &[u8]) -> bool
     requires { ⌜ (room ≤ 16000) × (16016 ≡ length (now space)) ⌝ }
 {
     let a = tonekit_sheet_write::write_sheet(pack, &mut space[0..room]);
-    lent::answered(a, tonekit_report::front(space, room + BEHIND), number, place, bytes)
+    lent::answered(
+        a,
+        tonekit_report::front(space, room + BEHIND),
+        number,
+        place,
+        bytes,
+    )
 }
 
 // Whether the judgement of a query against a pack is as recorded.
@@ -63,7 +63,13 @@ fn judged(
     requires { ⌜ (room ≤ 16000) × (16016 ≡ length (now space)) ⌝ }
 {
     let a = tonekit_station::judge(pack, query, &mut space[0..room]);
-    lent::answered(a, tonekit_report::front(space, room + BEHIND), number, place, bytes)
+    lent::answered(
+        a,
+        tonekit_report::front(space, room + BEHIND),
+        number,
+        place,
+        bytes,
+    )
 }
 
 // Whether the judgement of a query against a sheet is as recorded.
@@ -79,7 +85,13 @@ fn judged_on_sheet(
     requires { ⌜ (room ≤ 16000) × (16016 ≡ length (now space)) ⌝ }
 {
     let a = tonekit_station::judge_sheet(sheet, query, &mut space[0..room]);
-    lent::answered(a, tonekit_report::front(space, room + BEHIND), number, place, bytes)
+    lent::answered(
+        a,
+        tonekit_report::front(space, room + BEHIND),
+        number,
+        place,
+        bytes,
+    )
 }
 
 // Whether a call answers as recorded: the recorded number, place or length, and bytes. A call of another number

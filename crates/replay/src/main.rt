@@ -68,20 +68,68 @@ fn room_of(sample: &[u8], call: u8) -> usize {
     longest(call)
 }
 
-// Whether a call answers as recorded, by the library and, where the sample names no room, by the program too.
-fn agrees(
+// A sample's call, as recorded, where the length of its first input stands, and how long its inputs are.
+struct Sample {
     call: u8,
-    room: usize,
-    first: &[u8],
-    second: &[u8],
-    number: u8,
-    place: u32,
-    bytes: &[u8],
-) -> bool {
-    if !calls::so(call % 128, room, first, second, number, place, bytes) {
+    front: usize,
+    first: usize,
+    second: usize,
+}
+
+// The sample at the front of a slice.
+fn sample_of(s: &[u8]) -> Sample
+    ensures { λ m. ⌜ (m .front ≤ 5) × (m .first < 4294967296) × (m .second < 4294967296) ⌝ }
+{
+    let call = byte_at(s, 0, 0);
+    let front = 1 + room_size(call);
+    let first = length_at(s, front);
+    let second = length_at(s, front + 4 + first);
+    Sample {
+        call,
+        front,
+        first,
+        second,
+    }
+}
+
+// Where a sample's number stands, behind its inputs.
+fn number_at(m: Sample) -> usize
+    requires { ⌜ (m .front ≤ 5) × (m .first < 4294967296) × (m .second < 4294967296) ⌝ }
+    ensures { λ r. ⌜ r < 8589934613 ⌝ }
+{
+    m.front + 8 + m.first + m.second
+}
+
+// How many bytes a sample has.
+fn size_of(s: &[u8], m: Sample) -> usize
+    requires { ⌜ (m .front ≤ 5) × (m .first < 4294967296) × (m .second < 4294967296) ⌝ }
+{
+    let at = number_at(m);
+    at + 5 + answer_length(byte_at(s, at, 0), u32_at(s, at, 1))
+}
+
+// Whether a sample's call answers as recorded, by the library and, where it names no room, by the program too.
+fn agrees(s: &[u8], m: Sample) -> bool
+    requires { ⌜ (m .front ≤ 5) × (m .first < 4294967296) × (m .second < 4294967296) ⌝ }
+{
+    let at = number_at(m);
+    let number = byte_at(s, at, 0);
+    let place = u32_at(s, at, 1);
+    let bytes = part(s, at + 5, answer_length(number, place));
+    let first = part(s, m.front + 4, m.first);
+    let second = part(s, m.front + 8 + m.first, m.second);
+    if !calls::so(
+        m.call % 128,
+        room_of(s, m.call),
+        first,
+        second,
+        number,
+        place,
+        bytes,
+    ) {
         return false;
     }
-    !programs::runs(call) | programs::so(call, first, second, number, place, bytes)
+    !programs::runs(m.call) | programs::so(m.call, first, second, number, place, bytes)
 }
 
 // A count with one more, where there is one.
@@ -114,25 +162,9 @@ fn replay(s: &[u8]) -> Count {
         if rest.len() == 0 {
             return c;
         }
-        let call = byte_at(rest, 0, 0);
-        let front = 1 + room_size(call);
-        let first = length_at(rest, front);
-        let second = length_at(rest, front + 4 + first);
-        let at = front + 8 + first + second;
-        let number = byte_at(rest, at, 0);
-        let place = u32_at(rest, at, 1);
-        let length = answer_length(number, place);
-        let same = agrees(
-            call,
-            room_of(rest, call),
-            part(rest, front + 4, first),
-            part(rest, front + 8 + first, second),
-            number,
-            place,
-            part(rest, at + 5, length),
-        );
-        c = counted(c, call, same);
-        let next = part(rest, at + 5 + length, s.len());
+        let m = sample_of(rest);
+        c = counted(c, m.call, agrees(rest, m));
+        let next = part(rest, size_of(rest, m), s.len());
         rest = next;
         turns -= 1;
     }

@@ -1,11 +1,14 @@
 // The functions behind the programs: what each writes of a sample.
 ghost use Prim.Native.Nat.{_≤_};
+ghost use mathlib.Core.Path.{_≡_};
+ghost use lib.ListN.{length};
 use crate::lent;
 use tonekit_core::layout;
 use tonekit_output::CheckAnswer;
 
 // The longest query that the input of a station has room for behind the longest pack, and that input.
 const QUERY: usize = 14000;
+
 const INPUT: usize = 80000;
 
 // How many words `unknown_words_differ` tries.
@@ -85,7 +88,9 @@ fn sheeted(pack: &[u8], number: u8, place: u32, bytes: &[u8]) -> bool {
 }
 
 // Puts together the input of a station: u16 length, pack or sheet, query. Its length, or 0 where there is no room.
-fn put_input(space: &mut [u8; INPUT], held: &[u8], query: &[u8]) -> usize {
+fn put_input(space: &mut [u8], held: &[u8], query: &[u8]) -> usize
+    requires { ⌜ 80000 ≡ length (now space) ⌝ }
+{
     if 65535 < held.len() {
         return 0;
     }
