@@ -26,8 +26,8 @@ pack-sheet e = let z : _≡_ {A = ℕ} 0x70 0x73 = first e in omega arith
 query-sheet : queryWord ≡ sheetWord → ⊥
 query-sheet e = let z : _≡_ {A = ℕ} 0x71 0x73 = first e in omega arith
 
-pub said : (c d : Checked) (held out : List ℕ) (n : ℕ) → c ≡ d → Told (checkOutcome c) held n out → Said d held (Tells n) out
-said c d held out n e t = subst (λ (x : Checked). Said x held (Tells n) out) e (ap Tells (t .count), t .buffer)
+pub said : (c d : Checked) (held out : List ℕ) (n : ℕ) → Told (checkOutcome c) held n out → c ≡ d → Said d held (Tells n) out
+said c d held out n t e = subst (λ (x : Checked). Said x held (Tells n) out) e (ap Tells (t .count), t .buffer)
 
 module _ (word s held out : List ℕ) (r : CheckAnswer) (long : length out ≡ length held) where
   pub by-pack : word ≡ packWord → Said (checkPack s) held r out → Checks word s held r out

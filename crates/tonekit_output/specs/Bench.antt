@@ -15,17 +15,18 @@ one = 1 ∷ []
 
 -- cut short, at 0
 of-pack : told (checkOutcome (checkPack one)) ≡ 52 ∷ 2 ∷ 0 ∷ 0 ∷ 0 ∷ 0 ∷ []
-unfolding checkPack loadPack readPack recordVerdict dueAfter sizeOf loopTo loopOn
+unfolding checkOutcome checkPack loadPack readPack recordVerdict dueAfter sizeOf loopTo loopOn
 of-pack = refl
 
 -- misplaced, at 0
 of-query : told (checkOutcome (query.checkQuery one)) ≡ 52 ∷ 1 ∷ 0 ∷ 0 ∷ 0 ∷ 0 ∷ []
-unfolding query.checkQuery query.loadQuery query.readQuery query.recordVerdict
+unfolding checkOutcome query.checkQuery query.loadQuery query.readQuery query.recordVerdict
 of-query = refl
 
 of-sheet : told (checkOutcome (sheet.checkSheet one)) ≡ 52 ∷ 1 ∷ 0 ∷ 0 ∷ 0 ∷ 0 ∷ []
-unfolding sheet.checkSheet sheet.loadSheet sheet.readSheet sheet.recordVerdict sheet.dueNext loopTo loopOn
+unfolding checkOutcome sheet.checkSheet sheet.loadSheet sheet.readSheet sheet.recordVerdict sheet.dueNext loopTo loopOn
 of-sheet = refl
 
 silence : told (checkOutcome Loads) ≡ []
+unfolding checkOutcome
 silence = refl

@@ -24,7 +24,7 @@ abbrev pub sheetWord : List ℕ
 sheetWord = 0x73 ∷ 0x68 ∷ 0x65 ∷ 0x65 ∷ 0x74 ∷ []
 
 -- nothing is written of an input that loads
-abbrev pub checkOutcome : Checked → Outcome
+unfoldable pub checkOutcome : Checked → Outcome
 checkOutcome Loads = written []
 checkOutcome (Refused r place) = refused r place
 

@@ -10,19 +10,19 @@ returns : tie.Need-returns
 returns c =
     let k = c .before .before in
     let t = k .before in
-    by-pack _ _ _ _ _ (c .tell-checked .ensures .same) (t .before .same .ensures .0 (t .if1 .taken)) (said _ _ _ _ _ (k .check-pack .ensures) (c .tell-checked .ensures))
+    by-pack _ _ _ _ _ (c .tell-checked .ensures .same) (t .before .same .ensures .0 (t .if1 .taken)) (said _ _ _ _ _ (c .tell-checked .ensures) (search needs))
 
 returns-2 : tie.Need-returns-2
 returns-2 c =
     let k = c .before .before in
     let t = k .before in
-    by-query _ _ _ _ _ (c .tell-checked2 .ensures .same) (t .before .same2 .ensures .0 (t .if2 .taken)) (said _ _ _ _ _ (k .check-query .ensures) (c .tell-checked2 .ensures))
+    by-query _ _ _ _ _ (c .tell-checked2 .ensures .same) (t .before .same2 .ensures .0 (t .if2 .taken)) (said _ _ _ _ _ (c .tell-checked2 .ensures) (search needs))
 
 returns-3 : tie.Need-returns-3
 returns-3 c =
     let k = c .before .before in
     let t = k .before in
-    by-sheet _ _ _ _ _ (c .tell-checked3 .ensures .same) (t .before .same3 .ensures .0 (t .if3 .taken)) (said _ _ _ _ _ (k .check-sheet .ensures) (c .tell-checked3 .ensures))
+    by-sheet _ _ _ _ _ (c .tell-checked3 .ensures .same) (t .before .same3 .ensures .0 (t .if3 .taken)) (said _ _ _ _ _ (c .tell-checked3 .ensures) (search needs))
 
 returns-4 : tie.Need-returns-4
 returns-4 c =

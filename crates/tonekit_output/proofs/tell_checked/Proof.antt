@@ -6,13 +6,16 @@ use Rattle.tonekit_core.specs.Calls.{refused}
 use Rattle.tonekit_core.specs.Layout.{refusalSize}
 use Rattle.tonekit_core.proofs.Calls.{delivers-refused}
 use Rattle.tonekit_report.proofs.Told.{tells}
+use Rattle.tonekit_output.specs.Check.{checkOutcome}
 use Rattle.tonekit_output.proofs.tell_checked.Statement.{statement}
 use Rattle.tonekit_output.proofs.tell_checked.Tie as tie
 
 returns : tie.Need-returns
+unfolding checkOutcome
 returns c = rw (c .enum-told .given .1) (record { count = refl; buffer = refl; same = refl })
 
 returns-2 : tie.Need-returns-2
+unfolding checkOutcome
 returns-2 c =
     let k = c .before .before .before in
     let s = k .before .before in
