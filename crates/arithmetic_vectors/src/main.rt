@@ -92,32 +92,37 @@ fn replay(s: &[u8], op: u8) -> Count
     c
 }
 
+// Writes words and a number.
+fn say(words: &[u8], n: usize) {
+    let mut text = [0u8; 20];
+    let k = io::decimal(n as u64, &mut text);
+    tonekit_report::write_out(b"arithmetic_vectors", words);
+    tonekit_report::write_out(b"arithmetic_vectors", &text[..k]);
+}
+
 // Writes the line of one operation.
 fn report(name: &[u8], s: &[u8], op: u8) {
     let c = replay(s, op);
-    io::write_all(1, name);
-    io::write_all(1, b" ");
-    io::print_decimal(1, c.run as u64);
-    io::write_all(1, b" differ ");
-    io::print_decimal(1, c.differ as u64);
-    io::write_all(1, b"\n");
+    say(name, c.run);
+    say(b" differ ", c.differ);
+    tonekit_report::write_out(b"arithmetic_vectors", b"\n");
 }
 
+// Replays the file, and says how much of it there is.
 fn main() {
     let fd = os::open_read(b"vectors.bin");
     if fd < 0 {
-        io::write_all(1, b"no vectors\n");
+        tonekit_report::write_out(b"arithmetic_vectors", b"no vectors\n");
         return;
     }
     let mut buf = [0u8; 131072];
     let n = io::read_full(fd, &mut buf);
     libc::close(fd);
-    io::write_all(1, b"bytes ");
-    io::print_decimal(1, n as u64);
-    io::write_all(1, b"\n");
-    report(b"narrow", &buf[..n], 0);
-    report(b"root", &buf[..n], 1);
-    report(b"ln", &buf[..n], 2);
-    report(b"log2", &buf[..n], 3);
-    report(b"exp", &buf[..n], 4);
+    say(b"bytes ", n);
+    tonekit_report::write_out(b"arithmetic_vectors", b"\n");
+    report(b"narrow ", &buf[..n], 0);
+    report(b"root ", &buf[..n], 1);
+    report(b"ln ", &buf[..n], 2);
+    report(b"log2 ", &buf[..n], 3);
+    report(b"exp ", &buf[..n], 4);
 }

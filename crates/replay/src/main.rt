@@ -1,15 +1,19 @@
-// Replays recorded calls: for each file of samples, how many were run and how many answers differ
-// from the recorded ones in number, place, length or bytes. Calls that the port does not have wait.
-ghost use Prim.Native.Nat.{_<_};
+// Replays recorded calls: for each file of samples, how many were run, how many of them also by the function
+// behind a program, and how many answers differ from the recorded ones in number, place, length or bytes.
+mod calls;
+mod functions;
+mod lent;
+mod programs;
+
+ghost use Prim.Native.Nat.{_≤_, _<_};
 use tonekit_bytes::byte_at;
 use tonekit_bytes::u32_at;
-use tonekit_core::Answer;
-use tonekit_core::Checked;
 use tonekit_core::layout;
 
-// How many calls were run, and how many differ.
+// How many samples were run, how many of them by a program's function too, and how many differ.
 struct Count {
     run: u64,
+    told: u64,
     differ: u64,
 }
 
@@ -32,105 +36,6 @@ fn length_at(s: &[u8], at: usize) -> usize
     u32_at(s, at, 0) as usize
 }
 
-// Whether a check answered as recorded.
-fn checked_so(c: Checked, number: u8, place: u32) -> bool {
-    match c {
-        Checked::Loads => (number == 0) & (place == 0),
-        Checked::Refused(r, at) => (tonekit_core::refusal_number(r) == number)
-            & (at == place as usize),
-    }
-}
-
-// Whether a query's shape record is as recorded.
-fn shaped_so(query: &[u8], number: u8, place: u32, bytes: &[u8]) -> bool {
-    let mut out = [0u8; layout::SHAPE_SIZE];
-    match tonekit_shape::write_shape(query, &mut out) {
-        Answer::Written(n) => (number == 0) & (n == place as usize) & check::same(&out, bytes),
-        Answer::Refused(r, at) => (tonekit_core::refusal_number(r) == number)
-            & (at == place as usize),
-    }
-}
-
-// Whether the judgement of a query against a pack is as recorded.
-fn judged_so(pack: &[u8], query: &[u8], number: u8, place: u32, bytes: &[u8]) -> bool {
-    let mut out = [0u8; layout::JUDGEMENT_SIZE];
-    match tonekit_station::judge(pack, query, &mut out) {
-        Answer::Written(n) => (number == 0) & (n == place as usize) & check::same(&out, bytes),
-        Answer::Refused(r, at) => (tonekit_core::refusal_number(r) == number)
-            & (at == place as usize),
-    }
-}
-
-// Whether the judgement of a query against a sheet is as recorded.
-fn judged_on_sheet_so(sheet: &[u8], query: &[u8], number: u8, place: u32, bytes: &[u8]) -> bool {
-    let mut out = [0u8; layout::JUDGEMENT_SIZE];
-    match tonekit_station::judge_sheet(sheet, query, &mut out) {
-        Answer::Written(n) => (number == 0) & (n == place as usize) & check::same(&out, bytes),
-        Answer::Refused(r, at) => (tonekit_core::refusal_number(r) == number)
-            & (at == place as usize),
-    }
-}
-
-// Whether a pack's sheet is as recorded.
-fn written_so(pack: &[u8], number: u8, place: u32, bytes: &[u8]) -> bool {
-    let mut out = [0u8; layout::SHEET_MOST];
-    match tonekit_sheet_write::write_sheet(pack, &mut out) {
-        Answer::Written(n) => (number == 0)
-            & (n == place as usize)
-            & check::same(part(&out, 0, n), bytes),
-        Answer::Refused(r, at) => (tonekit_core::refusal_number(r) == number)
-            & (at == place as usize),
-    }
-}
-
-// Whether a call is one that the port has.
-fn asked(call: u8) -> bool {
-    match call {
-        1 | 2 | 3 | 4 | 5 | 6 | 7 => true,
-        _ => false,
-    }
-}
-
-// Whether a call answers as recorded: the recorded number, place or length, and bytes.
-fn agrees(call: u8, first: &[u8], second: &[u8], number: u8, place: u32, bytes: &[u8]) -> bool {
-    match call {
-        1 => checked_so(tonekit_pack::check_pack(first), number, place),
-        2 => checked_so(tonekit_query::check_query(first), number, place),
-        3 => checked_so(tonekit_sheet_read::check_sheet(first), number, place),
-        4 => shaped_so(first, number, place, bytes),
-        5 => written_so(first, number, place, bytes),
-        6 => judged_so(first, second, number, place, bytes),
-        7 => judged_on_sheet_so(first, second, number, place, bytes),
-        _ => false,
-    }
-}
-
-// The count with one call more, where the port has it.
-fn counted(
-    c: Count,
-    call: u8,
-    first: &[u8],
-    second: &[u8],
-    number: u8,
-    place: u32,
-    bytes: &[u8],
-) -> Count {
-    if !asked(call) {
-        return c;
-    }
-    let run = std::num::wrapping_add_u64(c.run, 1);
-    if agrees(call, first, second, number, place, bytes) {
-        return Count {
-            run,
-            differ: c.differ,
-        };
-    }
-    Count {
-        run,
-        differ: std::num::wrapping_add_u64(c.differ, 1),
-    }
-}
-
 // The bytes of the answer behind a sample's number and place.
 fn answer_length(number: u8, place: u32) -> usize
     ensures { λ r. ⌜ r < 4294967296 ⌝ }
@@ -138,36 +43,140 @@ fn answer_length(number: u8, place: u32) -> usize
     if number == 0 { place as usize } else { 0 }
 }
 
-// Replays the samples that a file holds, those of calls that the port has.
+// The bytes between a call and its first input: of a call with 128 added, four of the room.
+fn room_size(call: u8) -> usize
+    ensures { λ r. ⌜ r ≤ 4 ⌝ }
+{
+    if 128 <= call { 4 } else { 0 }
+}
+
+// The longest that a call writes.
+fn longest(call: u8) -> usize {
+    match call {
+        4 => layout::SHAPE_SIZE,
+        5 => layout::SHEET_MOST,
+        6 | 7 => layout::JUDGEMENT_SIZE,
+        _ => 0,
+    }
+}
+
+// The room that a sample lends: the one it names, or the longest that the call writes.
+fn room_of(sample: &[u8], call: u8) -> usize {
+    if 128 <= call {
+        return u32_at(sample, 1, 0) as usize;
+    }
+    longest(call)
+}
+
+// A sample's call, as recorded, where the length of its first input stands, and how long its inputs are.
+struct Sample {
+    call: u8,
+    front: usize,
+    first: usize,
+    second: usize,
+}
+
+// The sample at the front of a slice.
+fn sample_of(s: &[u8]) -> Sample
+    ensures { λ m. ⌜ (m .front ≤ 5) × (m .first < 4294967296) × (m .second < 4294967296) ⌝ }
+{
+    let call = byte_at(s, 0, 0);
+    let front = 1 + room_size(call);
+    let first = length_at(s, front);
+    let second = length_at(s, front + 4 + first);
+    Sample {
+        call,
+        front,
+        first,
+        second,
+    }
+}
+
+// Where a sample's number stands, behind its inputs.
+fn number_at(m: Sample) -> usize
+    requires { ⌜ (m .front ≤ 5) × (m .first < 4294967296) × (m .second < 4294967296) ⌝ }
+    ensures { λ r. ⌜ r < 8589934613 ⌝ }
+{
+    m.front + 8 + m.first + m.second
+}
+
+// How many bytes a sample has.
+fn size_of(s: &[u8], m: Sample) -> usize
+    requires { ⌜ (m .front ≤ 5) × (m .first < 4294967296) × (m .second < 4294967296) ⌝ }
+{
+    let at = number_at(m);
+    at + 5 + answer_length(byte_at(s, at, 0), u32_at(s, at, 1))
+}
+
+// Whether a sample's call answers as recorded, by the library and, where it names no room, by the program too.
+fn agrees(s: &[u8], m: Sample) -> bool
+    requires { ⌜ (m .front ≤ 5) × (m .first < 4294967296) × (m .second < 4294967296) ⌝ }
+{
+    let at = number_at(m);
+    let number = byte_at(s, at, 0);
+    let place = u32_at(s, at, 1);
+    let bytes = part(s, at + 5, answer_length(number, place));
+    let first = part(s, m.front + 4, m.first);
+    let second = part(s, m.front + 8 + m.first, m.second);
+    if !calls::so(
+        m.call % 128,
+        room_of(s, m.call),
+        first,
+        second,
+        number,
+        place,
+        bytes,
+    ) {
+        return false;
+    }
+    !programs::runs(m.call) | programs::so(m.call, first, second, number, place, bytes)
+}
+
+// A count with one more, where there is one.
+fn more(n: u64, one: bool) -> u64 {
+    if one {
+        return std::num::wrapping_add_u64(n, 1);
+    }
+    n
+}
+
+// The count with one sample more.
+fn counted(c: Count, call: u8, agrees: bool) -> Count {
+    Count {
+        run: more(c.run, true),
+        told: more(c.told, programs::runs(call)),
+        differ: more(c.differ, !agrees),
+    }
+}
+
+// Replays the samples that a file holds.
 fn replay(s: &[u8]) -> Count {
-    let mut c = Count { run: 0, differ: 0 };
+    let mut c = Count {
+        run: 0,
+        told: 0,
+        differ: 0,
+    };
     let mut rest = s;
     let mut turns = 1_000_000u64;
     while 0 < turns {
         if rest.len() == 0 {
             return c;
         }
-        let first = length_at(rest, 1);
-        let second = length_at(rest, 5 + first);
-        let at = 9 + first + second;
-        let number = byte_at(rest, at, 0);
-        let place = u32_at(rest, at, 1);
-        let length = answer_length(number, place);
-        let bytes = part(rest, at + 5, length);
-        c = counted(
-            c,
-            byte_at(rest, 0, 0),
-            part(rest, 5, first),
-            part(rest, 9 + first, second),
-            number,
-            place,
-            bytes,
-        );
-        let next = part(rest, at + 5 + length, s.len());
+        let m = sample_of(rest);
+        c = counted(c, m.call, agrees(rest, m));
+        let next = part(rest, size_of(rest, m), s.len());
         rest = next;
         turns -= 1;
     }
     c
+}
+
+// Writes a word and a number.
+fn say(word: &[u8], n: u64) {
+    let mut text = [0u8; 20];
+    let k = io::decimal(n, &mut text);
+    tonekit_report::write_out(b"replay", word);
+    tonekit_report::write_out(b"replay", &text[..k]);
 }
 
 // Opens a file of samples, replays it and writes a line.
@@ -177,19 +186,23 @@ fn report(name: &[u8]) {
     let n = io::read_full(fd, &mut buf);
     libc::close(fd);
     let c = replay(&buf[..n]);
-    io::write_all(1, name);
-    io::write_all(1, b": bytes ");
-    io::print_decimal(1, n as u64);
-    io::write_all(1, b", calls ");
-    io::print_decimal(1, c.run);
-    io::write_all(1, b", differ ");
-    io::print_decimal(1, c.differ);
-    io::write_all(1, b"\n");
+    tonekit_report::write_out(b"replay", name);
+    say(b": bytes ", n as u64);
+    say(b", calls ", c.run);
+    say(b", by programs ", c.told);
+    say(b", differ ", c.differ);
+    tonekit_report::write_out(b"replay", b"\n");
 }
 
+// Replays every file, and asks `check` by words that it does not know.
 fn main() {
     report(b"checks.bin");
     report(b"shapes.bin");
     report(b"sheets.bin");
     report(b"judgements.bin");
+    report(b"functions.bin");
+    report(b"cover.bin");
+    say(b"words that check does not know: ", programs::UNKNOWN_WORDS);
+    say(b", differ ", programs::unknown_words_differ());
+    tonekit_report::write_out(b"replay", b"\n");
 }

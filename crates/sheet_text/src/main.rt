@@ -8,11 +8,11 @@ ghost use Rattle.tonekit_sheet_read.specs.Held.{Roomy};
 mod tables;
 
 use libc::STDIN_FILENO;
-use libc::STDOUT_FILENO;
 use tonekit_bytes::byte_at;
 use tonekit_bytes::u16_at;
 use tonekit_bytes::u32_at;
 use tonekit_core::layout;
+use tonekit_report::front;
 use tonekit_sheet_read::Sheet;
 use tonekit_sheet_read::SheetRead;
 
@@ -26,21 +26,13 @@ fn next_place(page: &[u8; 4096], n: usize) -> usize
     if n < 4096 {
         return n;
     }
-    io::write_all(STDOUT_FILENO, page);
+    tonekit_report::write_out(b"sheet_text", page);
     0
 }
 
 // Writes what is on the page.
 fn flush(page: &[u8; 4096], n: usize) {
-    io::write_all(STDOUT_FILENO, front(page, n));
-}
-
-// The first n bytes; of a shorter slice all.
-fn front(s: &[u8], n: usize) -> &[u8] {
-    if n < s.len() {
-        return &s[0..n];
-    }
-    s
+    tonekit_report::write_out(b"sheet_text", front(page, n));
 }
 
 // Adds bytes to the page.
@@ -259,7 +251,7 @@ fn print_sheet(s: &[u8]) {
         SheetRead::Good(_) => write_text(s, l.sheet),
         SheetRead::Refused(r, place) => {
             let bytes = tonekit_report::refusal_record(r, place);
-            io::write_all(STDOUT_FILENO, &bytes);
+            tonekit_report::write_out(b"sheet_text", &bytes);
         }
     }
 }

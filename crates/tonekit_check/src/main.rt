@@ -2,51 +2,35 @@
 // written for input that loads, and 52, number, u32 place for input that does not.
 use libc::STDERR_FILENO;
 use libc::STDIN_FILENO;
-use libc::STDOUT_FILENO;
-use tonekit_core::Checked;
+use tonekit_core::layout;
+use tonekit_output::CheckAnswer;
 
-// Writes the refusal, and nothing for input that loads.
-fn report(c: Checked) {
-    if let Checked::Refused(r, place) = c {
-        let bytes = tonekit_report::refusal_record(r, place);
-        io::write_all(STDOUT_FILENO, &bytes);
+// Whether `check` knows a word: then it has something to say of an empty input.
+fn knows(word: &[u8]) -> bool {
+    let mut out = [0u8; layout::REFUSAL_SIZE];
+    match tonekit_output::check_output(word, b"", &mut out) {
+        CheckAnswer::Tells(_) => true,
+        CheckAnswer::UnknownWord => false,
     }
 }
 
-fn check_pack() {
+// Reads standard input and tells of it what the word asks.
+fn tell(word: &[u8]) {
     let mut space = io::large_buffer();
     let n = io::read_full(STDIN_FILENO, &mut space);
-    report(tonekit_pack::check_pack(&space[..n]));
+    let mut out = [0u8; layout::REFUSAL_SIZE];
+    if let CheckAnswer::Tells(m) = tonekit_output::check_output(word, &space[..n], &mut out) {
+        tonekit_report::write_out(b"check", tonekit_report::front(&out, m));
+    }
 }
 
-fn check_query() {
-    let mut space = io::large_buffer();
-    let n = io::read_full(STDIN_FILENO, &mut space);
-    report(tonekit_query::check_query(&space[..n]));
-}
-
-fn check_sheet() {
-    let mut space = io::large_buffer();
-    let n = io::read_full(STDIN_FILENO, &mut space);
-    report(tonekit_sheet_read::check_sheet(&space[..n]));
-}
-
+// A word that is not known is told before anything is read.
 fn main() {
     let mut word = [0u8; 8];
     let n = os::arg(1, &mut word);
-    if os::arg_count() == 2 {
-        if check::same(&word[..n], b"pack") {
-            check_pack();
-            return;
-        }
-        if check::same(&word[..n], b"query") {
-            check_query();
-            return;
-        }
-        if check::same(&word[..n], b"sheet") {
-            check_sheet();
-            return;
-        }
+    if (os::arg_count() == 2) & knows(&word[..n]) {
+        tell(&word[..n]);
+        return;
     }
     io::write_all(
         STDERR_FILENO,
