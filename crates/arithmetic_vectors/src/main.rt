@@ -92,12 +92,19 @@ fn replay(s: &[u8], op: u8) -> Count
     c
 }
 
+// Writes to standard output, and tells on standard error where not all could be written.
+fn write_out(bytes: &[u8]) {
+    if !io::write_all(libc::STDOUT_FILENO, bytes) {
+        os::fail(b"arithmetic_vectors: not all bytes could be written");
+    }
+}
+
 // Writes words and a number.
 fn say(words: &[u8], n: usize) {
     let mut text = [0u8; 20];
     let k = io::decimal(n as u64, &mut text);
-    tonekit_report::write_out(b"arithmetic_vectors", words);
-    tonekit_report::write_out(b"arithmetic_vectors", &text[..k]);
+    write_out(words);
+    write_out(&text[..k]);
 }
 
 // Writes the line of one operation.
@@ -105,21 +112,21 @@ fn report(name: &[u8], s: &[u8], op: u8) {
     let c = replay(s, op);
     say(name, c.run);
     say(b" differ ", c.differ);
-    tonekit_report::write_out(b"arithmetic_vectors", b"\n");
+    write_out(b"\n");
 }
 
 // Replays the file, and says how much of it there is.
 fn main() {
     let fd = os::open_read(b"vectors.bin");
     if fd < 0 {
-        tonekit_report::write_out(b"arithmetic_vectors", b"no vectors\n");
+        write_out(b"no vectors\n");
         return;
     }
     let mut buf = [0u8; 131072];
     let n = io::read_full(fd, &mut buf);
     libc::close(fd);
     say(b"bytes ", n);
-    tonekit_report::write_out(b"arithmetic_vectors", b"\n");
+    write_out(b"\n");
     report(b"narrow ", &buf[..n], 0);
     report(b"root ", &buf[..n], 1);
     report(b"ln ", &buf[..n], 2);

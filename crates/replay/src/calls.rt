@@ -120,6 +120,8 @@ pub fn so(
         10 | 11 | 12 | 13 => functions::f64s(call, first, number, place, bytes),
         14 => functions::narrowed(first, number, place, bytes),
         15 => functions::expanded(first, number, place, bytes),
+        16 => functions::picked(first, number, place, bytes),
+        17 => functions::solved(first, number, place, bytes),
         _ => false,
     }
 }

@@ -111,3 +111,55 @@ pub fn expanded(input: &[u8], number: u8, place: u32, bytes: &[u8]) -> bool {
     }
     input.len() % 4 == 0
 }
+
+// The f64 of eight bytes from an index on.
+fn f64_at(s: &[u8], at: usize) -> f64 {
+    f64_of_bits(u64_at(s, at))
+}
+
+// Whether minimum and maximum of two f64s, and of the two narrowed, are as recorded in 24 bytes.
+fn pair_so(x: f64, y: f64, bytes: &[u8]) -> bool {
+    let a = tonekit_float::narrow(x);
+    let b = tonekit_float::narrow(y);
+    (bits_of_f64(tonekit_float::min_f64(x, y)) == u64_at(bytes, 0))
+        & (bits_of_f64(tonekit_float::max_f64(x, y)) == u64_at(bytes, 8))
+        & (bits_of_f32(tonekit_float::min_f32(a, b)) == u32_at(bytes, 16, 0))
+        & (bits_of_f32(tonekit_float::max_f32(a, b)) == u32_at(bytes, 20, 0))
+}
+
+// Whether minimum and maximum of pairs are as recorded.
+pub fn picked(input: &[u8], number: u8, place: u32, bytes: &[u8]) -> bool {
+    let n = input.len() / 16;
+    if !recorded(24 * n, number, place, bytes) {
+        return false;
+    }
+    for i in 0..n {
+        let x = f64_at(input, 16 * i);
+        let y = f64_at(input, 16 * i + 8);
+        if !pair_so(x, y, &bytes[24 * i..]) {
+            return false;
+        }
+    }
+    input.len() % 16 == 0
+}
+
+// A row of the fit's grid, from an index on.
+fn row_at(s: &[u8], at: usize) -> [f64; 4]
+    requires { ⌜ at ≤ 64 ⌝ }
+{
+    [
+        f64_at(s, at),
+        f64_at(s, at + 8),
+        f64_at(s, at + 16),
+        f64_at(s, at + 24),
+    ]
+}
+
+// Whether the first unknown of three equations is as recorded.
+pub fn solved(input: &[u8], number: u8, place: u32, bytes: &[u8]) -> bool {
+    if !recorded(8, number, place, bytes) {
+        return false;
+    }
+    let m = [row_at(input, 0), row_at(input, 32), row_at(input, 64)];
+    (input.len() == 96) & (bits_of_f64(tonekit_fit::lead(m)) == u64_at(bytes, 0))
+}

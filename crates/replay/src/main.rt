@@ -6,6 +6,7 @@ mod lent;
 mod programs;
 
 ghost use Prim.Native.Nat.{_≤_, _<_};
+use libc::STDOUT_FILENO;
 use tonekit_bytes::byte_at;
 use tonekit_bytes::u32_at;
 use tonekit_core::layout;
@@ -171,12 +172,19 @@ fn replay(s: &[u8]) -> Count {
     c
 }
 
+// Writes to standard output, and tells on standard error where not all could be written.
+fn write_out(bytes: &[u8]) {
+    if !io::write_all(STDOUT_FILENO, bytes) {
+        os::fail(b"replay: not all bytes could be written");
+    }
+}
+
 // Writes a word and a number.
 fn say(word: &[u8], n: u64) {
     let mut text = [0u8; 20];
     let k = io::decimal(n, &mut text);
-    tonekit_report::write_out(b"replay", word);
-    tonekit_report::write_out(b"replay", &text[..k]);
+    write_out(word);
+    write_out(&text[..k]);
 }
 
 // Opens a file of samples, replays it and writes a line.
@@ -186,12 +194,12 @@ fn report(name: &[u8]) {
     let n = io::read_full(fd, &mut buf);
     libc::close(fd);
     let c = replay(&buf[..n]);
-    tonekit_report::write_out(b"replay", name);
+    write_out(name);
     say(b": bytes ", n as u64);
     say(b", calls ", c.run);
     say(b", by programs ", c.told);
     say(b", differ ", c.differ);
-    tonekit_report::write_out(b"replay", b"\n");
+    write_out(b"\n");
 }
 
 // Replays every file, and asks `check` by words that it does not know.
@@ -202,7 +210,8 @@ fn main() {
     report(b"judgements.bin");
     report(b"functions.bin");
     report(b"cover.bin");
+    report(b"steps.bin");
     say(b"words that check does not know: ", programs::UNKNOWN_WORDS);
     say(b", differ ", programs::unknown_words_differ());
-    tonekit_report::write_out(b"replay", b"\n");
+    write_out(b"\n");
 }

@@ -8,6 +8,7 @@ ghost use Rattle.tonekit_sheet_read.specs.Held.{Roomy};
 mod tables;
 
 use libc::STDIN_FILENO;
+use libc::STDOUT_FILENO;
 use tonekit_bytes::byte_at;
 use tonekit_bytes::u16_at;
 use tonekit_bytes::u32_at;
@@ -19,6 +20,13 @@ use tonekit_sheet_read::SheetRead;
 // Text is gathered on a page before it is written. What adds to the page takes the place of the next
 // byte, n, and answers the one after what it added.
 
+// Writes to standard output, and tells on standard error where not all could be written.
+fn write_out(bytes: &[u8]) {
+    if !io::write_all(STDOUT_FILENO, bytes) {
+        os::fail(b"sheet_text: not all bytes could be written");
+    }
+}
+
 // Where the next byte goes: n, or the front again once a full page is written.
 fn next_place(page: &[u8; 4096], n: usize) -> usize
     ensures { λ r. ⌜ r < 4096 ⌝ }
@@ -26,13 +34,13 @@ fn next_place(page: &[u8; 4096], n: usize) -> usize
     if n < 4096 {
         return n;
     }
-    tonekit_report::write_out(b"sheet_text", page);
+    write_out(page);
     0
 }
 
 // Writes what is on the page.
 fn flush(page: &[u8; 4096], n: usize) {
-    tonekit_report::write_out(b"sheet_text", front(page, n));
+    write_out(front(page, n));
 }
 
 // Adds bytes to the page.
@@ -251,7 +259,7 @@ fn print_sheet(s: &[u8]) {
         SheetRead::Good(_) => write_text(s, l.sheet),
         SheetRead::Refused(r, place) => {
             let bytes = tonekit_report::refusal_record(r, place);
-            tonekit_report::write_out(b"sheet_text", &bytes);
+            write_out(&bytes);
         }
     }
 }

@@ -2,6 +2,7 @@
 // written for input that loads, and 52, number, u32 place for input that does not.
 use libc::STDERR_FILENO;
 use libc::STDIN_FILENO;
+use libc::STDOUT_FILENO;
 use tonekit_core::layout;
 use tonekit_output::CheckAnswer;
 
@@ -20,7 +21,9 @@ fn tell(word: &[u8]) {
     let n = io::read_full(STDIN_FILENO, &mut space);
     let mut out = [0u8; layout::REFUSAL_SIZE];
     if let CheckAnswer::Tells(m) = tonekit_output::check_output(word, &space[..n], &mut out) {
-        tonekit_report::write_out(b"check", tonekit_report::front(&out, m));
+        if !io::write_all(STDOUT_FILENO, tonekit_report::front(&out, m)) {
+            os::fail(b"check: not all bytes could be written");
+        }
     }
 }
 

@@ -8,13 +8,14 @@ use lib.ListN.{length, drop}
 use lib.Seq.{take-append-seam}
 use lib.Ieee.{Float}
 use Rattle.tonekit_core.specs.Calls.{Outcome, refused, written, answerIn, bufferAfter, Delivers}
+use Rattle.tonekit_core.proofs.Calls.{Writes}
 use Rattle.tonekit_core.specs.declared.Answer.the-variants.{Written, Refused}
 use Rattle.tonekit_core.specs.declared.Refusal.the-variants.{ShortBuffer}
 use Rattle.tonekit_core.proofs.Split.{split}
 use Rattle.tonekit_score.proofs.Bounds.{Bounded, bounded-number}
 use Rattle.tonekit_judge.proofs.Bounds.{judgement-length, loglik-read, llr-read}
 use Rattle.tonekit_station.specs.Judgement.{judgeOutcome, judgeSheetOutcome}
-use Rattle.tonekit_station.proofs.Written.{Writes, Records, judge-writes, judge-sheet-writes}
+use Rattle.tonekit_station.proofs.Written.{Records, judge-writes, judge-sheet-writes}
 use Rattle.tonekit_demand.specs.Demand2.{WithinMillion, BoundedRecord, LeavesBounded, OutcomesBounded, BuffersBounded}
 
 within : {x : Float} → Bounded x → WithinMillion x

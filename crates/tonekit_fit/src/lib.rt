@@ -253,7 +253,7 @@ fn first_of(m: [[f64; 4]; 3]) -> f64
 }
 
 // The first unknown of three equations; 0 where they do not determine it.
-fn lead(start: [[f64; 4]; 3]) -> f64
+pub fn lead(start: [[f64; 4]; 3]) -> f64
     ensures { λ r. ⌜ r ≡ leadOf start ⌝ }
 {
     let mut m = start;

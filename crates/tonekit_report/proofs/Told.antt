@@ -8,14 +8,14 @@ use lib.Seq.{sets, sets-eq}
 use borrow.Author.Tests.{le-leb}
 use Rattle.tonekit_core.specs.Calls.{Outcome, written, refused, answerIn, bufferAfter, Delivers}
 use Rattle.tonekit_core.specs.Layout.{refusalSize}
+use Rattle.tonekit_core.proofs.Calls.{Writes}
 use Rattle.tonekit_core.specs.declared.Answer.{Answer}
 use Rattle.tonekit_core.specs.declared.Answer.the-variants.{Written}
 use Rattle.tonekit_report.specs.Report.{refusalBytes, Told, toldCount, toldBuffer}
 
 -- so much room is enough for what an outcome writes
 abbrev pub Fits : ℕ → Outcome → Type 0
-Fits room (written bs) = length bs ≤ room
-Fits room (refused r place) = Unit {0}
+Fits room o = Writes (λ bs. length bs ≤ room) o
 
 -- a buffer is as long as it was with bytes at its front
 front-length : (bs held : List ℕ) → length bs ≤ length held → length (bs ++ drop (length bs) held) ≡ length held

@@ -1,11 +1,9 @@
-// What the programs write on standard output: bytes, or a refusal's record; and how they write it.
+// What the programs write on standard output: bytes, or a refusal's record.
 ghost use Prim.Native.Nat.{_≤_};
 ghost use mathlib.Core.Path.{_≡_};
 ghost use lib.ListN.{length, take};
 ghost use Rattle.tonekit_core.specs.Layout.{refusalSize};
 ghost use Rattle.tonekit_report.specs.Report.{refusalBytes, toldCount, toldBuffer};
-use libc::STDERR_FILENO;
-use libc::STDOUT_FILENO;
 use tonekit_core::Answer;
 use tonekit_core::Refusal;
 use tonekit_core::layout;
@@ -48,13 +46,4 @@ pub fn front(s: &[u8], n: usize) -> &[u8]
         return &s[0..n];
     }
     s
-}
-
-// Writes bytes to standard output for the program of a name, and says on standard error where not all
-// could be written.
-pub fn write_out(name: &[u8], bytes: &[u8]) {
-    if !io::write_all(STDOUT_FILENO, bytes) {
-        io::write_all(STDERR_FILENO, name);
-        os::fail(b": not all bytes could be written");
-    }
 }

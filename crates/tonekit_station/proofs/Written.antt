@@ -2,7 +2,8 @@
 use Prim.Native.Nat.{ℕ}
 use mathlib.Core.List.{List}
 use lib.Ieee.{Float}
-use Rattle.tonekit_core.specs.Calls.{Outcome, refused, written}
+use Rattle.tonekit_core.specs.Calls.{Outcome}
+use Rattle.tonekit_core.proofs.Calls.{Writes}
 use Rattle.tonekit_core.specs.declared.Verdict.{Verdict}
 use Rattle.tonekit_core.specs.declared.Verdict.the-variants as verdict
 use Rattle.tonekit_query.specs.Query.{loadQuery, framesOf}
@@ -26,11 +27,6 @@ use Rattle.tonekit_judge.specs.declared.Targets.{Targets}
 use Rattle.tonekit_target.specs.Target.{Aim, held, loose, targetsOf}
 use Rattle.tonekit_inventory.specs.Gather.{Gathering, gathered}
 use Rattle.tonekit_station.specs.Judgement.{contextOf, queryVerdict, recorded, unless, judgeGathered, onQuery, judgement, onPack, judgeOutcome, onSheet, judgeSheetOutcome}
-
--- an outcome's bytes are so, where it has some
-abbrev pub Writes : (List ℕ → Type 0) → Outcome → Type 0
-Writes P (refused r place) = Unit
-Writes P (written bs) = P bs
 
 -- the record of every judgement, of any shape against anything
 abbrev pub Records : (List ℕ → Type 0) → Type 0
