@@ -1,4 +1,5 @@
 mod Slots
+mod Terms
 mod Agree
 mod Parts
 pub mod Bounds

@@ -6,22 +6,25 @@ ghost use Prim.Native.Nat.{_+_, _*_, _≤_, _<_};
 ghost use lib.ListN.{length, getD};
 ghost use lib.Ieee.Scale.{finite};
 ghost use Rattle.tonekit_judge.specs.Judge.{Counted, Sound, Placed, Filled, listing, cell, distanceAt};
-ghost use Rattle.tonekit_judge.specs.Judge.{toneMixing, loglikAt, logliks, ranked, rankingOf, heardOf};
-ghost use Rattle.tonekit_judge.specs.Judge.{weighed, partMixing, targetMixing, llrOf, measuredOf, plainOf};
+ghost use Rattle.tonekit_judge.specs.Judge.{toneMixing, loglikAt, logliks, rankingOf, heardOf};
+ghost use Rattle.tonekit_judge.specs.Judge.{partMixing, targetMixing, llrOf, measuredOf, plainOf};
 ghost use Rattle.tonekit_judge.specs.Judge.{distanceFrom, adviceOf, partOf, withBest, judgedAgainst};
 ghost use Rattle.tonekit_judge.specs.Judge.{usable, notMeasured, judgementOf};
 ghost use Rattle.tonekit_core.specs.Words.{measuredNumber};
+ghost use Rattle.tonekit_judge.specs.Terms.{weighedTerm, termAt, ledBy, mixedTerms, scoreAt, rankingWith};
 
 pub mod record;
 
 use tonekit_core::MeasureIssue;
 use tonekit_core::Measured;
 use tonekit_deltas::Deltas;
+use tonekit_score::Lead;
 use tonekit_score::LogSumExp;
 use tonekit_score::Mixing;
 use tonekit_score::Mixture;
 use tonekit_score::Region;
 use tonekit_score::Scoring;
+use tonekit_score::Term;
 use tonekit_score::Tolerance;
 use tonekit_shape::ToneShape;
 
@@ -126,17 +129,79 @@ fn distances(
     d
 }
 
+// The term of a component weighed so much, dropped where that is not above 0.
+fn weighed(s: Scoring, product: f32, d2: f64) -> Term
+    ensures { λ r. ⌜ r ≡ weighedTerm s product d2 ⌝ }
+{
+    if 0.0 < product {
+        return tonekit_score::term_of(s, product, d2);
+    }
+    tonekit_score::no_term()
+}
+
+// The term of component j of tone t: its weight as it stands, or times a share.
+fn term_at(
+    s: Scoring,
+    weights: &[f32],
+    d: &[f64; 32],
+    t: usize,
+    whole: bool,
+    share: f32,
+    j: usize,
+) -> Term
+    requires { ⌜ (t < 8) × (j < 4) × (length (now weights) ≡ 32) ⌝ }
+    ensures { λ r. ⌜ r ≡ termAt s (now (weights .entry)) (cell (now (d .entry))) t whole share j ⌝ }
+{
+    let slot = 4 * t + j;
+    let d2 = d[slot];
+    if whole {
+        return tonekit_score::term_of(s, weights[slot], d2);
+    }
+    weighed(s, weights[slot] * share, d2)
+}
+
+// The best with the term of component j of tone t.
+fn led_by(l: Lead, t: usize, j: usize, c: Term) -> Lead
+    requires { ⌜ (t < 8) × (j < 4) ⌝ }
+    ensures { λ r. ⌜ r ≡ ledBy l t j c ⌝ }
+{
+    tonekit_score::led(l, 4 * t + j, c.score, c.distance)
+}
+
+// `mixture` of the Rust, from a mixture on: the sum is lent to `add_to` for each term that counts.
+fn mixed_terms(
+    s: Scoring,
+    before: Mixing,
+    weights: &[f32],
+    d: &[f64; 32],
+    t: usize,
+    whole: bool,
+    share: f32,
+    n: usize,
+) -> Mixing
+    requires { ⌜ (t < 8) × (n ≤ 4) × (length (now weights) ≡ 32) ⌝ }
+    ensures { λ r. ⌜ r ≡ mixedTerms s (now (weights .entry)) (cell (now (d .entry))) t whole share n before ⌝ }
+{
+    let mut total = before.total;
+    let mut best = tonekit_score::lead_of(before);
+    for j in 0..n {
+        let c = term_at(s, weights, d, t, whole, share, j);
+        if c.counts {
+            tonekit_score::add_to(&mut total, c.score);
+            best = led_by(best, t, j, c);
+        }
+    }
+    tonekit_score::mixing_with(total, best)
+}
+
 // The mixture of the components of tone t.
 fn tone_mixing(s: Scoring, weights: &[f32], d: &[f64; 32], count: u8, t: usize) -> Mixing
     requires { ⌜ (t < 8) × (count ≤ 4) × (length (now weights) ≡ 32) ⌝ }
     ensures { λ r. ⌜ r ≡ toneMixing s (now (weights .entry)) (cell (now (d .entry))) count t ⌝ }
 {
-    let mut m = tonekit_score::no_mixing();
+    let m = tonekit_score::no_mixing();
     let n = wide(count);
-    for j in 0..n {
-        m = tonekit_score::mix_turn(s, m, 4 * t + j, weights[4 * t + j], d[4 * t + j]);
-    }
-    m
+    mixed_terms(s, m, weights, d, t, true, 1.0, n)
 }
 
 // The calibrated log-likelihood under tone t.
@@ -160,45 +225,40 @@ fn logliks(s: Scoring, tones: usize, counts: [u8; 8], weights: &[f32], d: &[f64;
     ll
 }
 
-// The ranking with one more tone's score.
-fn ranked(r: Ranking, t: usize, score: f64) -> Ranking
-    ensures { λ n. ⌜ n ≡ ranked r t score ⌝ }
+// The score of tone t in the background.
+fn score_at(priors: [f32; 8], ll: [f32; 8], t: usize) -> f64
+    requires { ⌜ t < 8 ⌝ }
+    ensures { λ r. ⌜ r ≡ scoreAt priors ll t ⌝ }
 {
-    let sum = r.background;
-    let background = sum.add(score);
-    if tonekit_score::leads(r.found, r.score, score) {
-        return Ranking {
-            background,
-            found: true,
-            score,
-            index: t,
-        };
-    }
+    let prior = tonekit_log::ln(tonekit_float::widen(priors[t]));
+    prior + tonekit_float::widen(ll[t])
+}
+
+// The ranking of that background and that top tone.
+fn ranking_with(background: LogSumExp, top: Lead) -> Ranking
+    ensures { λ r. ⌜ r ≡ rankingWith background top ⌝ }
+{
     Ranking {
         background,
-        found: true,
-        score: r.score,
-        index: r.index,
+        found: top.found,
+        score: top.score,
+        index: top.index,
     }
 }
 
-// The background of all tones, and the first of those with the greatest score.
+// The background of all tones, lent to `add_to` for each, and the first of those with the greatest score.
 fn ranking_of(tones: usize, priors: [f32; 8], ll: [f32; 8]) -> Ranking
     requires { ⌜ tones ≤ 8 ⌝ }
     ensures { λ r. ⌜ (r ≡ rankingOf tones priors ll) × (r .index < 8) ⌝ }
 {
-    let background = LogSumExp::empty();
-    let mut r = Ranking {
-        background,
-        found: false,
-        score: 0.0,
-        index: 0,
-    };
+    let mut background = LogSumExp::empty();
+    let mut top = tonekit_score::no_lead();
     for t in 0..tones {
-        let prior = tonekit_log::ln(tonekit_float::widen(priors[t]));
-        r = ranked(r, t, prior + tonekit_float::widen(ll[t]));
+        let score = score_at(priors, ll, t);
+        tonekit_score::add_to(&mut background, score);
+        top = tonekit_score::led(top, t, score, 0.0);
     }
-    r
+    ranking_with(background, top)
 }
 
 // The number of the top tone where its posterior reaches the threshold, else 0.
@@ -217,16 +277,6 @@ fn heard_of(numbers: [u8; 8], threshold: f32, r: Ranking) -> u8
     0
 }
 
-// The mixture with a component weighed so much, dropped where that is not above 0.
-fn weighed(s: Scoring, m: Mixing, slot: usize, product: f32, d2: f64) -> Mixing
-    ensures { λ r. ⌜ r ≡ weighed s m slot product d2 ⌝ }
-{
-    if 0.0 < product {
-        return tonekit_score::mix_turn(s, m, slot, product, d2);
-    }
-    m
-}
-
 // The mixture with the components of tone t, weighed.
 fn part_mixing(
     s: Scoring,
@@ -241,12 +291,8 @@ fn part_mixing(
     ensures { λ r. ⌜ (r ≡ partMixing s (now (weights .entry)) (cell (now (d .entry))) count t weight before)
         × (r .index < 32) ⌝ }
 {
-    let mut m = before;
     let n = wide(count);
-    for j in 0..n {
-        m = weighed(s, m, 4 * t + j, weights[4 * t + j] * weight, d[4 * t + j]);
-    }
-    m
+    mixed_terms(s, before, weights, d, t, false, weight, n)
 }
 
 // The mixture of the target's tones, each weighed.

@@ -4,7 +4,10 @@ ghost use mathlib.Core.Bool.{not};
 ghost use Prim.Native.Nat.{_+_, _*_, _≤_, _<_};
 ghost use lib.Ieee.{binary64, mul};
 ghost use lib.ListN.{length};
-ghost use Rattle.tonekit_score.specs.Score.{negInf, widenFor, scoringOf, clampLog, empty, addTo, valueOf, excused, pointWeight, squaresOf, endTerm, endsOf, distanceOf, logOf, leads, noMixing, mixed, mixTurn, mixtureOf, mixtureLog, calibrate};
+ghost use Rattle.tonekit_score.specs.Score.{negInf, widenFor, scoringOf, clampLog, empty, addTo, valueOf, excused};
+ghost use Rattle.tonekit_score.specs.Score.{pointWeight, squaresOf, endTerm, endsOf, distanceOf, logOf, leads};
+ghost use Rattle.tonekit_score.specs.Score.{noMixing, mixtureOf, mixtureLog, calibrate};
+ghost use Rattle.tonekit_score.specs.Terms.{noLead, led, leadOf, mixingWith, noTerm, termOf};
 use tonekit_core::MeasureIssue;
 use tonekit_shape::ToneShape;
 
@@ -51,6 +54,21 @@ pub enum Mixture {
 pub struct Squares {
     pub weighted: f64,
     pub total: f64,
+}
+
+// The best so far, if there is one: its score, its index and its squared distance.
+pub struct Lead {
+    pub found: bool,
+    pub score: f64,
+    pub index: usize,
+    pub distance: f64,
+}
+
+// A term of a mixture: what a component brings to it, if it counts.
+pub struct Term {
+    pub counts: bool,
+    pub score: f64,
+    pub distance: f64,
 }
 
 // A mixture so far: the sum, and the best component, if there is one.
@@ -292,44 +310,87 @@ pub fn no_mixing() -> Mixing
     }
 }
 
-// The mixture with one more component's score.
-fn mixed(m: Mixing, i: usize, score: f64, d2: f64) -> Mixing
-    ensures { λ r. ⌜ r ≡ mixed m i score d2 ⌝ }
+// The best of none.
+pub fn no_lead() -> Lead
+    ensures { λ r. ⌜ r ≡ noLead ⌝ }
 {
-    let sum = m.total;
-    let total = sum.add(score);
-    if leads(m.found, m.score, score) {
-        return Mixing {
-            total,
+    Lead {
+        found: false,
+        score: 0.0,
+        index: 0,
+        distance: 0.0,
+    }
+}
+
+// The best with one more score; the first of equals stays.
+pub fn led(l: Lead, i: usize, score: f64, d2: f64) -> Lead
+    ensures { λ r. ⌜ r ≡ led l i score d2 ⌝ }
+{
+    if leads(l.found, l.score, score) {
+        return Lead {
             found: true,
             score,
             index: i,
             distance: d2,
         };
     }
-    Mixing {
-        total,
+    Lead {
         found: true,
+        score: l.score,
+        index: l.index,
+        distance: l.distance,
+    }
+}
+
+// The best component of a mixture so far.
+pub fn lead_of(m: Mixing) -> Lead
+    ensures { λ r. ⌜ r ≡ leadOf m ⌝ }
+{
+    Lead {
+        found: m.found,
         score: m.score,
         index: m.index,
         distance: m.distance,
     }
 }
 
-// The mixture with component i of that weight and squared distance, passed over where the weight is
-// not above 0.
-pub fn mix_turn(s: Scoring, m: Mixing, i: usize, weight: f32, d2: f64) -> Mixing
-    ensures { λ r. ⌜ r ≡ mixTurn s m i weight d2 ⌝ }
+// The mixture of that sum and that best component.
+pub fn mixing_with(total: LogSumExp, l: Lead) -> Mixing
+    ensures { λ r. ⌜ r ≡ mixingWith total l ⌝ }
+{
+    Mixing {
+        total,
+        found: l.found,
+        score: l.score,
+        index: l.index,
+        distance: l.distance,
+    }
+}
+
+// The term of a component that is passed over.
+pub fn no_term() -> Term
+    ensures { λ r. ⌜ r ≡ noTerm ⌝ }
+{
+    Term {
+        counts: false,
+        score: 0.0,
+        distance: 0.0,
+    }
+}
+
+// The term of a component of that weight and squared distance, passed over where the weight is not
+// above 0.
+pub fn term_of(s: Scoring, weight: f32, d2: f64) -> Term
+    ensures { λ r. ⌜ r ≡ termOf s weight d2 ⌝ }
 {
     if weight <= 0.0 {
-        return m;
+        return no_term();
     }
-    mixed(
-        m,
-        i,
-        tonekit_log::ln(tonekit_float::widen(weight)) + log_of(s, d2),
-        d2,
-    )
+    Term {
+        counts: true,
+        score: tonekit_log::ln(tonekit_float::widen(weight)) + log_of(s, d2),
+        distance: d2,
+    }
 }
 
 // What a mixture comes to.

@@ -1,56 +1,26 @@
--- `part_mixing` meets its contract: what is left of the loop, from here, gives what the whole gives.
-use mathlib.Core.Path.{_≡_, sym}
+-- `part_mixing` meets its contract: its parts are taken by the share, and the best of them is in its slots.
+use mathlib.Core.Path.{_≡_, sym, subst}
+use Prim.Native.Nat.{_<_}
 use borrow.Author.Needs.{needs}
-use Prim.Native.Nat.{_-_, _≤_, _<_}
-use Rattle.tonekit_core.specs.Loop.{range, again, ended}
-use Rattle.tonekit_judge.specs.Judge.{cell, partTurn, partMixing}
-use Rattle.tonekit_judge.proofs.Slots.{weighed-below}
+use Rattle.tonekit_score.specs.declared.Mixing.{Mixing}
+use Rattle.tonekit_judge.specs.Judge.{cell, partMixing}
+use Rattle.tonekit_judge.specs.Terms.{mixedTerms}
+use Rattle.tonekit_judge.proofs.Terms.{parts-below}
 use Rattle.tonekit_judge.proofs.part_mixing.Statement.{statement}
 use Rattle.tonekit_judge.proofs.part_mixing.Tie as tie
 
-abbrev Inv-loop : tie.InvT-loop
-Inv-loop s weights d count t weight m₀ n j₀ m j =
-    (j ≤ n) × (m .index < 32) × (range (partTurn s weights (cell d) t weight) j n m ≡ partMixing s weights (cell d) count t weight m₀)
-
-abbrev μ-loop : tie.MeasureT-loop
-μ-loop s weights d count t weight m₀ n j₀ m j =
-    n - j
-
-loop-again : tie.Need-loop-again Inv-loop μ-loop
-loop-again c =
-    let l = c .before .before .before .before in (
-      search needs,
-      rw (c .weighed .ensures) (weighed-below 32 _ (l .loop .m) _ _ _ (l .loop .inv .1) (search needs)),
-      again _ (l .loop .inv .2) (search needs) (sym (c .weighed .ensures)),
-    )
-
-returns : tie.Need-returns Inv-loop μ-loop
-returns c = (ended _ (c .before .loop .inv .2) (search needs), search needs)
-
-loop-holds : tie.Need-loop-holds Inv-loop μ-loop
-unfolding partMixing
-loop-holds c = (search needs, search needs, rw (c .wide .ensures))
+returns : tie.Need-returns
+unfolding partMixing mixedTerms
+returns c =
+    let x = c .before .before .before in
+    let a = x .args in
+    let e : c .mixed-terms .result ≡ partMixing (a .s) (a .weights .now) (cell (a .d .now)) (a .count) (a .t) (a .weight) (a .before) = rw (← c .before .wide .ensures) (c .mixed-terms .ensures) in
+    (e, subst (λ (m : Mixing). m .index < 32) (sym e) (parts-below (a .s) (a .weights .now) (cell (a .d .now)) (a .t) (a .weight) (a .count) (a .before) (x .pre .0) (x .pre .1) (x .pre .3)))
 
 pub part-mixing-spec : {M : Type 1} → statement M
 part-mixing-spec =
     tie.close
     (tie.spec
-    Inv-loop
-    μ-loop
     (λ c κs. search needs)
-    loop-holds
-    (λ c. search needs)
-    (λ c. search needs)
-    (λ c. search needs)
-    (λ c. search needs)
-    (λ c. search needs)
-    (λ c. search needs)
-    (λ c. search needs)
-    (λ c. search needs)
-    (λ c. search needs)
-    (λ c. search needs)
     (λ c κs. search needs)
-    (λ c. search needs)
-    (λ c. search needs)
-    loop-again
     returns)
