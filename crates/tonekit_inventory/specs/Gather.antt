@@ -13,7 +13,7 @@ use Rattle.tonekit_expect.specs.Source.{Tone, Accent, Carried, Source, accentIn
 use Rattle.tonekit_expect.specs.declared.Context.{Context}
 use Rattle.tonekit_score.specs.declared.Region.{Region}
 use Rattle.tonekit_score.specs.declared.Tolerance.{Tolerance}
-use Rattle.tonekit_judge.specs.Judge.{Listed}
+use Rattle.tonekit_judge.specs.Judge.{Listed, listing}
 use Rattle.tonekit_judge.specs.declared.Inventory.{Inventory}
 use Rattle.tonekit_inventory.specs.declared.Gathered.{Gathered}
 use Rattle.tonekit_inventory.specs.declared.Graded.{Graded}
@@ -138,9 +138,6 @@ gathered src c = record {
 }
 
 -- what the struct and the two lent lists stand for
-abbrev pub listedOf : Inventory → List Float → List Float → Listed
-listedOf i weights points = record { inventory = i; weights = weights; points = points }
-
 abbrev pub gatheringOf : Gathered → List Float → List Float → Gathering
 gatheringOf g weights points = record {
   accent = g .accent;
@@ -148,5 +145,5 @@ gatheringOf g weights points = record {
   temperature = g .temperature;
   threshold = g .threshold;
   tolerance = g .tolerance;
-  listed = listedOf (g .inventory) weights points;
+  listed = listing (g .inventory) weights points;
 }

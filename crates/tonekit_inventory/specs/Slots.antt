@@ -11,11 +11,11 @@ use Rattle.tonekit_expect.specs.declared.Context.{Context}
 use Rattle.tonekit_expect.specs.declared.Listing.{Listing}
 use Rattle.tonekit_expect.specs.declared.Look.{Look}
 use Rattle.tonekit_expect.specs.declared.Look.the-variants as look
-use Rattle.tonekit_judge.specs.Judge.{Sound}
+use Rattle.tonekit_judge.specs.Judge.{Sound, listing}
 use Rattle.tonekit_judge.specs.declared.Inventory.{Inventory}
 use Rattle.tonekit_inventory.specs.declared.Gathered.{Gathered}
 use Rattle.tonekit_inventory.specs.declared.Named.{Named}
-use Rattle.tonekit_inventory.specs.Gather.{weightsOf, pointsOf, listings, gathered, listedOf, gatheringOf}
+use Rattle.tonekit_inventory.specs.Gather.{weightsOf, pointsOf, listings, gathered, gatheringOf}
 
 -- as many as there are slots
 pub record Slots (weights points : List Float) : Type 0 where
@@ -42,10 +42,10 @@ nameOf l = record { owner = l .owner; form = l .form; label = l .label; count = 
 
 -- the listings of a source, and that a judgement may be made from them
 pub record Lists (src : Source) (c : Context) (i : Inventory) (weights points : List Float) : Type 0 where
-  pub is : listedOf i weights points ≡ listings src c
-  pub sound : Sound (listedOf i weights points)
+  pub is : listing i weights points ≡ listings src c
+  pub sound : Sound (listing i weights points)
 
 -- all that is gathered
 pub record Gathers (src : Source) (c : Context) (g : Gathered) (weights points : List Float) : Type 0 where
   pub is : gatheringOf g weights points ≡ gathered src c
-  pub sound : Sound (listedOf (g .inventory) weights points)
+  pub sound : Sound (listing (g .inventory) weights points)

@@ -2,8 +2,8 @@
 ghost use mathlib.Core.Path.{_≡_};
 ghost use Prim.Native.Nat.{_≤_};
 ghost use Rattle.tonekit_core.specs.Calls.{Delivers};
-ghost use Rattle.tonekit_judge.specs.Judge.{Sound};
-ghost use Rattle.tonekit_inventory.specs.Gather.{listedOf, gatheringOf};
+ghost use Rattle.tonekit_judge.specs.Judge.{Sound, listing};
+ghost use Rattle.tonekit_inventory.specs.Gather.{gatheringOf};
 ghost use Rattle.tonekit_station.specs.Judgement.{contextOf, tonesVerdict, queryVerdict, judgeGathered, judgeOutcome, judgeSheetOutcome, stationOutcome, stationSheetOutcome};
 use tonekit_core::Answer;
 use tonekit_core::Refusal;
@@ -83,7 +83,7 @@ fn judge_gathered(
     q: Query,
     out: &mut [u8],
 ) -> Answer
-    requires { ⌜ Sound (listedOf (g .inventory) (now weights) (now points)) × (q .count ≤ 1024) × (q .variants ≤ 4) ⌝ }
+    requires { ⌜ Sound (listing (g .inventory) (now weights) (now points)) × (q .count ≤ 1024) × (q .variants ≤ 4) ⌝ }
     ensures { λ r. ⌜ Delivers
         (judgeGathered (gatheringOf g (now (weights .entry)) (now (points .entry))) (now (query .entry)) q)
         (now (out .entry)) r (now (out .exit)) ⌝ }
