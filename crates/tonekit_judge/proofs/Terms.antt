@@ -8,11 +8,13 @@ use lib.ListN.{getD}
 use lib.Ieee.{Float, nan, binary32, binary64, add, mul, le, lt}
 use Rattle.tonekit_core.proofs.LoopLaws.{range-keeps}
 use Rattle.tonekit_log.specs.Log.{lnOf}
-use Rattle.tonekit_score.specs.Score.{zero32, logOf, mixed, mixTurn, noTerm, termOf}
+use Rattle.tonekit_score.specs.Score.{zero32, logOf, mixed, mixTurn}
+use Rattle.tonekit_score.specs.Terms.{noTerm, termOf}
 use Rattle.tonekit_score.specs.declared.Scoring.{Scoring}
 use Rattle.tonekit_score.specs.declared.Mixing.{Mixing}
 use Rattle.tonekit_score.specs.declared.Term.{Term}
-use Rattle.tonekit_judge.specs.Judge.{weighed, partTurn, partMixing, weighedTerm, termAt, eitherTurn}
+use Rattle.tonekit_judge.specs.Judge.{weighed, partTurn, partMixing}
+use Rattle.tonekit_judge.specs.Terms.{weighedTerm, termAt, eitherTurn}
 use Rattle.tonekit_judge.proofs.Slots.{by-bool, weighed-below}
 
 abbrev mixIn : Mixing → ℕ → Term → Mixing

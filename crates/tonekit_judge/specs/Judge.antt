@@ -18,7 +18,7 @@ use Rattle.tonekit_root.specs.Root.{rootOf}
 use Rattle.tonekit_log.specs.Log.{lnOf}
 use Rattle.tonekit_log.specs.Exp.{expOf}
 use Rattle.tonekit_shape.specs.declared.ToneShape.{ToneShape}
-use Rattle.tonekit_score.specs.Score.{zero64, zero32, million, empty, addTo, valueOf, distanceOf, leads, noMixing, mixTurn, led, mixingWith, noTerm, termOf, mixtureOf, mixtureLog, calibrate, clampLog, scoringOf}
+use Rattle.tonekit_score.specs.Score.{zero64, zero32, million, empty, addTo, valueOf, distanceOf, leads, noMixing, mixTurn, mixtureOf, mixtureLog, calibrate, clampLog, scoringOf}
 use Rattle.tonekit_score.specs.declared.Tolerance.{Tolerance}
 use Rattle.tonekit_score.specs.declared.Region.{Region}
 use Rattle.tonekit_score.specs.declared.Scoring.{Scoring}
@@ -26,8 +26,6 @@ use Rattle.tonekit_score.specs.declared.Mixture.{Mixture}
 use Rattle.tonekit_score.specs.declared.Mixture.the-variants.{Scored, Nothing}
 use Rattle.tonekit_score.specs.declared.Mixing.{Mixing}
 use Rattle.tonekit_score.specs.declared.LogSumExp.{LogSumExp}
-use Rattle.tonekit_score.specs.declared.Lead.{Lead}
-use Rattle.tonekit_score.specs.declared.Term.{Term}
 use Rattle.tonekit_deltas.specs.Deltas.{noDeltas, deltasOf}
 use Rattle.tonekit_deltas.specs.declared.Deltas.{Deltas}
 use Rattle.tonekit_judge.specs.declared.Ranking.{Ranking}
@@ -108,15 +106,8 @@ ranked r t score =
       index = cond top t (r .index);
     }
 
-abbrev pub scoreAt : List Float → List Float → ℕ → Float
-scoreAt priors ll t = add binary64 (lnOf (getD priors t nan)) (getD ll t nan)
-
 abbrev pub rankTurn : List Float → List Float → ℕ → Ranking → Ranking
-rankTurn priors ll t r = ranked r t (scoreAt priors ll t)
-
--- the background beside the top tone, which has no distance
-abbrev pub rankingWith : LogSumExp → Lead → Ranking
-rankingWith background top = record { background = background; found = top .found; score = top .score; index = top .index }
+rankTurn priors ll t r = ranked r t (add binary64 (lnOf (getD priors t nan)) (getD ll t nan))
 
 unfoldable pub rankingOf : ℕ → List Float → List Float → Ranking
 rankingOf tones priors ll = range (rankTurn priors ll) 0 tones noRanking
@@ -138,25 +129,6 @@ partTurn s weights d t weight j m = weighed s m (4 * t + j) (mul binary32 (getD 
 -- the components of one of the target's tones, after those of the tones before it
 unfoldable pub partMixing : Scoring → List Float → (ℕ → ℕ → Float) → ℕ → ℕ → Float → Mixing → Mixing
 partMixing s weights d count t weight m = range (partTurn s weights d t weight) 0 count m
-
--- one turn of `mixed_terms`: with the weights as they stand, or each times a share
-abbrev pub eitherTurn : Scoring → List Float → (ℕ → ℕ → Float) → ℕ → Bool → Float → ℕ → Mixing → Mixing
-eitherTurn s weights d t whole share j m = cond whole (toneTurn s weights d t j m) (partTurn s weights d t share j m)
-
-unfoldable pub mixedTerms : Scoring → List Float → (ℕ → ℕ → Float) → ℕ → Bool → Float → ℕ → Mixing → Mixing
-mixedTerms s weights d t whole share n m = range (eitherTurn s weights d t whole share) 0 n m
-
--- the term of such a turn
-unfoldable pub weighedTerm : Scoring → Float → Float → Term
-weighedTerm s product d2 = cond (lt zero32 product) (termOf s product d2) noTerm
-
-unfoldable pub termAt : Scoring → List Float → (ℕ → ℕ → Float) → ℕ → Bool → Float → ℕ → Term
-termAt s weights d t whole share j =
-    let w = getD weights (4 * t + j) nan in
-    cond whole (termOf s w (d t j)) (weighedTerm s (mul binary32 w share) (d t j))
-
-abbrev pub ledBy : Lead → ℕ → ℕ → Term → Lead
-ledBy l t j c = led l (4 * t + j) (c .score) (c .distance)
 
 abbrev pub targetTurn : Scoring → List ℕ → List Float → (ℕ → ℕ → Float) → List ℕ → List Float → ℕ → Mixing → Mixing
 targetTurn s counts weights d places shares k m =

@@ -1,3 +1,4 @@
 pub mod Judge
+pub mod Terms
 pub mod Record
 pub mod Bench

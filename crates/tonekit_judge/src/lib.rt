@@ -11,7 +11,7 @@ ghost use Rattle.tonekit_judge.specs.Judge.{partMixing, targetMixing, ll
 ghost use Rattle.tonekit_judge.specs.Judge.{distanceFrom, adviceOf, partOf, withBest, judgedAgainst};
 ghost use Rattle.tonekit_judge.specs.Judge.{usable, notMeasured, judgementOf};
 ghost use Rattle.tonekit_core.specs.Words.{measuredNumber};
-ghost use Rattle.tonekit_judge.specs.Judge.{weighedTerm, termAt, ledBy, mixedTerms, scoreAt, rankingWith};
+ghost use Rattle.tonekit_judge.specs.Terms.{weighedTerm, termAt, ledBy, mixedTerms, scoreAt, rankingWith};
 
 pub mod record;
 

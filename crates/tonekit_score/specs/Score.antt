@@ -22,8 +22,6 @@ use Rattle.tonekit_score.specs.declared.Mixture.{Mixture}
 use Rattle.tonekit_score.specs.declared.Mixture.the-variants.{Scored, Nothing}
 use Rattle.tonekit_score.specs.declared.Squares.{Squares}
 use Rattle.tonekit_score.specs.declared.Mixing.{Mixing}
-use Rattle.tonekit_score.specs.declared.Lead.{Lead}
-use Rattle.tonekit_score.specs.declared.Term.{Term}
 
 abbrev pub zero64 : Float
 zero64 = ofBits binary64 0
@@ -159,34 +157,6 @@ mixed m i score d2 =
 
 unfoldable pub mixTurn : Scoring → Mixing → ℕ → Float → Float → Mixing
 mixTurn s m i weight d2 = cond (le weight zero32) m (mixed m i (add binary64 (lnOf weight) (logOf s d2)) d2)
-
--- the best component by itself, beside the sum: `Option<(f64, Best)>` of the Rust
-abbrev pub noLead : Lead
-noLead = record { found = false; score = zero64; index = 0; distance = zero64 }
-
-abbrev pub led : Lead → ℕ → Float → Float → Lead
-led l i score d2 =
-    let best = leads (l .found) (l .score) score in
-    record {
-      found = true;
-      score = cond best score (l .score);
-      index = cond best i (l .index);
-      distance = cond best d2 (l .distance);
-    }
-
-abbrev pub leadOf : Mixing → Lead
-leadOf m = record { found = m .found; score = m .score; index = m .index; distance = m .distance }
-
-abbrev pub mixingWith : LogSumExp → Lead → Mixing
-mixingWith total l = record { total = total; found = l .found; score = l .score; index = l .index; distance = l .distance }
-
--- a component's term: whether it counts, its score and its squared distance
-abbrev pub noTerm : Term
-noTerm = record { counts = false; score = zero64; distance = zero64 }
-
-unfoldable pub termOf : Scoring → Float → Float → Term
-termOf s weight d2 =
-    cond (le weight zero32) noTerm (record { counts = true; score = add binary64 (lnOf weight) (logOf s d2); distance = d2 })
 
 abbrev pub mixtureOf : Mixing → Mixture
 mixtureOf m = cond (m .found) (Scored (valueOf (m .total)) (m .index) (m .distance)) Nothing

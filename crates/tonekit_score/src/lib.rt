@@ -7,7 +7,7 @@ ghost use lib.ListN.{length};
 ghost use Rattle.tonekit_score.specs.Score.{negInf, widenFor, scoringOf, clampLog, empty, addTo, valueOf, excused};
 ghost use Rattle.tonekit_score.specs.Score.{pointWeight, squaresOf, endTerm, endsOf, distanceOf, logOf, leads};
 ghost use Rattle.tonekit_score.specs.Score.{noMixing, mixtureOf, mixtureLog, calibrate};
-ghost use Rattle.tonekit_score.specs.Score.{noLead, led, leadOf, mixingWith, noTerm, termOf};
+ghost use Rattle.tonekit_score.specs.Terms.{noLead, led, leadOf, mixingWith, noTerm, termOf};
 use tonekit_core::MeasureIssue;
 use tonekit_shape::ToneShape;
 

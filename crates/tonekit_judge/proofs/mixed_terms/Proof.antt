@@ -52,13 +52,15 @@ use denote.Triple.Spec.{Meets, tripleOf}
 use denote.Triple.Table.{entered, cited}
 use denote.Triple.Walked.{says, needs, Stays, stay-none, stay-none-ref, stay-none-slice, goes-none, goes-none-ref, goes-none-slice, walkOf, Walks, ends-at, walked, walk-meets}
 use Rattle.tonekit_core.specs.Loop.{range, again as once-more, ended}
-use Rattle.tonekit_score.specs.Score.{addTo, mixed, leadOf, mixingWith}
+use Rattle.tonekit_score.specs.Score.{addTo, mixed}
+use Rattle.tonekit_score.specs.Terms.{leadOf, mixingWith}
 use Rattle.tonekit_score.specs.declared.LogSumExp.{LogSumExp}
 use Rattle.tonekit_score.specs.declared.Lead.{Lead}
 use Rattle.tonekit_score.specs.declared.Mixing.{Mixing}
 use Rattle.tonekit_score.specs.declared.Scoring.{Scoring}
 use Rattle.tonekit_score.specs.declared.Term.{Term}
-use Rattle.tonekit_judge.specs.Judge.{cell, termAt, ledBy, eitherTurn, mixedTerms}
+use Rattle.tonekit_judge.specs.Judge.{cell}
+use Rattle.tonekit_judge.specs.Terms.{termAt, ledBy, eitherTurn, mixedTerms}
 use Rattle.tonekit_score.proofs.Lent.{after, gave, machine, Pair, typed-pair, lead-at, Is-lead, spell-lead, typed-lead, AddTo, lent-to, lend, back}
 use Rattle.tonekit_score.proofs.LogSumExp as T
 use Rattle.tonekit_score.proofs.LogSumExp.Laws as T′

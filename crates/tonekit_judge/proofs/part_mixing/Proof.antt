@@ -3,7 +3,8 @@ use mathlib.Core.Path.{_≡_, sym, subst}
 use Prim.Native.Nat.{_<_}
 use borrow.Author.Needs.{needs}
 use Rattle.tonekit_score.specs.declared.Mixing.{Mixing}
-use Rattle.tonekit_judge.specs.Judge.{cell, partMixing, mixedTerms}
+use Rattle.tonekit_judge.specs.Judge.{cell, partMixing}
+use Rattle.tonekit_judge.specs.Terms.{mixedTerms}
 use Rattle.tonekit_judge.proofs.Terms.{parts-below}
 use Rattle.tonekit_judge.proofs.part_mixing.Statement.{statement}
 use Rattle.tonekit_judge.proofs.part_mixing.Tie as tie

@@ -45,11 +45,13 @@ use denote.Triple.Spec.{Meets, tripleOf}
 use denote.Triple.Table.{entered, cited}
 use denote.Triple.Walked.{says, needs, Stays, stay-none, goes-none, walkOf, Walks, ends-at, walked, walk-meets}
 use Rattle.tonekit_core.specs.Loop.{range, again as once-more, ended}
-use Rattle.tonekit_score.specs.Score.{zero64, empty, addTo, leads, noLead, led}
+use Rattle.tonekit_score.specs.Score.{zero64, empty, addTo, leads}
+use Rattle.tonekit_score.specs.Terms.{noLead, led}
 use Rattle.tonekit_score.specs.declared.LogSumExp.{LogSumExp}
 use Rattle.tonekit_score.specs.declared.Lead.{Lead}
 use Rattle.tonekit_judge.specs.declared.Ranking.{Ranking}
-use Rattle.tonekit_judge.specs.Judge.{scoreAt, ranked, rankTurn, rankingWith, rankingOf}
+use Rattle.tonekit_judge.specs.Judge.{ranked, rankTurn, rankingOf}
+use Rattle.tonekit_judge.specs.Terms.{scoreAt, rankingWith}
 use Rattle.tonekit_score.proofs.Lent.{after, gave, machine, Pair, spell-pair, typed-pair, lead-at, Is-lead, spell-lead, typed-lead, AddTo, lent-to, lend, back}
 use Rattle.tonekit_score.proofs.LogSumExp as T
 use Rattle.tonekit_score.proofs.LogSumExp.Laws as T′

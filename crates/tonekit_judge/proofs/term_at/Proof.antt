@@ -1,6 +1,6 @@
 -- `term_at` meets its contract, by the ways through its code.
 use borrow.Author.Needs.{needs}
-use Rattle.tonekit_judge.specs.Judge.{termAt}
+use Rattle.tonekit_judge.specs.Terms.{termAt}
 use Rattle.tonekit_judge.proofs.term_at.Statement.{statement}
 use Rattle.tonekit_judge.proofs.term_at.Tie as tie
 

@@ -1,6 +1,7 @@
 -- `tone_mixing` meets its contract: its parts are taken whole.
 use borrow.Author.Needs.{needs}
-use Rattle.tonekit_judge.specs.Judge.{toneMixing, mixedTerms}
+use Rattle.tonekit_judge.specs.Judge.{toneMixing}
+use Rattle.tonekit_judge.specs.Terms.{mixedTerms}
 use Rattle.tonekit_judge.proofs.tone_mixing.Statement.{statement}
 use Rattle.tonekit_judge.proofs.tone_mixing.Tie as tie
 

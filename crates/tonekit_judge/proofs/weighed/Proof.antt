@@ -1,6 +1,6 @@
 -- `weighed` meets its contract, by the ways through its code.
 use borrow.Author.Needs.{needs}
-use Rattle.tonekit_judge.specs.Judge.{weighedTerm}
+use Rattle.tonekit_judge.specs.Terms.{weighedTerm}
 use Rattle.tonekit_judge.proofs.weighed.Statement.{statement}
 use Rattle.tonekit_judge.proofs.weighed.Tie as tie
 

@@ -1,6 +1,6 @@
 -- `term_of` meets its contract, by the ways through its code.
 use borrow.Author.Needs.{needs}
-use Rattle.tonekit_score.specs.Score.{termOf}
+use Rattle.tonekit_score.specs.Terms.{termOf}
 use Rattle.tonekit_score.proofs.term_of.Statement.{statement}
 use Rattle.tonekit_score.proofs.term_of.Tie as tie
 
