@@ -1,7 +1,7 @@
 -- `check_output` meets its contract, word by word. Assumes nothing.
 use mathlib.Core.Path.{_∙_, sym}
 use borrow.Author.Needs.{needs}
-use Rattle.tonekit_pack.proofs.Split.{absurd-bool}
+use Rattle.tonekit_core.proofs.Split.{absurd-bool}
 use Rattle.tonekit_output.proofs.Words.{said, by-pack, by-query, by-sheet, by-none}
 use Rattle.tonekit_output.proofs.check_output.Statement.{statement}
 use Rattle.tonekit_output.proofs.check_output.Tie as tie

@@ -9,7 +9,7 @@ use lib.Dec.{eqb}
 use lib.Ieee.{Float, nan, binary32, ofBits, le}
 use lib.ListN.{length, getD, set, length-set, getD-replicate}
 use lib.Seq.{getD-set-same, getD-set-other}
-use Rattle.tonekit_pack.proofs.Split.{split}
+use Rattle.tonekit_core.proofs.Split.{split}
 use Rattle.tonekit_expect.specs.Knots.{Knot}
 use Rattle.replay.proofs.functions.knots.Statement.{statement}
 use Rattle.replay.proofs.functions.knots.Tie as tie
