@@ -296,12 +296,9 @@ fn steps(all: &mut Asking) {
         0.1,
     ];
     let bytes = |of: &[f64]| -> Vec<u8> { of.iter().flat_map(|v| v.to_le_bytes()).collect() };
-    let pairs: Vec<f64> = some
-        .iter()
-        .flat_map(|&x| some.map(|y| [x, y]))
-        .flatten()
-        .collect();
-    all.ask(0, MIN_MAX, &bytes(&pairs), &[]);
+    for (x, y) in some.iter().flat_map(|&x| some.map(|y| (x, y))) {
+        all.ask(0, MIN_MAX, &bytes(&[x, y]), &[]);
+    }
     let mut r = Rng::new(1, 0);
     for _ in 0..20 {
         let grid = [0; 12].map(|_| r.range(0, 6) as f64 - 3.0);
