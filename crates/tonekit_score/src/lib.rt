@@ -287,7 +287,7 @@ fn log_of(s: Scoring, d2: f64) -> f64
 }
 
 // Whether a score takes the lead: where there was none, or where it is above the best.
-pub fn leads(found: bool, best: f64, score: f64) -> bool
+fn leads(found: bool, best: f64, score: f64) -> bool
     ensures { λ r. ⌜ r ≡ leads found best score ⌝ }
 {
     if found {

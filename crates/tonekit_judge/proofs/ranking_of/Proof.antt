@@ -5,7 +5,7 @@ use Prim.Native.Nat.{ℕ, _+_, _-_, _≤_, _<_, _^_, zero-le}
 use native.Mathlib.Nat.{lt-of-le-of-lt}
 use native.Mathlib.Omega.{arith}
 use native.Mathlib.Numerals.{add-one-le, add-one-dec}
-use mathlib.Core.Bool.{true, cond}
+use mathlib.Core.Bool.{true}
 use mathlib.Core.List.{[], _∷_, List}
 use mathlib.Core.WellFounded.{WellFounded, InvImage·wf}
 use lib.WfN.{Nat·lt-wfRel}
@@ -45,7 +45,7 @@ use denote.Triple.Spec.{Meets, tripleOf}
 use denote.Triple.Table.{entered, cited}
 use denote.Triple.Walked.{says, needs, Stays, stay-none, goes-none, walkOf, Walks, ends-at, walked, walk-meets}
 use Rattle.tonekit_core.specs.Loop.{range, again as once-more, ended}
-use Rattle.tonekit_score.specs.Score.{zero64, empty, addTo, leads}
+use Rattle.tonekit_score.specs.Score.{zero64, empty, addTo}
 use Rattle.tonekit_score.specs.Terms.{noLead, led}
 use Rattle.tonekit_score.specs.declared.LogSumExp.{LogSumExp}
 use Rattle.tonekit_score.specs.declared.Lead.{Lead}
@@ -82,7 +82,7 @@ use Rattle.tonekit_judge.proofs.ranking_with as ranking-with
 use Rattle.tonekit_judge.proofs.ranking_with.Symbol as ranking-with-def
 use Rattle.tonekit_judge.proofs.ranking_with.Symbol.{name as #ranking-with}
 use Rattle.tonekit_judge.proofs.ranking_with.Met as ranking-with-thm
-use Rattle.tonekit_judge.proofs.Slots.{by-bool}
+use Rattle.tonekit_judge.proofs.Slots.{ranked-below}
 use Rattle.tonekit_judge.proofs.ranking_of.Key.{name as #ranking-of}
 use Rattle.tonekit_judge.proofs.ranking_of as f
 use Rattle.tonekit_judge.proofs.ranking_of.Statement as stated
@@ -115,9 +115,6 @@ module _ (tones : ℕ) (priors ll : List Float) where
   Nearer-wf : WellFounded Nearer
   Nearer-wf = InvImage·wf (λ (s : At). tones - s .i) (Nat·lt-wfRel .wf)
 
-led-low : (p : Lead) (i : ℕ) (score : Float) → p .index < 8 → i < 8 → led p i score zero64 .index < 8
-led-low p i score a b = by-bool (λ t. cond t i (p .index) < 8) (leads (p .found) (p .score) score) b a
-
 -- a turn: the tone's score goes to the background and to the top tone
 module _ (tones : ℕ) (priors ll : List Float) (few : tones ≤ 8) (s : At tones priors ll) (less : s .i < tones) where
   abbrev score : Float
@@ -127,6 +124,10 @@ module _ (tones : ℕ) (priors ll : List Float) (few : tones ≤ 8) (s : At tone
   unfolding ranked
   turned-rest = once-more (rankTurn priors ll) (s .rest) less refl
 
+  turned-low : led (s .p) (s .i) score zero64 .index < 8
+  unfolding ranked
+  turned-low = ranked-below 8 (rankingWith (s .h) (s .p)) (s .i) score (s .low) (omega (arith, few, less))
+
   abbrev turned : Pair (addTo (s .h) score) → Is-lead (led (s .p) (s .i) score zero64) → At tones priors ll
   turned pair lead = record {
     i = s .i + 1;
@@ -135,7 +136,7 @@ module _ (tones : ℕ) (priors ll : List Float) (few : tones ≤ 8) (s : At tone
     upto = add-one-le less;
     pair = pair;
     lead = lead;
-    low = led-low (s .p) (s .i) score (s .low) (omega (arith, few, less));
+    low = turned-low;
     rest = turned-rest;
   }
 
