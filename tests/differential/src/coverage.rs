@@ -71,69 +71,65 @@ fn asked(all: &[Unit], cases: u64, seed: u64, part: usize) -> Vec<Seen> {
     seen
 }
 
-/// One line for each unit: the cases that saw it, its words, the first case, and the sample. Whether all is as it should be:
-/// every mistake seen, each unit that a case saw told apart by a sample, and the table as it would be written.
-pub fn coverage(dir: &Path, words: &Path, cases: u64, seed: u64) -> bool {
-    std::panic::set_hook(Box::new(|_| {}));
-    let all = units();
-    let samples = found(&load(dir), &all);
+/// The cases that saw each unit, asked by several threads.
+fn seen_by(all: &[Unit], cases: u64, seed: u64) -> Vec<Seen> {
     let mut seen = vec![Seen::default(); all.len()];
     std::thread::scope(|s| {
-        let threads: Vec<_> = (0..THREADS)
-            .map(|part| {
-                let all = &all;
-                s.spawn(move || asked(all, cases, seed, part))
-            })
-            .collect();
+        let asking = |part| s.spawn(move || asked(all, cases, seed, part));
+        let threads: Vec<_> = (0..THREADS).map(asking).collect();
         for (part, thread) in threads.into_iter().enumerate() {
             for (i, one) in thread.join().expect("a thread").into_iter().enumerate() {
                 seen[part + THREADS * i] = one;
             }
         }
     });
-    let mut missing = 0;
-    for ((unit, s), sample) in all.iter().zip(&seen).zip(&samples) {
-        let more = if s.cases >= ENOUGH { "+" } else { "" };
-        let first = if s.cases == 0 {
-            "no case saw it"
-        } else {
-            &s.first
-        };
-        let sample = match sample {
-            Some(at) => at,
-            None if s.cases == 0 => "none",
-            None => {
-                missing += 1;
-                "NO SAMPLE"
-            }
-        };
-        println!(
-            "{:>4} {:>5}{more:1} {} ({first}): {sample}",
-            unit.number,
-            s.cases,
-            unit.name()
-        );
-    }
-    let of = |test: &dyn Fn(usize) -> bool| {
-        let mut numbers: Vec<u32> = (0..all.len())
-            .filter(|&i| test(i))
-            .map(|i| all[i].number)
-            .collect();
-        numbers.dedup();
-        numbers.len()
+    seen
+}
+
+/// Prints a unit: the cases that saw it, its words, the first case, and the sample. Whether a case tells it apart and no sample.
+fn print(unit: &Unit, seen: &Seen, sample: &Option<String>) -> bool {
+    let more = if seen.cases >= ENOUGH { "+" } else { "" };
+    let (first, absent) = match seen.cases {
+        0 => ("no case saw it", "none"),
+        _ => (&seen.first[..], "NO SAMPLE"),
     };
-    let (mistakes, by_cases) = (of(&|_| true), of(&|i| seen[i].cases > 0));
+    let at = sample.as_deref().unwrap_or(absent);
+    let (number, words) = (unit.number, unit.name());
     println!(
-        "{by_cases} of {mistakes} planted mistakes told apart in {cases} cases of seed {seed}"
+        "{number:>4} {:>5}{more:1} {words} ({first}): {at}",
+        seen.cases
     );
-    println!(
-        "{} of {mistakes} told apart by a sample",
-        of(&|i| samples[i].is_some())
-    );
+    sample.is_none() && seen.cases > 0
+}
+
+/// How many mistakes have a unit for which the test holds.
+fn mistakes(all: &[Unit], test: impl Fn(usize) -> bool) -> usize {
+    let held = all.iter().enumerate().filter(|(i, _)| test(*i));
+    let mut numbers: Vec<u32> = held.map(|(_, unit)| unit.number).collect();
+    numbers.dedup();
+    numbers.len()
+}
+
+/// Prints every unit. Whether all is as it should be: every mistake seen, each unit that a case saw told apart by a sample, and
+/// the table as it would be written.
+pub fn coverage(dir: &Path, words: &Path, cases: u64, seed: u64) -> bool {
+    std::panic::set_hook(Box::new(|_| {}));
+    let all = units();
+    let samples = found(&load(dir), &all);
+    let seen = seen_by(&all, cases, seed);
+    let mut missing = 0;
+    for ((unit, seen), sample) in all.iter().zip(&seen).zip(&samples) {
+        missing += u64::from(print(unit, seen, sample));
+    }
+    let total = mistakes(&all, |_| true);
+    let by_cases = mistakes(&all, |i| seen[i].cases > 0);
+    let by_samples = mistakes(&all, |i| samples[i].is_some());
+    println!("{by_cases} of {total} planted mistakes told apart in {cases} cases of seed {seed}");
+    println!("{by_samples} of {total} told apart by a sample");
     println!("{missing} lines where a case tells apart and no sample does");
     let kept = std::fs::read_to_string(words).unwrap_or_default() == table(&all, &samples);
     if !kept {
         println!("{} is not as `run cover` would write it", words.display());
     }
-    by_cases == mistakes && missing == 0 && kept
+    by_cases == total && missing == 0 && kept
 }

@@ -233,10 +233,9 @@ const FAULTS: [(u8, fn(&mut Query)); 7] = [
     (13, |q| q.variants = vec![(9, 0.5)]),
 ];
 
-/// Each refusal from 11 to 15 alone, in a room of none, with every one behind it, and over a contour that is not finite.
-fn meetings(all: &mut Asking) {
+/// A pack of three tones, whose third has nothing at the end of a phrase.
+fn gapped() -> Vec<u8> {
     let mut p = pack(3, 1);
-    // The third tone has nothing at the end of a phrase.
     p.tones[2].knots.clear();
     p.accents[0].rules = vec![Rule {
         tone: 3,
@@ -244,39 +243,30 @@ fn meetings(all: &mut Asking) {
         fin: 1,
         ..rule(0, 2, 1)
     }];
-    let p = p.bytes();
+    p.bytes()
+}
+
+/// Each refusal from 11 to 15 alone, in a room of none, with every one behind it, and over a contour that is not finite.
+fn meetings(all: &mut Asking) {
+    let p = gapped();
     let sheet = reference::write_sheet(&p).expect("a pack that loads");
-    let mut ask = |number: u8, query: &[u8], room: Option<usize>| {
-        all.lend(number, JUDGE, &p, query, room);
-        all.lend(number, JUDGE_SHEET, &sheet, query, room);
+    let mut ask = |number: u8, room: Option<usize>, changes: &[&dyn Fn(&mut Query)]| {
+        let query = of(|q| changes.iter().for_each(|change| change(q)));
+        all.lend(number, JUDGE, &p, &query, room);
+        all.lend(number, JUDGE_SHEET, &sheet, &query, room);
     };
-    for (i, &(number, fault)) in FAULTS.iter().enumerate() {
-        ask(number, &of(fault), None);
-        ask(number, &of(fault), Some(0));
+    for (i, (number, fault)) in FAULTS.iter().enumerate() {
+        ask(*number, None, &[fault]);
+        ask(*number, Some(0), &[fault]);
         // The later one first: 15 and a variant's 13 are both in the variants, and 15 shall stay.
-        for &(_, later) in &FAULTS[i + 1..] {
-            ask(
-                number,
-                &of(|q| {
-                    later(q);
-                    fault(q)
-                }),
-                None,
-            );
+        for (_, later) in &FAULTS[i + 1..] {
+            ask(*number, None, &[later, fault]);
         }
-        // 11 is before the contour.
         for floor in [f32::NAN, f32::NEG_INFINITY] {
-            ask(
-                number,
-                &of(|q| {
-                    fault(q);
-                    q.floor = floor
-                }),
-                None,
-            );
+            ask(*number, None, &[fault, &move |q| q.floor = floor]);
         }
     }
-    ask(0, &of(|q| q.floor = f32::NAN), None);
+    ask(0, None, &[&|q| q.floor = f32::NAN]);
 }
 
 /// Single steps: minimum and maximum of every pair of some numbers, and grids of small whole numbers, whose pivots are often
