@@ -127,20 +127,14 @@ fn pair_so(x: f64, y: f64, bytes: &[u8]) -> bool {
         & (bits_of_f32(tonekit_float::max_f32(a, b)) == u32_at(bytes, 20, 0))
 }
 
-// Whether minimum and maximum of pairs are as recorded.
+// Whether minimum and maximum of a pair are as recorded.
 pub fn picked(input: &[u8], number: u8, place: u32, bytes: &[u8]) -> bool {
-    let n = input.len() / 16;
-    if !recorded(24 * n, number, place, bytes) {
+    if !recorded(24, number, place, bytes) {
         return false;
     }
-    for i in 0..n {
-        let x = f64_at(input, 16 * i);
-        let y = f64_at(input, 16 * i + 8);
-        if !pair_so(x, y, &bytes[24 * i..]) {
-            return false;
-        }
-    }
-    input.len() % 16 == 0
+    let x = f64_at(input, 0);
+    let y = f64_at(input, 8);
+    (input.len() == 16) & pair_so(x, y, bytes)
 }
 
 // A row of the fit's grid, from an index on.
