@@ -1,5 +1,5 @@
 -- What `write_shape` and `write_sheet` write has room in what their programs lend: 124 bytes, and 13,266. Assumes nothing.
-use Prim.Native.Nat.{ℕ, _≤_}
+use Prim.Native.Nat.{ℕ}
 use mathlib.Core.Bool.{Bool, true, false, cond}
 use mathlib.Core.Path.{_≡_, refl}
 use mathlib.Core.List.{List}

@@ -1,7 +1,7 @@
 -- What a program writes on standard output: the bytes that a call makes of its input, or of a refusal "52, number, u32 place" (document 01, Bench cases).
 use Prim.Native.Nat.{ℕ}
 use mathlib.Core.Path.{_≡_}
-use mathlib.Core.List.{List, [], _∷_, _++_}
+use mathlib.Core.List.{List, _∷_, _++_}
 use lib.ListN.{length, drop}
 use lib.Seq.{sets}
 use Rattle.tonekit_core.specs.Calls.{Outcome, written, refused}

@@ -1,11 +1,7 @@
 -- `tell` meets its contract: of a refusal the record is put at the front. Assumes nothing.
 use mathlib.Core.Path.{refl, _∙_, ap}
-use mathlib.Core.List.{List}
-use Prim.Native.Nat.{ℕ}
 use borrow.Author.Needs.{needs}
 use lib.Seq.{sets}
-use Rattle.tonekit_core.specs.declared.Answer.{Answer}
-use Rattle.tonekit_report.specs.Report.{toldCount, toldBuffer}
 use Rattle.tonekit_report.proofs.tell.Statement.{statement}
 use Rattle.tonekit_report.proofs.tell.Tie as tie
 

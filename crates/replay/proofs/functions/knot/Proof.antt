@@ -1,5 +1,4 @@
 -- `knot` meets its contract: the two comparisons. Assumes nothing.
-use borrow.Author.Needs.{needs}
 use mathlib.Core.Path.{sym, subst}
 use lib.Dec.{T}
 use lib.Ieee.{ofBits, neg, le}
