@@ -46,7 +46,7 @@ int main(int count, char **names)
     printf("expected tone %d, heard %d, log-likelihood ratio %.4f\n", record[TONEKIT_EXPECTED], record[TONEKIT_HEARD],
            f32_at(record + TONEKIT_LLR));
     if (record[TONEKIT_DISTANCED])
-        printf("nearest curve: accent %d, form %d, label %d, part %d, distance %.4f\n", record[TONEKIT_OWNER], record[TONEKIT_FORM],
+        printf("best curve: accent %d, form %d, label %d, part %d, distance %.4f\n", record[TONEKIT_OWNER], record[TONEKIT_FORM],
                record[TONEKIT_LABEL] | record[TONEKIT_LABEL + 1] << 8, record[TONEKIT_PART], f32_at(record + TONEKIT_DISTANCE));
     for (int i = 0; i < record[TONEKIT_DELTAS]; i++)
         printf("delta of kind %d by %.4f\n", record[TONEKIT_DELTAS + 1 + 5 * i], f32_at(record + TONEKIT_DELTAS + 2 + 5 * i));

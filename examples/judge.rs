@@ -42,7 +42,7 @@ fn main() {
             if r[39] == 1 {
                 let label = u16::from_le_bytes([r[46], r[47]]);
                 let distance = f32_at(40);
-                println!("nearest curve: accent {}, form {}, label {label}, part {}, distance {distance:.4}", r[44], r[45], r[48]);
+                println!("best curve: accent {}, form {}, label {label}, part {}, distance {distance:.4}", r[44], r[45], r[48]);
             }
             for i in 0..usize::from(r[50]) {
                 println!("delta of kind {} by {:.4}", r[51 + 5 * i], f32_at(52 + 5 * i));
