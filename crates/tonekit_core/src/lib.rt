@@ -47,7 +47,7 @@ pub enum Answer {
 }
 
 // A caveat of a measurement, as in the Rust.
-#[derive(Drop)]
+#[derive(Clone, Copy)]
 pub enum MeasureIssue {
     Unvoiced,
     LowSnr,

@@ -191,8 +191,8 @@ pub fn total_le(a: f64, b: f64) -> bool
 // The whole part of x. The caller has tested that x is not negative and is below 2^53: no index
 // stands for any other float.
 pub fn floor_index(x: f64) -> usize
-    requires t { T (Ieee.le (fin false 0 (pos 0)) x) }
-    requires t_2 { T (Ieee.lt x (fin false 1 (pos 53))) }
+    requires low { T (Ieee.le (fin false 0 (pos 0)) x) }
+    requires high { T (Ieee.lt x (fin false 1 (pos 53))) }
     ensures { result ≡ whole_part x }
 {
     std::num::truncating_f64_to_u64(x) as usize
