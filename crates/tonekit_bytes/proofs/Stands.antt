@@ -76,8 +76,8 @@ f32_back {s} {o} x h w =
 -- each of a run of floats
 pub floats_stand : {s : List ℕ} {o : ℕ} (xs : List Float) (k : ℕ) → k < length xs → Stands s o (f32s_bytes xs) → Stands s (o + f32_size * k) (f32_bytes (get_or xs k nan))
 unfolding f32s_bytes
-floats_stand [] k h w = absurd (not-suc-le-zero h)
-floats_stand (x ∷ xs) zero h w = stands_at (f32_bytes x) (stands_first (f32_bytes x) (f32s_bytes xs) w) (omega arith)
-floats_stand {s} {o} (x ∷ xs) (suc k) h w =
+floats_stand {o = o} [] k h w = absurd (not-suc-le-zero h)
+floats_stand {o = o} (x ∷ xs) zero h w = stands_at (f32_bytes x) (stands_first (f32_bytes x) (f32s_bytes xs) w) (omega arith)
+floats_stand {s = s} {o = o} (x ∷ xs) (suc k) h w =
     stands_at (f32_bytes (get_or xs k nan))
-    (floats_stand xs k (le_of_suc-le-suc h) (stands_then (f32_bytes x) (f32s_bytes xs) (o + f32_size) (omega arith) w)) (omega arith)
+    (floats_stand {o = o + f32_size} xs k (le_of_suc-le-suc h) (stands_then (f32_bytes x) (f32s_bytes xs) (o + f32_size) (omega arith) w)) (omega arith)

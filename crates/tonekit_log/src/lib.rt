@@ -50,8 +50,8 @@ fn fields(x: f64) -> Parts
 
 // A subnormal is scaled by 2^54 first, and e lowered by 54.
 fn scaled(x: f64) -> Parts
-    requires t { T (Ieee.lt x (Ieee.inf false)) }
-    requires t_2 { T (Ieee.lt (Ieee.fin false 0 (pos 0)) x) }
+    requires high { T (Ieee.lt x (Ieee.inf false)) }
+    requires low { T (Ieee.lt (Ieee.fin false 0 (pos 0)) x) }
     ensures { result ≡ scaled x }
 {
     if x < 2.2250738585072014e-308 {
@@ -134,8 +134,8 @@ fn exp_series(r: f64) -> f64
 
 // How far below 0 the whole number at or below t is, for a t from -1022 up and below 0.
 fn depth(t: f64) -> u64
-    requires t { T (Ieee.lt t (Ieee.fin false 0 (pos 0))) }
-    requires t_2 { T (Ieee.le (Ieee.fin true 511 (pos 1)) t) }
+    requires high { T (Ieee.lt t (Ieee.fin false 0 (pos 0))) }
+    requires low { T (Ieee.le (Ieee.fin true 511 (pos 1)) t) }
     ensures { (floor_of t ≡ neg_ℤ (pos result)) × (0 < result) × (result ≤ 1022) }
 {
     let y = -t;

@@ -74,8 +74,8 @@ fn raised(x: u64) -> Scaled
 
 // The root of an x above 0 and below infinity.
 fn root_above(x: f64) -> f64
-    requires t { T (Ieee.lt (Ieee.fin false 0 (pos 0)) x) }
-    requires t_2 { T (Ieee.lt x (Ieee.inf false)) }
+    requires low { T (Ieee.lt (Ieee.fin false 0 (pos 0)) x) }
+    requires high { T (Ieee.lt x (Ieee.inf false)) }
     ensures { result ≡ root_of x }
 {
     let b = f64::to_bits(x);

@@ -1,8 +1,8 @@
 use native.Mathlib.Omega.{arith}
-use mathlib.Core.Logic.{⊎_elim}
 use Rattle.tonekit_decimal.proofs.Turns.{most_taken, most_left, most_end}
 use borrow.Author.Rules.{rules}
 use Rattle.tonekit_decimal.proofs.at_most.Goals as goal
+use Rattle.tonekit_decimal.proofs.at_most.Goals.{then-wide-borrow, else-wide-borrow}
 
 pub loop-i-preserved : goal.loop-i-preserved
 loop-i-preserved c =
@@ -13,11 +13,10 @@ loop-i-preserved c =
       omega arith,
       l.invariant.1,
       l.invariant.2,
-      ⊎_elim (λ w. omega arith) (λ w. omega arith) c.if-wide-borrow.branch,
-      ⊎_elim
-          (λ w. rw w.1 (most_taken l.borrow x.result y.result a.a.now a.b.now l.i _ (omega arith) (omega arith) w.0.taken x.ensures.0 y.ensures.0 l.invariant.4))
-          (λ w. rw w.1 (most_left l.borrow x.result y.result a.a.now a.b.now l.i _ (omega arith) (omega arith) w.0.left x.ensures.0 y.ensures.0 l.invariant.4))
-          c.if-wide-borrow.branch,
+      elim c.if-wide-borrow.branch [ then-wide-borrow w ↦ omega arith | else-wide-borrow w ↦ omega arith ],
+      elim c.if-wide-borrow.branch [
+          then-wide-borrow w ↦ rw w.borrow-is (most_taken l.borrow x.result y.result a.a.now a.b.now l.i _ (omega arith) (omega arith) w.if-wide-borrow.true x.ensures.0 y.ensures.0 l.invariant.4)
+          | else-wide-borrow w ↦ rw w.borrow-is (most_left l.borrow x.result y.result a.a.now a.b.now l.i _ (omega arith) (omega arith) w.if-wide-borrow.false x.ensures.0 y.ensures.0 l.invariant.4) ],
     )
 
 pub returns : goal.returns

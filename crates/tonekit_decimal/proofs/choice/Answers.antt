@@ -3,11 +3,11 @@ use Rattle.tonekit_decimal.proofs.choice.Goals as goal
 
 pub returns-then-at_most : goal.returns-then-at_most
 unfolding choice_in
-returns-then-at_most c = simp (c.if-at_most.true, ← c.at_most_lem.ensures, ← c.scale-both.ensures.1, ← c.scale-twice.ensures.1, c.if-upper.true, c.if-reads.true, ← c.reads.ensures, ← c.reads-upper.ensures, ← c.scale-up.ensures.1, ← c.scale-down.ensures.1)
+returns-then-at_most c = simp (c.if-at_most.true, ← c.at_most.ensures, ← c.scale-both.ensures.1, ← c.scale-twice.ensures.1, c.if-upper.true, c.if-reads.true, ← c.reads.ensures, ← c.reads-upper.ensures, ← c.scale-up.ensures.1, ← c.scale-down.ensures.1)
 
 pub returns-then-upper : goal.returns-then-upper
 unfolding choice_in
-returns-then-upper c = simp (c.if-at_most.false, ← c.at_most_lem.ensures, ← c.scale-both.ensures.1, ← c.scale-twice.ensures.1, c.if-upper.true, c.if-reads.true, ← c.reads.ensures, ← c.reads-upper.ensures, ← c.scale-up.ensures.1, ← c.scale-down.ensures.1)
+returns-then-upper c = simp (c.if-at_most.false, ← c.at_most.ensures, ← c.scale-both.ensures.1, ← c.scale-twice.ensures.1, c.if-upper.true, c.if-reads.true, ← c.reads.ensures, ← c.reads-upper.ensures, ← c.scale-up.ensures.1, ← c.scale-down.ensures.1)
 
 pub returns-then-reads : goal.returns-then-reads
 unfolding choice_in

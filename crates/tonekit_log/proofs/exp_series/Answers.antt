@@ -1,0 +1,9 @@
+-- `tonekit_log::exp_series` meets its contract: its thirteen lines are the definition's thirteen steps. Assumes nothing.
+use Rattle.std.proofs.Common.{refl}
+use lib.Ieee.{of_bits, of_int}
+use Rattle.tonekit_log.specs.Exp.{exp_series, steps}
+use Rattle.tonekit_log.proofs.exp_series.Goals as goal
+
+pub returns : goal.returns
+unfolding exp_series steps of_int of_bits
+returns c = refl

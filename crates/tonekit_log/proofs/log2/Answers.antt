@@ -1,0 +1,42 @@
+-- `tonekit_log::log2` meets its contract. Assumes nothing.
+use Rattle.std.proofs.Common.{◌≡◌, T, sym, ap, ◌∙◌, subst, rules}
+use lib.Ieee.{Float, fits, binary64, add, mul, of_bits, div, neg}
+use Rattle.tonekit_float.proofs.Signs.{positive, limited}
+use Rattle.tonekit_log.specs.Constants.{LOG2E}
+use Rattle.tonekit_log.specs.Log.{log2_at, centred, scaled}
+use Rattle.tonekit_log.proofs.LogCases.{at_number, at_infinity, at_zero, at_nan, log2_is}
+use Rattle.tonekit_log.proofs.log2.Goals as goal
+use Rattle.tonekit_log.proofs.log2.Goals.{Start}
+
+held : (c : Start) → T (fits binary64 c.args.x)
+held c = subst T (sym c.well-formed.0.1) tt
+
+pub scaled-requires : goal.scaled-requires
+scaled-requires c = (limited c.args.x c.if-x-2.true, positive c.args.x c.if-x.true)
+
+pub centred-p-requires : goal.centred-p-requires
+centred-p-requires c = search rules
+
+pub log_series-requires : goal.log_series-requires
+log_series-requires c = search rules
+
+pub returns-then-x-2 : goal.returns-then-x-2
+unfolding log2_at
+returns-then-x-2 c =
+    let x = c.args.x in
+    let p = c.centred-p.result in
+    let is : p ≡ centred (scaled x) = c.centred-p.ensures ∙ ap centred c.scaled.ensures in
+    ap (λ (y : Float). add binary64 p.e (mul binary64 y LOG2E)) c.log_series.ensures
+    ∙ ap log2_at is
+    ∙ sym (log2_is x ∙ at_number log2_at x (held (goal.at.returns-then-x-2 c).Start) (positive x c.if-x.true) (limited x c.if-x-2.true))
+
+pub returns-else-x-2 : goal.returns-else-x-2
+returns-else-x-2 c = let x = c.args.x in at_infinity log2_at x c.if-x.true c.if-x-2.false ∙ sym (log2_is x)
+
+pub returns-then-x-3 : goal.returns-then-x-3
+unfolding of_bits div neg
+returns-then-x-3 c = let x = c.args.x in at_zero log2_at x c.if-x-3.true ∙ sym (log2_is x)
+
+pub returns-else-x-3 : goal.returns-else-x-3
+unfolding of_bits div
+returns-else-x-3 c = let x = c.args.x in at_nan log2_at x c.if-x.false c.if-x-3.false ∙ sym (log2_is x)

@@ -1,0 +1,9 @@
+-- `tonekit_log::log_series` meets its contract: its eleven lines are the definition's eleven steps. Assumes nothing.
+use Rattle.std.proofs.Common.{refl}
+use lib.Ieee.{of_bits, of_int}
+use Rattle.tonekit_log.specs.Log.{series, steps}
+use Rattle.tonekit_log.proofs.log_series.Goals as goal
+
+pub returns : goal.returns
+unfolding series steps of_int of_bits
+returns c = refl
