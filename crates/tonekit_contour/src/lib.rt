@@ -5,7 +5,7 @@ ghost use Rattle.tonekit_contour.specs.Position.{position};
 ghost use Rattle.tonekit_contour.specs.Turning.{greatest, near, first_near, last_near, extremum, stands, chosen, turning_point};
 
 // Where a curve turns, as a fraction of its length; or nowhere.
-#[derive(Drop)]
+#[derive(Clone, Copy)]
 pub enum Turning {
     At(f64),
     Nowhere,

@@ -6,7 +6,7 @@ pub mod layout;
 pub mod limits;
 
 // Why an input or a query is turned back: the words of document 01's table, in its order.
-#[derive(Drop)]
+#[derive(Clone, Copy)]
 pub enum Refusal {
     Misplaced,
     CutShort,
@@ -62,7 +62,7 @@ pub enum MeasureIssue {
 }
 
 // Advice direction, as in the Rust.
-#[derive(Drop)]
+#[derive(Clone, Copy)]
 pub enum DeltaKind {
     StartHigher,
     StartLower,

@@ -8,7 +8,7 @@ use tonekit_score::Tolerance;
 use tonekit_shape::ToneShape;
 
 // Advice: its size in units of the tolerance, its kind and its amount; `some` is false for none.
-#[derive(Drop)]
+#[derive(Clone, Copy)]
 pub struct Delta {
     pub some: bool,
     pub z: f64,
@@ -17,7 +17,7 @@ pub struct Delta {
 }
 
 // The two largest so far, in order.
-#[derive(Drop)]
+#[derive(Clone, Copy)]
 pub struct Deltas {
     pub first: Delta,
     pub second: Delta,

@@ -29,7 +29,7 @@ pub enum Winner {
 
 // A context, by the numbers of its accent, tone and previous tone (0 none), and 1 at the end of a
 // phrase.
-#[derive(Drop)]
+#[derive(Clone, Copy)]
 pub struct Context {
     pub accent: u8,
     pub tone: u8,
@@ -38,7 +38,7 @@ pub struct Context {
 }
 
 // The curves of a context: owner, form, label, and how many components stand at an offset.
-#[derive(Drop)]
+#[derive(Clone, Copy)]
 pub struct Listing {
     pub owner: u8,
     pub form: u8,

@@ -29,7 +29,7 @@ pub struct Ranking {
 // What is judged against, tone by tone in pack order: numbers, priors, regions, and the looked-up
 // components, of which tone t has `counts[t]`, in the slots from 4 * t on. A slot has a weight and
 // ten points.
-#[derive(Drop)]
+#[derive(Clone, Copy)]
 pub struct Inventory {
     pub tones: usize,
     pub numbers: [u8; 8],
@@ -51,7 +51,7 @@ pub struct Targets {
 }
 
 // A judgement, as in the Rust; absent fields are 0.
-#[derive(Drop)]
+#[derive(Clone, Copy)]
 pub struct ToneJudgement {
     pub loglik: [f32; 8],
     pub llr: f32,

@@ -9,7 +9,7 @@ pub mod read;
 use tonekit_core::{Checked, Refusal, Verdict, layout};
 
 // What was read of a pack: how many of each, and the offsets of the records.
-#[derive(Drop)]
+#[derive(Clone, Copy)]
 pub struct Pack {
     pub last: u8,
     pub tones: usize,
@@ -24,7 +24,7 @@ pub struct Pack {
 }
 
 // The answer of the reader: where the pack ends, or why it is none and where.
-#[derive(Drop)]
+#[derive(Clone, Copy)]
 pub enum PackRead {
     Good(usize),
     Refused(Refusal, usize),

@@ -11,7 +11,7 @@ use tonekit_bytes::{byte_at, f32_at, u16_at, u32_at};
 use tonekit_core::{Checked, Refusal, Verdict, layout, limits};
 
 // What the fixed record of a query says. Any accent, tone, span or register may stand in it.
-#[derive(Drop)]
+#[derive(Clone, Copy)]
 pub struct Query {
     pub accent: u8,
     pub tone: u8,

@@ -11,7 +11,7 @@ use tonekit_core::MeasureIssue;
 use tonekit_shape::ToneShape;
 
 // Gaussian scales of the graded accent, before any widening.
-#[derive(Drop)]
+#[derive(Clone, Copy)]
 pub struct Tolerance {
     pub contour: f32,
     pub onset: f32,
@@ -20,7 +20,7 @@ pub struct Tolerance {
 }
 
 // Where in a tone missing pitch is not penalised; `flag` is 0 where nowhere.
-#[derive(Drop)]
+#[derive(Clone, Copy)]
 pub struct Region {
     pub flag: u8,
     pub from: f32,
@@ -28,7 +28,7 @@ pub struct Region {
 }
 
 // How a call's issues, the graded accent and the pack's settings change scoring.
-#[derive(Drop)]
+#[derive(Clone, Copy)]
 pub struct Scoring {
     pub widen: f64,
     pub contour: bool,
@@ -40,7 +40,7 @@ pub struct Scoring {
 }
 
 // A running log-sum-exp: the greatest score and the running sum.
-#[derive(Drop)]
+#[derive(Clone, Copy)]
 pub struct LogSumExp {
     pub max: f64,
     pub sum: f64,
@@ -48,7 +48,7 @@ pub struct LogSumExp {
 
 // Either a scored mixture, with its log-likelihood, the index of its best component and that one's
 // squared distance; or nothing to score.
-#[derive(Drop)]
+#[derive(Clone, Copy)]
 pub enum Mixture {
     Scored(f64, usize, f64),
     Nothing,

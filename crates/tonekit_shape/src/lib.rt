@@ -34,7 +34,7 @@ pub struct Extent {
 }
 
 // A syllable's shape, as in the Rust; `turns` is 0 where it has no turning point.
-#[derive(Drop)]
+#[derive(Clone, Copy)]
 pub struct ToneShape {
     pub contour: [f32; 10],
     pub weights: [f32; 10],

@@ -27,14 +27,14 @@ use tonekit_expect::{Listing, Look, look_up};
 use tonekit_pack::Pack;
 
 // A pack's accents in ascending order: how many, and their offsets.
-#[derive(Drop)]
+#[derive(Clone, Copy)]
 pub struct Sorted {
     pub count: usize,
     pub at: [u16; 8],
 }
 
 // How many lists a plan has, and how many entries its memo.
-#[derive(Drop)]
+#[derive(Clone, Copy)]
 pub struct Counts {
     pub lists: usize,
     pub known: usize,

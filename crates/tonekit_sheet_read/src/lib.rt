@@ -11,7 +11,7 @@ use tonekit_expect::Found;
 
 // What was read of a sheet: how many of each, and the offsets of the lists. Tones, accents and rows
 // stand one behind the other after the settings.
-#[derive(Drop)]
+#[derive(Clone, Copy)]
 pub struct Sheet {
     pub last: u8,
     pub tones: usize,
@@ -24,7 +24,7 @@ pub struct Sheet {
 }
 
 // The answer of the reader: where the sheet ends, or why it is none and where.
-#[derive(Drop)]
+#[derive(Clone, Copy)]
 pub enum SheetRead {
     Good(usize),
     Refused(Refusal, usize),

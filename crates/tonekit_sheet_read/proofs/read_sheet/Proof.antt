@@ -34,7 +34,7 @@ loop_again : tie.Need-loop-preserved invariant-loop decreases-loop
 loop_again c =
     let l = c.before.before.before.before.before.before.before.before.loop in
     let v = sym c.before.before.before.before.before.before.before.record-verdict.ensures ∙ c.before.before.before.before.before.enum_told.given.1 in
-    rw c.type_size.ensures (goes _ l.st l.at l.invariant v _ c.before.before.before.if1.false (rw c.before.before.byte_at.ensures at c.before.add.ensures.0) c.before.add.ensures.1)
+    rw c.size_of.ensures (goes _ l.st l.at l.invariant v _ c.before.before.before.if1.false (rw c.before.before.byte_at.ensures at c.before.add.ensures.0) c.before.add.ensures.1)
 
 loop-holds : tie.Need-loop-init invariant-loop decreases-loop
 unfolding read_sheet

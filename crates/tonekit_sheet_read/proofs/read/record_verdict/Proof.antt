@@ -20,13 +20,13 @@ returns-3 : tie.Need-returns-3
 unfolding record_verdict
 returns-3 c =
     let a = c.before.before.before.before.before.before.before.args in
-    simp (lt-ltb (length a.s.now) (a.o + c.before.type_size.result) (omega arith), ← c.before.type_size.ensures, c.before.before.if2.false, ← c.before.before.before.due-next.ensures, lt-leb _ _ c.before.before.before.before.before.if1.false)
+    simp (lt-ltb (length a.s.now) (a.o + c.before.size_of.result) (omega arith), ← c.before.size_of.ensures, c.before.before.if2.false, ← c.before.before.before.due-next.ensures, lt-leb _ _ c.before.before.before.before.before.if1.false)
 
 returns-4 : tie.Need-returns-4
 unfolding record_verdict
 returns-4 c =
     let a = c.before.before.before.before.before.before.before.before.args in
-    simp (← c.body-verdict.ensures, le-ltb (length a.s.now) (a.o + c.before.before.type_size.result) (omega arith), ← c.before.before.type_size.ensures, c.before.before.before.if2.false, ← c.before.before.before.before.due-next.ensures, lt-leb _ _ c.before.before.before.before.before.before.if1.false)
+    simp (← c.body-verdict.ensures, le-ltb (length a.s.now) (a.o + c.before.before.size_of.result) (omega arith), ← c.before.before.size_of.ensures, c.before.before.before.if2.false, ← c.before.before.before.before.due-next.ensures, lt-leb _ _ c.before.before.before.before.before.before.if1.false)
 
 pub record-verdict-spec : {M : Type 1} → statement M
 record-verdict-spec =

@@ -1,0 +1,8 @@
+use mathlib.Core.Path.{◌≡◌}
+use Prim.Native.Nat.{◌≤◌}
+use Rattle.tonekit_core.specs.Loop.{range}
+use Rattle.tonekit_pack.specs.Ranges.{slot_turn, knots_fine}
+use Rattle.tonekit_pack.proofs.ranges.knots_fine.Given as goal
+
+abbrev pub invariant-loop-k : goal.invariant-loop-k
+invariant-loop-k l = (l.k ≤ 10) × (range (slot_turn l.s l.o l.n) l.k 10 l.ok ≡ knots_fine l.s l.o l.n)
