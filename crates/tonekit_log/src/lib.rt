@@ -1,5 +1,7 @@
 // The natural and the binary logarithm, and the exponential, each for every f64: single f64
 // operations, each rounded once, in a fixed order.
+#![tactic(auto)]
+
 ghost use Rattle.std.specs.Prelude.{◌≡◌, ◌<◌, ◌≤◌, true, false, not, T, pos, neg_ℤ};
 ghost use Rattle.std.specs.Float.Ieee as Ieee;
 ghost use Rattle.tonekit_log.specs.Log.{series, fields, scaled, centred, ln_of, log2_of};

@@ -8,7 +8,9 @@ known : (c : Start) → Deep c.args.t
 known c = deep c.args.t c.requires.high c.requires.low
 
 pub truncating_f64_to_u64-u-requires : goal.truncating_f64_to_u64-u-requires
-truncating_f64_to_u64-u-requires c = asks c.args.t (known c)
+truncating_f64_to_u64-u-requires c =
+    let both = asks c.args.t (known (goal.at.truncating_f64_to_u64-u-requires c).Start) in
+    record { lower_bound = both.0; upper_bound = both.1 }
 
 pub nearest_u64_to_f64-requires : goal.nearest_u64_to_f64-requires
 nearest_u64_to_f64-requires c = search rules

@@ -21,7 +21,7 @@ within c = inside c.args.v (number c) c.if-v-2.false c.if-v-3.false
 
 up : (c : Else-t) → Up (turns c.args.v)
 unfolding of_bits
-up c = upward c.args.v (within (goal.at.up c).Else-v-3) (no c.if-t.false)
+up c = upward c.args.v (within c.before) (no c.if-t.false)
 
 pub returns-then-v : goal.returns-then-v
 returns-then-v c = nan_result c.args.v (ne_self c.args.v ∙ c.if-v.true)
@@ -37,7 +37,7 @@ returns-then-v-3 c = high_result c.args.v (ne_self c.args.v ∙ c.if-v.false) c.
 pub depth-n-requires : goal.depth-n-requires
 unfolding of_bits
 depth-n-requires c =
-    (yes c.if-t.true, no_deeper c.args.v (within (goal.at.depth-n-requires c).Else-v-3))
+    record { high = yes c.if-t.true; low = no_deeper c.args.v (within (goal.at.depth-n-requires c).Else-v-3) }
 
 pub nearest_u64_to_f64-requires : goal.nearest_u64_to_f64-requires
 nearest_u64_to_f64-requires c = search rules
@@ -55,7 +55,8 @@ pub float_from_bits-result : goal.float_from_bits-result
 float_from_bits-result c = below_inf ((1023 - c.depth-n.result) * 2 ^ 52) (omega arith)
 
 pub truncating_f64_to_u64-n-requires : goal.truncating_f64_to_u64-n-requires
-truncating_f64_to_u64-n-requires c = ((up c).low, (up c).high)
+truncating_f64_to_u64-n-requires c =
+    let t = up (goal.at.truncating_f64_to_u64-n-requires c).Else-t in record { lower_bound = t.low; upper_bound = t.high }
 
 pub nearest_u64_to_f64-requires-else-t : goal.nearest_u64_to_f64-requires-else-t
 nearest_u64_to_f64-requires-else-t c = search rules

@@ -9,10 +9,10 @@ use Rattle.tonekit_log.proofs.log2.Goals as goal
 use Rattle.tonekit_log.proofs.log2.Goals.{Start}
 
 held : (c : Start) → T (fits binary64 c.args.x)
-held c = subst T (sym c.well-formed.0.1) tt
+held c = subst T (sym c.well_formed.0.1) tt
 
 pub scaled-requires : goal.scaled-requires
-scaled-requires c = (limited c.args.x c.if-x-2.true, positive c.args.x c.if-x.true)
+scaled-requires c = record { high = limited c.args.x c.if-x-2.true; low = positive c.args.x c.if-x.true }
 
 pub centred-p-requires : goal.centred-p-requires
 centred-p-requires c = search rules
