@@ -13,7 +13,7 @@ use Rattle.tonekit_root.proofs.root_above.Goals as goal
 use Rattle.tonekit_root.proofs.root_above.Goals.{Start}
 
 held : (c : Start) → T (fits binary64 c.args.x)
-held c = subst T (sym c.well-formed.0.1) tt
+held c = subst T (sym c.well_formed.0.1) tt
 
 known : (c : Start) → Above c.args.x
 known c = above c.args.x (held c) c.requires.low c.requires.high
@@ -27,7 +27,7 @@ normal c h =
     next n h = omega arith
 
 pub float_to_bits-b : goal.float_to_bits-b
-float_to_bits-b c = (known c).number
+float_to_bits-b c = (known (goal.at.float_to_bits-b c).Start).number
 
 pub raised-s-requires : goal.raised-s-requires
 raised-s-requires c =

@@ -6,7 +6,7 @@ use Rattle.tonekit_float.proofs.Signs.{positive, limited}
 use Rattle.tonekit_root.proofs.sqrt.Goals as goal
 
 pub root_above-requires : goal.root_above-requires
-root_above-requires c = (positive c.args.x c.if-x.true, limited c.args.x c.if-x-2.true)
+root_above-requires c = record { low = positive c.args.x c.if-x.true; high = limited c.args.x c.if-x-2.true }
 
 pub returns-then-x-2 : goal.returns-then-x-2
 returns-then-x-2 c = search rules
