@@ -18,10 +18,10 @@ returns-then-byte_at-eq0 c = simp (c.in-Nothing.is, ← c.byte_at-in-Nothing.ens
 
 pub returns-in-Rule : goal.returns-in-Rule
 returns-in-Rule c =
-    let w = c.w-1.given in
-    let p = c.args.t2 in
-    let e = order_get p.accentat p.accents _ (c.requires.1 _ _ w.1).0 in
-    simp (w.1, e, ← c.byte_at.ensures, ← c.rule_listing.ensures)
+    let w = c.in-Rule.is in
+    let p = c.args.p in
+    let e = order_get p.accentat p.accents _ (c.requires.1 _ _ w).0 in
+    simp (w, e, ← c.byte_at.ensures, ← c.rule_listing.ensures)
 
 pub returns-else-byte_at-eq0 : goal.returns-else-byte_at-eq0
 returns-else-byte_at-eq0 c = simp (c.in-Nothing.is, ← c.byte_at-in-Nothing.ensures, ne_eqb _ _ c.if-byte_at-eq0.false)
