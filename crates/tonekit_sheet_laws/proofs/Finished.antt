@@ -46,15 +46,15 @@ module _ (s : List ℕ) (d : Out) (src : Source) (v : View) (fit : ViewFit src v
   st = read_to v lists last (length v.tones) (length v.accents) (rows_of v) (length lists) 0 total
 
   -- row r, where the reader looks for it
-  pub row_in : (r : ℕ) → row_in st r ≡ row_at v r
-  row_in r = rw (up_to_length tone_at (length v.tones), up_to_length (accent_at v) (length v.accents))
+  pub row_in_lem : (r : ℕ) → row_in st r ≡ row_at v r
+  row_in_lem r = rw (up_to_length tone_at (length v.tones), up_to_length (accent_at v) (length v.accents))
 
   -- its two list numbers
   pub first_number : (r : ℕ) → r < rows_of v → byte_at s (row_in st r + 4) ≡ number_in lists (v.row r 0)
-  first_number r h = ap (λ (o : ℕ). byte_at s (o + 4)) (row_in r) ∙ (row_read s d src v fit laid r h).first
+  first_number r h = ap (λ (o : ℕ). byte_at s (o + 4)) (row_in_lem r) ∙ (row_read s d src v fit laid r h).first
 
   pub final_number : (r : ℕ) → r < rows_of v → byte_at s (row_in st r + 5) ≡ number_in lists (v.row r 1)
-  final_number r h = ap (λ (o : ℕ). byte_at s (o + 5)) (row_in r) ∙ (row_read s d src v fit laid r h).final
+  final_number r h = ap (λ (o : ℕ). byte_at s (o + 5)) (row_in_lem r) ∙ (row_read s d src v fit laid r h).final
 
   -- ---- no row is loose
   number_there : (x n : ℕ) → x ≡ n → n ≤ length lists → zero_or_held s (up_to (list_at v lists) (length lists)) x ≡ true

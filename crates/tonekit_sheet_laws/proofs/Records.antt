@@ -117,11 +117,11 @@ bits_length (x ∷ xs) = omega (arith, bits_length xs)
 
 pub bits_there : {s : List ℕ} {o : ℕ} (xs : List ℕ) → Stands s o (bits_bytes xs) → (k : ℕ) → k < length xs → Bits (get_or xs k 0) → u32_at s (o + 4 * k) ≡ get_or xs k 0
 unfolding bits_bytes
-bits_there [] w k h b = absurd (omega arith)
-bits_there {s} {o} (x ∷ xs) w zero h b = field32 w 0 (omega arith) ∙ le32_back x b
-bits_there {s} {o} (x ∷ xs) w (suc k) h b =
+bits_there {o = o} [] w k h b = absurd (omega arith)
+bits_there {s = s} {o = o} (x ∷ xs) w zero h b = field32 w 0 (omega arith) ∙ le32_back x b
+bits_there {s = s} {o = o} (x ∷ xs) w (suc k) h b =
     let e : o + 4 * suc k ≡ o + 4 + 4 * k = omega arith in
-    rw e (bits_there xs (stands_then (le32 x) (bits_bytes xs) (o + 4) refl w) k (omega arith) b)
+    rw e (bits_there {o = o + 4} xs (stands_then (le32 x) (bits_bytes xs) (o + 4) refl w) k (omega arith) b)
 
 pub component_length : (c : Carried) → length c.points ≡ 10 → length (component_bytes c) ≡ 45
 component_length c t = omega (arith, bits_length c.points)
@@ -155,12 +155,12 @@ components_length (c ∷ cs) t =
 
 pub component_stands : {s : List ℕ} {o : ℕ} (cs : List Carried) → Ten cs → Stands s o (components_bytes cs) → (j : ℕ) → j < length cs → Stands s (o + 45 * j) (component_bytes (get_or cs j no_carried))
 unfolding components_bytes
-component_stands [] t w j h = absurd (omega arith)
-component_stands {s} {o} (c ∷ cs) t w zero h = let e : o + 45 * 0 ≡ o = omega arith in rw e (stands_first (component_bytes c) (components_bytes cs) w)
-component_stands {s} {o} (c ∷ cs) t w (suc j) h =
+component_stands {o = o} [] t w j h = absurd (omega arith)
+component_stands {s = s} {o = o} (c ∷ cs) t w zero h = let e : o + 45 * 0 ≡ o = omega arith in rw e (stands_first (component_bytes c) (components_bytes cs) w)
+component_stands {s = s} {o = o} (c ∷ cs) t w (suc j) h =
     let e : o + 45 * suc j ≡ o + 45 + 45 * j = omega arith in
     let l = component_length c (t 0 (omega arith)) in
-    rw e (component_stands cs (λ k b. t (suc k) (omega arith)) (stands_then (component_bytes c) (components_bytes cs) (o + 45) (omega arith) w) j (omega arith))
+    rw e (component_stands {o = o + 45} cs (λ k b. t (suc k) (omega arith)) (stands_then (component_bytes c) (components_bytes cs) (o + 45) (omega arith) w) j (omega arith))
 
 pub list_length : (n : ℕ) (cs : List Carried) → Ten cs → length (list_bytes n cs) ≡ 7 + 45 * length cs
 list_length n cs t = omega (arith, components_length cs t)
