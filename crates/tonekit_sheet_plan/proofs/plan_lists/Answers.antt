@@ -1,0 +1,52 @@
+use borrow.Author.Rules.{rules}
+use Prim.Native.Nat.{◌≤◌}
+use native.Mathlib.Omega.{arith}
+use mathlib.Core.Path.{sym}
+use lib.ListN.{length}
+use Rattle.tonekit_core.specs.Loop.{again, ended}
+use Rattle.tonekit_pack.specs.Held.{shown}
+use Rattle.tonekit_sheet.specs.Sheet.{lists_of}
+use Rattle.tonekit_sheet_fit.proofs.Fits.{fit_of_pack}
+use Rattle.tonekit_sheet_plan.specs.Rows.{pack_view}
+use Rattle.tonekit_sheet_plan.specs.Plans.{planned}
+use Rattle.tonekit_sheet_plan.proofs.Memo.{none_planned, sane_none}
+use Rattle.tonekit_sheet_plan.proofs.Views.{turn_room, lists_begun}
+use Rattle.tonekit_sheet_plan.proofs.plan_lists.Goals as goal
+use Rattle.tonekit_sheet_plan.proofs.plan_lists.Goals.{After-shared_slice_known-1}
+
+pub row_count-i-end-requires : goal.row_count-i-end-requires
+row_count-i-end-requires c = (c.requires.0.ordered.slots.few, c.requires.0.roomy.few_tones)
+
+pub loop-i-init : goal.loop-i-init
+loop-i-init c =
+    let a = c.args in (
+      search rules,
+      c.row_count-i-end.ensures.1,
+      sane_none a.s.now a.lists.now a.memo.now c.requires.1 c.requires.2,
+      lists_begun a.s.now a.p a.a c.requires.0.ordered c.row_count-i-end.result (planned a.s.now a.lists.now 0) c.row_count-i-end.ensures.0 (none_planned a.s.now a.lists.now),
+    )
+
+-- a pack that loads has at most 128 lists
+few : (c : After-shared_slice_known-1) → length (lists_of (pack_view c.args.s.now (shown c.args.p))) ≤ 128
+few c =
+    let r = c.requires.0.reads in
+    (fit_of_pack c.args.s.now (λ i. omega (arith, c.shared_slice_known-1.given i)) (shown c.args.p) r.end r.loads).few_lists
+
+pub note_row-n-requires : goal.note_row-n-requires
+note_row-n-requires c =
+    let a = c.args in (
+      c.requires.0,
+      record {
+        sane = c.loop-i.invariant.2;
+        few =
+            turn_room (pack_view a.s.now (shown a.p)) (planned a.s.now c.loop-i.lists c.loop-i.n.lists) c.loop-i.invariant.3 c.loop-i-test.true (few (goal.at.note_row-n-requires c).After-shared_slice_known-1);
+      },
+    )
+
+pub loop-i-preserved : goal.loop-i-preserved
+loop-i-preserved c =
+    let t = c.loop-i-test.true in
+    (omega (arith, t), c.loop-i.invariant.1, c.note_row-n.ensures.sane, again _ c.loop-i.invariant.3 t (sym c.note_row-n.ensures.same))
+
+pub returns : goal.returns
+returns c = record { same = ended _ c.loop-i.invariant.3 c.loop-i-test.false; sane = c.loop-i.invariant.2 }

@@ -1,0 +1,8 @@
+use mathlib.Core.Path.{◌≡◌}
+use Prim.Native.Nat.{◌≤◌}
+use Rattle.tonekit_core.specs.Loop.{range}
+use Rattle.tonekit_sheet.specs.Reader.{point_turn, points_fine}
+use Rattle.tonekit_sheet_read.proofs.read.points_fine.Given as goal
+
+abbrev pub invariant-loop-k : goal.invariant-loop-k
+invariant-loop-k l = (l.k ≤ 10) × (range (point_turn l.s l.o) l.k 10 l.ok ≡ points_fine l.s l.o)
