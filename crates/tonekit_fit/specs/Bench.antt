@@ -1,8 +1,7 @@
 -- Worked examples, computed: document 01's bench cases for semitones and registers, and the pivots of the fit.
-use Rattle.std.specs.Prelude.{ℕ, ◌≡◌, refl, true, false, [], ◌∷◌, pos, negsuc, Float}
-use Rattle.std.specs.Float.{fin, binary64}
+use Rattle.std.specs.Prelude.{ℕ, ◌≡◌, refl, [], ◌∷◌, pos, negsuc, Float}
+use Rattle.std.specs.Float.{binary64}
 use Rattle.std.specs.Float.Ieee.{add, sub, mul, div, neg, lt, le, of_bits, of_int, round, is_nan}
-use Rattle.std.specs.Float.Ieee.Scale.{finite}
 use Rattle.tonekit_core.specs.Loop.{range, turns}
 use Rattle.tonekit_float.specs.Magnitude.{magnitude, total_le}
 use Rattle.tonekit_log.specs.Log.{log2_of}

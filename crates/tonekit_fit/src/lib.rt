@@ -2,6 +2,8 @@
 // Where a function takes frames, they are the part of a query's bytes that holds its frames; `first`
 // is the first frame of the voiced part, and `chao` its curve. A query has at most 1,024 frames,
 // which the caller has read: the bounds that are required say no more.
+#![tactic(auto)]
+
 ghost use Rattle.std.specs.Prelude.{◌≡◌, ℕ, ◌+◌, ◌≤◌, ◌<◌, length};
 ghost use Rattle.tonekit_query.specs.Frames.{frame_at};
 ghost use Rattle.tonekit_fit.specs.Chao.{hz_to_st, width_of, st_to_chao, voiced, semitones_of};

@@ -1,0 +1,8 @@
+use mathlib.Core.Path.{◌≡◌}
+use Prim.Native.Nat.{◌<◌}
+use Rattle.tonekit_core.specs.Loop.{range}
+use Rattle.tonekit_fit.specs.Fit.{pivot_turn, pivot_of}
+use Rattle.tonekit_fit.proofs.pivot_of.Given as goal
+
+abbrev pub invariant-loop-i : goal.invariant-loop-i
+invariant-loop-i l = (l.best < 3) × (range (pivot_turn l.m l.col) l.i 3 l.best ≡ pivot_of l.m l.col)
