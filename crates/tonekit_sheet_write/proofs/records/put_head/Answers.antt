@@ -1,0 +1,4 @@
+use Rattle.tonekit_sheet_write.proofs.records.put_head.Goals as goal
+
+pub returns : goal.returns
+returns c = cc
