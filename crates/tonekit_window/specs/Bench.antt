@@ -1,6 +1,6 @@
 -- Windows, computed; the patterns are those of a run in another language.
-use Rattle.std.specs.Prelude.{◌≡◌, refl, List, [], ◌∷◌, pos, Float}
-use Rattle.std.specs.Float.{binary64}
+use Rattle.std.specs.Prelude.{◌≡◌, refl, false, List, [], ◌∷◌, pos, Float}
+use Rattle.std.specs.Float.{fin, binary64}
 use Rattle.std.specs.Float.Ieee.{of_bits, add, sub, mul, div, of_int, lt, is_nan, round}
 use Rattle.tonekit_core.specs.Loop.{while}
 use Rattle.tonekit_float.specs.Pick.{lesser, greater}
@@ -31,14 +31,26 @@ frames_8 = refl
 rising : List Float
 rising = of_int binary64 (pos 1) ∷ of_int binary64 (pos 2) ∷ of_int binary64 (pos 3) ∷ of_int binary64 (pos 4) ∷ []
 
-first_point : contour_at rising 0 ≡ of_int binary64 (pos 1)
+first_computed : contour_at rising 0 ≡ fin false 1 (pos 0)
 unfolding rising position reach half_width mean_over while step_of curve_at narrowed whole_part lesser greater add sub mul div of_int of_bits lt is_nan round
-first_point = refl
+first_computed = refl
+
+first_point : contour_at rising 0 ≡ of_int binary64 (pos 1)
+unfolding of_int round
+first_point = first_computed
+
+third_computed : contour_at rising 3 ≡ fin false 1 (pos 1)
+unfolding rising position reach half_width mean_over while step_of curve_at narrowed whole_part lesser greater add sub mul div of_int of_bits lt is_nan round
+third_computed = refl
 
 third_point : contour_at rising 3 ≡ of_int binary64 (pos 2)
+unfolding of_int round
+third_point = third_computed
+
+last_computed : contour_at rising 9 ≡ fin false 1 (pos 2)
 unfolding rising position reach half_width mean_over while step_of curve_at narrowed whole_part lesser greater add sub mul div of_int of_bits lt is_nan round
-third_point = refl
+last_computed = refl
 
 last_point : contour_at rising 9 ≡ of_int binary64 (pos 4)
-unfolding rising position reach half_width mean_over while step_of curve_at narrowed whole_part lesser greater add sub mul div of_int of_bits lt is_nan round
-last_point = refl
+unfolding of_int round
+last_point = last_computed

@@ -1,6 +1,8 @@
 // The windows of a contour, as in extract.rs: the mean of the voiced part's curve over the window
 // about each of ten points, and the share of its frames that are truly voiced. Callers hold a part
 // of 2 to 1,024 frames and ask for points 0 to 9.
+#![tactic(auto)]
+
 ghost use Rattle.std.specs.Prelude.{◌≡◌, ◌+◌, ◌-◌, ◌≤◌, ◌<◌, length};
 ghost use Rattle.tonekit_float.specs.Whole.{whole_part};
 ghost use Rattle.tonekit_contour.specs.Position.{whole64};
