@@ -54,16 +54,16 @@ book_of_records_lem tail x d =
 
 -- ---- every pack that loads, and its records
 module _ (s : List ℕ) (st : Pst) (e : ℕ) (h : read_pack s ≡ loaded st e) where
-  abbrev pub packRecords : List (List ℕ)
-  packRecords = (load_reads s st e h).records
+  abbrev pub pack_records : List (List ℕ)
+  pack_records = (load_reads s st e h).records
 
-  pub records_book : book_of s st ≡ book_of_records packRecords
+  pub records_book : book_of s st ≡ book_of_records pack_records
   records_book =
       let x = load_reads s st e h in
       sym (ap₂ book_of (sym x.bytes) x.held) ∙ book_of_records_lem (drop e s) x.reads x.due
 
-  pub records_source : source_of_pack s st ≡ source_of (book_of_records packRecords)
+  pub records_source : source_of_pack s st ≡ source_of (book_of_records pack_records)
   records_source = pack_source s st ∙ ap source_of records_book
 
-  pub records_sheet : sheet (source_of_pack s st) ≡ sheet (source_of (book_of_records packRecords))
+  pub records_sheet : sheet (source_of_pack s st) ≡ sheet (source_of (book_of_records pack_records))
   records_sheet = ap sheet records_source

@@ -7,7 +7,7 @@ use mathlib.Core.Option.{Option, none, some}
 use native.Mathlib.Omega.{arith}
 use lib.Dec.{eqb}
 use lib.ListN.{length, get_or}
-use Rattle.tonekit_core.specs.Loop.{Turn, next, stop, fold, turns, range, turnsTo, rangeTo, loopOn, loopTo}
+use Rattle.tonekit_core.specs.Loop.{Turn, next, stop, fold, turns, range, turns_to, range_to, loop_on, loop_to}
 use Rattle.tonekit_bytes.specs.Fields.{byte_at}
 use Rattle.tonekit_pack.specs.Pack.{Pst, number_at, parts_from}
 use Rattle.tonekit_core.proofs.Split.{split}
@@ -27,14 +27,14 @@ abbrev pub at_found : {A : Type 0} → (ℕ → A) → Found → Option A
 at_found g (found.At i) = some (g i)
 at_found g found.Nothing = none
 
-halted : {S R : Type 0} (f : ℕ → S → Turn S R) (g : S → R) (k i : ℕ) (r : R) → turnsTo f g k i (stop r) ≡ r
-unfolding turnsTo
+halted : {S R : Type 0} (f : ℕ → S → Turn S R) (g : S → R) (k i : ℕ) (r : R) → turns_to f g k i (stop r) ≡ r
+unfolding turns_to
 halted f g zero i r = refl
 halted f g (suc k) i r = refl
 
 module _ {A : Type 0} (number : A → ℕ) (s os : List ℕ) (n : ℕ) (g : ℕ → A) (named : (i : ℕ) → number (g i) ≡ number_at s (get_or os i 0)) where
-  found_from : (k i u : ℕ) → at_found g (turnsTo (index_turn s os n) (λ u. found.Nothing) k i (next u)) ≡ first_with number (tabulate g k i) n
-  unfolding turnsTo tabulate first_with
+  found_from : (k i u : ℕ) → at_found g (turns_to (index_turn s os n) (λ u. found.Nothing) k i (next u)) ≡ first_with number (tabulate g k i) n
+  unfolding turns_to tabulate first_with
   found_from zero i u = refl
   found_from (suc k) i u =
       split (eqb (number_at s (get_or os i 0)) n)
@@ -42,7 +42,7 @@ module _ {A : Type 0} (number : A → ℕ) (s os : List ℕ) (n : ℕ) (g : ℕ 
       (λ t. rw (named i, t) (found_from k (i + 1) u))
 
   pub index_same : at_found g (index_of s os n) ≡ first_with number (tabulate g (length os) 0) n
-  unfolding index_of rangeTo
+  unfolding index_of range_to
   index_same = let e : length os - 0 ≡ length os = omega arith in rw e (found_from (length os) 0 0)
 
 -- ---- the best rule of an accent
@@ -70,8 +70,8 @@ unfolding best_rule range best_of
 best_same s st c i owner = best_from s owner st.rules c (to_rule st i - from_rule st i) (from_rule st i) found.Nothing
 
 -- ---- the walk up the parents
-stops : {S R : Type 0} (f : S → Turn S R) (d : R) (n : ℕ) (r : R) → loopOn f d n (stop r) ≡ r
-unfolding loopOn
+stops : {S R : Type 0} (f : S → Turn S R) (d : R) (n : ℕ) (r : R) → loop_on f d n (stop r) ≡ r
+unfolding loop_on
 stops f d zero r = refl
 stops f d (suc n) r = refl
 
@@ -89,18 +89,18 @@ module _ (s : List ℕ) (st : Pst) (c : Context) where
 
   -- n accents at most, from accent i on
   abbrev walk : ℕ → ℕ → Winner
-  walk n i = loopTo (climb_turn s st c) winner.Nothing n i
+  walk n i = loop_to (climb_turn s st c) winner.Nothing n i
 
   step : (n i : ℕ) → ((j : ℕ) → won (walk n j) ≡ climb accents c n (pack_accent s st j)) → (f : Found) → best_rule s st c i ≡ f → (p : Found) → parent_of s st i ≡ p
-      → won (loopOn (climb_turn s st c) winner.Nothing n (or_parent s st i f)) ≡ given_or (at_found (rule_at s (number_at s (get_or st.accents i 0))) f)
+      → won (loop_on (climb_turn s st c) winner.Nothing n (or_parent s st i f)) ≡ given_or (at_found (rule_at s (number_at s (get_or st.accents i 0))) f)
       (from_parent (climb accents c n) (at_found (pack_accent s st) p))
-  unfolding loopTo
+  unfolding loop_to
   step n i ih (found.At o) e p g = rw (stops (climb_turn s st c) winner.Nothing n (winner.Rule i o))
   step n i ih found.Nothing e (found.At j) g = rw g (ih j)
   step n i ih found.Nothing e found.Nothing g = rw (g, stops (climb_turn s st c) winner.Nothing n winner.Nothing)
 
   pub walk_same : (n i : ℕ) → won (walk n i) ≡ climb accents c n (pack_accent s st i)
-  unfolding loopTo loopOn climb climb_turn
+  unfolding loop_to loop_on climb climb_turn
   walk_same zero i = refl
   walk_same (suc n) i =
       step n i (walk_same n) (best_rule s st c i) refl (parent_of s st i) refl

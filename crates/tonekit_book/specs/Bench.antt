@@ -2,7 +2,7 @@
 use Rattle.std.specs.Prelude.{ℕ, ◌≡◌, refl, List, [], ◌∷◌, ◌++◌, replicate}
 use Rattle.std.proofs.Math.Option.{none, some}
 use Rattle.std.specs.Float.Ieee.{lt, le, to_bits, of_bits, of_int, add, sub, mul, div}
-use Rattle.tonekit_core.specs.Loop.{fold, range, turns, loopTo, loopOn}
+use Rattle.tonekit_core.specs.Loop.{fold, range, turns, loop_to, loop_on}
 use Rattle.tonekit_float.specs.Whole.{whole_part}
 use Rattle.tonekit_float.specs.Narrow.{narrowed}
 use Rattle.tonekit_contour.specs.Position.{position}
@@ -37,7 +37,7 @@ abbrev kept : Pst
 kept = record { last = 5; tones = 9 ∷ []; accents = 65 ∷ 236 ∷ []; firsts = 0 ∷ 2 ∷ []; rules = 84 ∷ 183 ∷ 255 ∷ []; parts = 1; total = 4 }
 
 reads : read_pack pack ≡ loaded kept 309
-unfolding records_bytes read_pack record_verdict due_after size_of body_verdict settings_verdict tone_verdict accent_verdict rule_verdict part_verdict holds zero_or_held added above_zero a_share knot_fine weight_fine slot_fine knots_fine region_fine tolerances_fine range turns loopTo loopOn lt le of_bits
+unfolding records_bytes read_pack record_verdict due_after size_of body_verdict settings_verdict tone_verdict accent_verdict rule_verdict part_verdict holds zero_or_held added above_zero a_share knot_fine weight_fine slot_fine knots_fine region_fine tolerances_fine range turns loop_to loop_on lt le of_bits
 reads = refl
 
 -- ---- its book

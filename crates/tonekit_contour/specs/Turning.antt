@@ -2,7 +2,7 @@
 use Rattle.std.specs.Prelude.{ℕ, ◌+◌, ◌-◌, Bool, true, false, cond, ◌&&◌, List, pos, ltb, length, get_or, Float}
 use Rattle.std.specs.Float.{nan, inf, binary64}
 use Rattle.std.specs.Float.Ieee.{neg, sub, mul, div, lt, le, of_bits}
-use Rattle.tonekit_core.specs.Loop.{Turn, next, stop, range, rangeTo}
+use Rattle.tonekit_core.specs.Loop.{Turn, next, stop, range, range_to}
 use Rattle.tonekit_float.specs.Pick.{lesser, greater}
 use Rattle.tonekit_contour.specs.Position.{whole64}
 use Rattle.tonekit_contour.specs.declared.Extreme.{Extreme}
@@ -44,7 +44,7 @@ abbrev pub first_turn : List Float → Float → Float → ℕ → ℕ → Turn 
 first_turn l sign best j u = cond (near l sign best j) (stop j) (next u)
 
 unfoldable pub first_near : List Float → Float → Float → ℕ
-first_near l sign best = rangeTo (first_turn l sign best) (λ u. 0) 0 (length l) 0
+first_near l sign best = range_to (first_turn l sign best) (λ u. 0) 0 (length l) 0
 
 -- the last one, or d
 abbrev pub last_turn : List Float → Float → Float → ℕ → ℕ → ℕ

@@ -12,8 +12,8 @@ use borrow.Author.Tests.{eqb-true, eqb-false}
 -- P i x says something of entry i, where that is x
 pub entries_more : (P : ℕ → ℕ → Type 0) (xs : List ℕ) (n x : ℕ) → n < length xs → ((i : ℕ) → i < n → P i (get_or xs i 0)) → P n x
     → (i : ℕ) → i < n + 1 → P i (get_or (set xs n x) i 0)
-entries_more P xs n x l before here i h = by-case (eqb i n) (λ q. eqb-true i n q) (λ q. eqb-false i n q)
+entries_more P xs n x l before here i h = by_case (eqb i n) (λ q. eqb-true i n q) (λ q. eqb-false i n q)
   where
-    by-case : (b : Bool) → (b ≡ true → i ≡ n) → (b ≡ false → i ≡ n → ⊥) → P i (get_or (set xs n x) i 0)
-    by-case true is not = let z : i ≡ n = is refl in rw (z, get_or-set_same xs n x 0 l) here
-    by-case false is not = let z : i ≡ n → ⊥ = not refl in rw (get_or-set_other xs n i x 0 z) (before i (omega (arith, z)))
+    by_case : (b : Bool) → (b ≡ true → i ≡ n) → (b ≡ false → i ≡ n → ⊥) → P i (get_or (set xs n x) i 0)
+    by_case true is not = let z : i ≡ n = is refl in rw (z, get_or-set_same xs n x 0 l) here
+    by_case false is not = let z : i ≡ n → ⊥ = not refl in rw (get_or-set_other xs n i x 0 z) (before i (omega (arith, z)))

@@ -4,7 +4,7 @@ use Prim.Native.Nat.{ℕ, zero, suc, ◌+◌, ◌-◌, ◌≤◌, ◌<◌}
 use mathlib.Core.Path.{◌≡◌, refl, ◌∙◌, ap, subst}
 use mathlib.Core.Bool.{Bool, true, false}
 use native.Mathlib.Omega.{arith}
-use Rattle.tonekit_core.specs.Loop.{Turn, next, stop, range, turns, rangeTo, turnsTo, while, whileIf}
+use Rattle.tonekit_core.specs.Loop.{Turn, next, stop, range, turns, range_to, turns_to, while, while_if}
 
 module _ {S : Type 0} (f : ℕ → S → S) (P : ℕ → S → Type 0) where
   keeps : (k i hi : ℕ) (s : S) → i + k ≡ hi → ((j : ℕ) (t : S) → j < hi → P j t → P (j + 1) (f j t)) → P i s → P hi (turns f k i s)
@@ -30,22 +30,22 @@ module _ {S : Type 0} (f g : ℕ → S → S) where
 
 -- the same of loops that may stop
 module _ {S R : Type 0} (f g : ℕ → S → Turn S R) (end : S → R) where
-  stops_same : (k i : ℕ) (t : Turn S R) → ((j : ℕ) (s : S) → j < k + i → f j s ≡ g j s) → turnsTo f end k i t ≡ turnsTo g end k i t
-  unfolding turnsTo
+  stops_same : (k i : ℕ) (t : Turn S R) → ((j : ℕ) (s : S) → j < k + i → f j s ≡ g j s) → turns_to f end k i t ≡ turns_to g end k i t
+  unfolding turns_to
   stops_same zero i (next s) h = refl
   stops_same zero i (stop r) h = refl
-  stops_same (suc k) i (next s) h = ap (turnsTo f end k (i + 1)) (h i s (omega arith)) ∙ stops_same k (i + 1) (g i s) (λ j s l. h j s (omega arith))
+  stops_same (suc k) i (next s) h = ap (turns_to f end k (i + 1)) (h i s (omega arith)) ∙ stops_same k (i + 1) (g i s) (λ j s l. h j s (omega arith))
   stops_same (suc k) i (stop r) h = refl
 
-  pub to_same : (n : ℕ) (s : S) → ((j : ℕ) (s : S) → j < n → f j s ≡ g j s) → rangeTo f end 0 n s ≡ rangeTo g end 0 n s
-  unfolding rangeTo
+  pub to_same : (n : ℕ) (s : S) → ((j : ℕ) (s : S) → j < n → f j s ≡ g j s) → range_to f end 0 n s ≡ range_to g end 0 n s
+  unfolding range_to
   to_same n s h = stops_same (n - 0) 0 (next s) (λ j s l. h j s (omega arith))
 
 -- Left k s says that at most k turns are left at the state s
 module _ {S : Type 0} (test : S → Bool) (f : S → S) (Left : ℕ → S → Type 0) (none : (s : S) → Left zero s → test s ≡ false)
     (one_less : (k : ℕ) (s : S) → Left (suc k) s → test s ≡ true → Left k (f s)) where
-  on : (n : ℕ) (b : Bool) (s : S) → test s ≡ b → Left n s → test (whileIf test f n b s) ≡ false
-  unfolding whileIf
+  on : (n : ℕ) (b : Bool) (s : S) → test s ≡ b → Left n s → test (while_if test f n b s) ≡ false
+  unfolding while_if
   on zero b s e h = none s h
   on (suc n) false s e h = e
   on (suc n) true s e h = on n (test (f s)) (f s) refl (one_less n s h e)

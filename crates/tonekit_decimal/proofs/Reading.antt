@@ -97,8 +97,8 @@ module _ (x : ℕ) where
           let z : y / 10 ^ k < 1 = omega arith in
           subst (λ (z : ℕ). y < z) (one-mul (10 ^ k)) ((div-lt_iff_lt-mul {k = 10 ^ k} {x = y} {y = 1} (one-le-pow k 10 (omega arith))).0 z)
 
-      zero-digit : get_or (digits 190 x) (150 + suc k) 0 ≡ 0 → x / 10 ^ 151 / 10 ^ k % 10 ≡ 0
-      zero-digit e =
+      zero_digit : get_or (digits 190 x) (150 + suc k) 0 ≡ 0 → x / 10 ^ 151 / 10 ^ k % 10 ≡ 0
+      zero_digit e =
           let s : 150 + suc k ≡ 151 + k = omega arith in
           sym (place 151 k (fits k h)) ∙ ap (λ (z : ℕ). get_or (digits 190 x) z 0 % 10) (sym s) ∙ ap (λ (z : ℕ). z % 10) e
         where
@@ -107,7 +107,7 @@ module _ (x : ℕ) where
 
       by : (t : Bool) → eqb (get_or (digits 190 x) (150 + suc k) 0) 0 ≡ t → (x / 10 ^ 151 < 10 ^ k → x / 10 ^ 151 < 10 ^ whole_count (digits 190 x) k)
           → x / 10 ^ 151 < 10 ^ cond t (whole_count (digits 190 x) k) (suc k)
-      by true e i = i (top (x / 10 ^ 151) k l (zero-digit (eqb-true (get_or (digits 190 x) (150 + suc k) 0) 0 e)))
+      by true e i = i (top (x / 10 ^ 151) k l (zero_digit (eqb-true (get_or (digits 190 x) (150 + suc k) 0) 0 e)))
       by false e i = l
 
   count_most : (k : ℕ) → k ≤ 39 → whole_count (digits 190 x) k ≤ 39

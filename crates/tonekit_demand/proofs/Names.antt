@@ -26,9 +26,9 @@ use Rattle.tonekit_score.specs.declared.Tolerance.{Tolerance}
 use Rattle.tonekit_score.specs.declared.Mixture.TheVariants.{Scored}
 use Rattle.tonekit_judge.specs.Judge.{Placed, usable, distance_at, with_best, part_of, judged_of, judgement_of}
 use Rattle.tonekit_judge.specs.declared.Targets.{Targets}
-use Rattle.tonekit_judge.proofs.Winner.{winner-among, winner_named}
+use Rattle.tonekit_judge.proofs.Winner.{winner_among, winner_named}
 use Rattle.tonekit_inventory.specs.Gather.{named_of, given_of, listings}
-use Rattle.tonekit_inventory.proofs.Listed.{Tens, Entered, componentsAt, listings-enter}
+use Rattle.tonekit_inventory.proofs.Listed.{Tens, Entered, components_at, listings_enter}
 use Rattle.tonekit_inventory.proofs.Alike.{Under, Alike, named_count, pack_alike}
 use Rattle.tonekit_sheet_inventory.proofs.Few.{tones_few}
 use Rattle.tonekit_sheet_inventory.proofs.Alike.{sheet_alike}
@@ -47,20 +47,20 @@ given_some (some cs) k h = refl
 module _ (src : Source) (few : length src.tones ≤ 8) (alike : (c : Context) (cs : List Carried) → src.look c ≡ some cs → Alike no_carried cs) where
   module _ (c : Context) where
     abbrev cs : ℕ → List Carried
-    cs t = componentsAt no_carried src c t
+    cs t = components_at no_carried src c t
 
     here : (t : ℕ) → Alike no_carried (cs t)
     here t = given_alike _ (alike _)
 
     entered : (t : ℕ) → t < length src.tones → Entered no_carried (cs t) t (listings src c)
-    entered = listings-enter no_carried src c few (λ t h. (here t).few) (λ t h k l. ((here t).each k l).ten)
+    entered = listings_enter no_carried src c few (λ t h. (here t).few) (λ t h k l. ((here t).each k l).ten)
 
   pub source_names : NamesWinner src
   unfolding part_of
   source_names c x temperature threshold t g issues ok p ll d2 slot e =
       let l = listings src c in
       let s = scoring_of temperature t issues in
-      let a = winner-among (length src.tones) l.inventory.counts s l.weights (distance_at x s l.inventory.regions l.points) g p ll d2 slot e in
+      let a = winner_among (length src.tones) l.inventory.counts s l.weights (distance_at x s l.inventory.regions l.points) g p ll d2 slot e in
       let n = winner_named x temperature threshold t l g issues ok ll d2 slot e in
       let given = cs c a.tone in
       let en = entered c a.tone a.listed in

@@ -10,7 +10,7 @@ use native.Mathlib.Numerals.{sub-one}
 use lib.Dec.{eqb, ltb}
 use lib.ListN.{length, get_or}
 use borrow.Author.Tests.{eqb-true, eqb-false, ltb-true, ltb-false, eq-eqb}
-use Rattle.tonekit_core.specs.Loop.{rangeTo, to_again, to_stop, loopTo, loop_again, loop_stop}
+use Rattle.tonekit_core.specs.Loop.{range_to, to_again, to_stop, loop_to, loop_again, loop_stop}
 use Rattle.tonekit_bytes.specs.Fields.{byte_at}
 use Rattle.tonekit_pack.specs.Pack.{Pst, loaded, read_pack, number_at}
 use Rattle.tonekit_expect.specs.declared.Found.{Found}
@@ -27,7 +27,7 @@ use Rattle.tonekit_expect.proofs.Walk.{index_found, climb_hit, climb_top, climb_
 -- ---- a limit past the chain's end changes nothing
 module _ (s : List ℕ) (st : Pst) (c : Context) where
   abbrev walk : ℕ → ℕ → Winner
-  walk n i = loopTo (climb_turn s st c) winner.Nothing n i
+  walk n i = loop_to (climb_turn s st c) winner.Nothing n i
 
   same : {n i : ℕ} → Ends s st n i → (m : ℕ) → n ≤ m → (f : Found) → best_rule s st c i ≡ f → walk m i ≡ walk n i
   same {i = i} (top p) m h (found.At r) e = sym (loop_stop _ _ {n = m} refl (omega arith) (climb_hit s st c i r e)) ∙ loop_stop _ _ refl (omega arith) (climb_hit s st c i r e)
@@ -40,7 +40,7 @@ module _ (s : List ℕ) (st : Pst) (c : Context) where
 -- ---- where parents stand earlier, every chain ends
 module _ (s os : List ℕ) (n : ℕ) where
   abbrev search-from : ℕ → Found
-  search-from i = rangeTo (index_turn s os n) (λ u. found.Nothing) i (length os) 0
+  search-from i = range_to (index_turn s os n) (λ u. found.Nothing) i (length os) 0
 
   -- the search stops no later than at a record with the number
   stops_by : (d i m : ℕ) → i + d ≡ m → m < length os → number_at s (get_or os m 0) ≡ n → (j : ℕ) × (search-from i ≡ found.At j) × (j ≤ m)
@@ -120,7 +120,7 @@ module _ (s : List ℕ) (st : Pst) where
 pigeon : (n m : ℕ) (f : ℕ → ℕ) → ((i : ℕ) → i < n → f i < m) → ((i j : ℕ) → i < n → j < n → f i ≡ f j → i ≡ j) → n ≤ m
 pigeon zero m f low inj = omega arith
 pigeon (suc n) zero f low inj = absurd (omega (arith, low 0 (omega arith)))
-pigeon (suc n) (suc m) f low inj = let r = pigeon n m g g-low g-inj in omega arith
+pigeon (suc n) (suc m) f low inj = let r = pigeon n m g g_low g_inj in omega arith
   where
     -- the value m goes to the last's
     g : ℕ → ℕ
@@ -129,8 +129,8 @@ pigeon (suc n) (suc m) f low inj = let r = pigeon n m g g-low g-inj in omega ari
     differ : (i : ℕ) → i < n → f i ≡ f n → ⊥
     differ i h e = let q = inj i n (omega arith) (omega arith) e in omega arith
 
-    g-low : (i : ℕ) → i < n → g i < m
-    g-low i h =
+    g_low : (i : ℕ) → i < n → g i < m
+    g_low i h =
         split (eqb (f i) m)
         (λ t. let e = eqb-true (f i) m t in rw t (below (f n) m (low n (omega arith)) (λ q. differ i h (e ∙ sym q))))
         (λ t. rw t (below (f i) m (low i (omega arith)) (eqb-false (f i) m t)))
@@ -138,8 +138,8 @@ pigeon (suc n) (suc m) f low inj = let r = pigeon n m g g-low g-inj in omega ari
         below : (a b : ℕ) → a < suc b → (a ≡ b → ⊥) → a < b
         below a b h d = omega (arith, h, d)
 
-    g-inj : (i j : ℕ) → i < n → j < n → g i ≡ g j → i ≡ j
-    g-inj i j h k e =
+    g_inj : (i j : ℕ) → i < n → j < n → g i ≡ g j → i ≡ j
+    g_inj i j h k e =
         split (eqb (f i) m)
         (λ t. split (eqb (f j) m)
         (λ u. inj i j (omega arith) (omega arith) (eqb-true (f i) m t ∙ sym (eqb-true (f j) m u)))
@@ -160,7 +160,7 @@ module _ (s : List ℕ) (st : Pst) where
 
   -- a walk that is given more steps ends as `find_rule` does
   pub limit_idle : (c : Context) {n i : ℕ} (m : ℕ) → i < length st.accents → Ends s st n i → length st.accents ≤ m
-      → loopTo (climb_turn s st c) winner.Nothing m i ≡ find_rule s st c i
+      → loop_to (climb_turn s st c) winner.Nothing m i ≡ find_rule s st c i
   unfolding find_rule
   limit_idle c {i = i} m h x l = same s st c (ends_within h x) m l (best_rule s st c i) refl
 
@@ -172,5 +172,5 @@ loads_earlier s st e p =
 
 -- in a pack that loads a walk with any greater limit ends as `find_rule` does
 pub loads_idle : (s : List ℕ) (st : Pst) (e : ℕ) → read_pack s ≡ loaded st e → (c : Context) (m i : ℕ) → i < length st.accents → length st.accents ≤ m
-    → loopTo (climb_turn s st c) winner.Nothing m i ≡ find_rule s st c i
+    → loop_to (climb_turn s st c) winner.Nothing m i ≡ find_rule s st c i
 loads_idle s st e p c m i h l = limit_idle s st c m h (earlier_ends s st (loads_earlier s st e p) i h) l

@@ -7,7 +7,7 @@ use native.Mathlib.Omega.{arith}
 use lib.Dec.{eqb}
 use lib.ListN.{length, get_or}
 use borrow.Author.Tests.{eqb-true}
-use Rattle.tonekit_core.specs.Loop.{Turn, next, stop, turns, range, turnsTo, rangeTo, loopOn, loopTo}
+use Rattle.tonekit_core.specs.Loop.{Turn, next, stop, turns, range, turns_to, range_to, loop_on, loop_to}
 use Rattle.tonekit_pack.specs.Pack.{Pst, number_at}
 use Rattle.tonekit_core.proofs.Split.{split}
 use Rattle.tonekit_expect.specs.declared.Found.{Found}
@@ -30,8 +30,8 @@ module _ (s os : List ℕ) (n : ℕ) where
       (λ t. let q : j ≡ r = let e' = rw t at e in cc in subst Numbered q (record { inside = h; number = eqb-true (number_at s (get_or os j 0)) n t }))
       (λ f. let z : ◌≡◌ {A = ℕ} 0 1 = let e' = rw f at e in cc in absurd (omega arith))
 
-  from : (k j i : ℕ) (t : Turn ℕ Found) → k + j ≤ length os → ((r : ℕ) → t ≡ stop (found.At r) → Numbered r) → turnsTo (index_turn s os n) (λ u. found.Nothing) k j t ≡ found.At i → Numbered i
-  unfolding turnsTo
+  from : (k j i : ℕ) (t : Turn ℕ Found) → k + j ≤ length os → ((r : ℕ) → t ≡ stop (found.At r) → Numbered r) → turns_to (index_turn s os n) (λ u. found.Nothing) k j t ≡ found.At i → Numbered i
+  unfolding turns_to
   from zero j i (next u) h p e = let z : ◌≡◌ {A = ℕ} 0 1 = cc in absurd (omega arith)
   from zero j i (stop f) h p e = p i (ap stop e)
   from (suc k) j i (next u) h p e = from k (j + 1) i (index_turn s os n j u) (omega arith) (λ r q. hit j u r (omega arith) q) e
@@ -39,7 +39,7 @@ module _ (s os : List ℕ) (n : ℕ) where
 
   -- what is found has the number
   pub index_found : (i : ℕ) → index_of s os n ≡ found.At i → Numbered i
-  unfolding index_of rangeTo
+  unfolding index_of range_to
   index_found i e = from (length os - 0) 0 i (next 0) (omega arith) (λ r q. let z : ◌≡◌ {A = ℕ} 0 1 = cc in absurd (omega arith)) e
 
 -- ---- a step
@@ -57,8 +57,8 @@ module _ (s : List ℕ) (st : Pst) (c : Context) (i : ℕ) where
   climb_on j e p = ap (or_parent s st i) e ∙ ap to_parent p
 
 -- a walk with no step left
-pub loop_out : {S R : Type 0} (f : S → Turn S R) (d : R) (n : ℕ) (s : S) (z : R) → loopTo f d n s ≡ z → n ≡ 0 → d ≡ z
-unfolding loopTo loopOn
+pub loop_out : {S R : Type 0} (f : S → Turn S R) (d : R) (n : ℕ) (s : S) (z : R) → loop_to f d n s ≡ z → n ≡ 0 → d ≡ z
+unfolding loop_to loop_on
 loop_out f d zero s z r h = r
 loop_out f d (suc n) s z r h = absurd (omega arith)
 
@@ -107,15 +107,15 @@ module _ (s : List ℕ) (st : Pst) (c : Context) (P : ℕ → Type 0) (each : (i
   }
   turn_right i h found.Nothing e = parent_right i (parent_of s st i) refl
 
-  walk_right : (n : ℕ) (t : Turn ℕ Winner) (a r : ℕ) → Right t → loopOn (climb_turn s st c) winner.Nothing n t ≡ winner.Rule a r → (a < length st.accents) × P r
-  unfolding loopOn climb_turn
+  walk_right : (n : ℕ) (t : Turn ℕ Winner) (a r : ℕ) → Right t → loop_on (climb_turn s st c) winner.Nothing n t ≡ winner.Rule a r → (a < length st.accents) × P r
+  unfolding loop_on climb_turn
   walk_right zero (next j) a r R e = let z : ◌≡◌ {A = ℕ} 0 1 = cc in absurd (omega arith)
   walk_right zero (stop w) a r R e = R.ending a r (ap stop e)
   walk_right (suc n) (next j) a r R e = walk_right n (climb_turn s st c j) a r (turn_right j (R.onward j refl) (best_rule s st c j) refl) e
   walk_right (suc n) (stop w) a r R e = R.ending a r (ap stop e)
 
-  found_is : (n i a r : ℕ) → i < length st.accents → loopTo (climb_turn s st c) winner.Nothing n i ≡ winner.Rule a r → (a < length st.accents) × P r
-  unfolding loopTo
+  found_is : (n i a r : ℕ) → i < length st.accents → loop_to (climb_turn s st c) winner.Nothing n i ≡ winner.Rule a r → (a < length st.accents) × P r
+  unfolding loop_to
   found_is n i a r h e =
       walk_right n (next i) a r
       (record { onward = λ j q. let g : i ≡ j = cc in subst (λ (n : ℕ). n < length st.accents) g h; ending = λ a r q. let z : ◌≡◌ {A = ℕ} 0 1 = cc in absurd (omega arith) }) e

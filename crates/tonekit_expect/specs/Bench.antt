@@ -2,7 +2,7 @@
 use Rattle.std.specs.Prelude.{ℕ, ◌≡◌, refl, true, List, [], ◌∷◌, ◌++◌, replicate, Float}
 use Rattle.std.specs.Float.{binary32}
 use Rattle.std.specs.Float.Ieee.{add, sub, mul, div, of_int, of_bits, le, lt}
-use Rattle.tonekit_core.specs.Loop.{turns, range, turnsTo, rangeTo, loopOn, loopTo}
+use Rattle.tonekit_core.specs.Loop.{turns, range, turns_to, range_to, loop_on, loop_to}
 use Rattle.tonekit_float.specs.Whole.{whole_part}
 use Rattle.tonekit_float.specs.Narrow.{narrowed}
 use Rattle.tonekit_pack.specs.Ranges.{above_zero, a_share, knot_fine, weight_fine, slot_fine, knots_fine, region_fine, tolerances_fine}
@@ -59,7 +59,7 @@ abbrev read : Pst
 read = record { last = 5; tones = 9 ∷ 65 ∷ []; accents = 121 ∷ 246 ∷ []; firsts = 0 ∷ 2 ∷ []; rules = 140 ∷ 193 ∷ 265 ∷ 364 ∷ []; parts = 1; total = 5 }
 
 reads : read_pack pack ≡ loaded read 418
-unfolding read_pack loopTo loopOn record_verdict body_verdict settings_verdict tone_verdict accent_verdict rule_verdict part_verdict due_after size_of holds zero_or_held added above_zero a_share knot_fine weight_fine slot_fine knots_fine region_fine tolerances_fine range turns of_bits le lt
+unfolding read_pack loop_to loop_on record_verdict body_verdict settings_verdict tone_verdict accent_verdict rule_verdict part_verdict due_after size_of holds zero_or_held added above_zero a_share knot_fine weight_fine slot_fine knots_fine region_fine tolerances_fine range turns of_bits le lt
 reads = refl
 
 context : ℕ → ℕ → ℕ → ℕ → Context
@@ -67,34 +67,34 @@ context a t p final = record { accent = a; tone = t; prev = p; last = final }
 
 -- accent 3's own rule, the first of its two, and not accent 5's, which states more
 nearest : look_up pack read (context 3 1 0 1) ≡ look.Found (record { owner = 3; form = 3; label = 8; at = 272; count = 2 })
-unfolding context look_up find_rule climb_turn best_rule better_of matches meets specificity index_of rangeTo turnsTo loopTo loopOn range turns parts_from
+unfolding context look_up find_rule climb_turn best_rule better_of matches meets specificity index_of range_to turns_to loop_to loop_on range turns parts_from
 nearest = refl
 
 -- accent 5's own at the end of a phrase; else the tone's citation, under the graded accent
 stated : look_up pack read (context 5 1 0 1) ≡ look.Found (record { owner = 5; form = 2; label = 7; at = 147; count = 1 })
-unfolding context look_up find_rule climb_turn best_rule better_of matches meets specificity index_of rangeTo turnsTo loopTo loopOn range turns parts_from
+unfolding context look_up find_rule climb_turn best_rule better_of matches meets specificity index_of range_to turns_to loop_to loop_on range turns parts_from
 stated = refl
 
 cited : look_up pack read (context 5 1 0 0) ≡ look.Found (record { owner = 5; form = 1; label = 0; at = 9; count = 1 })
-unfolding context look_up find_rule climb_turn best_rule better_of matches meets specificity index_of rangeTo turnsTo loopTo loopOn range turns parts_from
+unfolding context look_up find_rule climb_turn best_rule better_of matches meets specificity index_of range_to turns_to loop_to loop_on range turns parts_from
 cited = refl
 
 -- tone 2 after tone 1: the parent's rule, under the parent. Else nothing, as tone 2 has no citation
 inherited : look_up pack read (context 3 2 1 0) ≡ look.Found (record { owner = 5; form = 2; label = 6; at = 200; count = 1 })
-unfolding context look_up find_rule climb_turn best_rule better_of matches meets specificity index_of rangeTo turnsTo loopTo loopOn range turns parts_from
+unfolding context look_up find_rule climb_turn best_rule better_of matches meets specificity index_of range_to turns_to loop_to loop_on range turns parts_from
 inherited = refl
 
 contextual : look_up pack read (context 3 2 2 0) ≡ look.Nothing
-unfolding context look_up find_rule climb_turn best_rule better_of matches meets specificity index_of rangeTo turnsTo loopTo loopOn range turns parts_from
+unfolding context look_up find_rule climb_turn best_rule better_of matches meets specificity index_of range_to turns_to loop_to loop_on range turns parts_from
 contextual = refl
 
 -- an accent and a tone that are not held
 no_accent : look_up pack read (context 4 1 0 0) ≡ look.Nothing
-unfolding context look_up find_rule climb_turn best_rule better_of matches meets specificity index_of rangeTo turnsTo loopTo loopOn range turns parts_from
+unfolding context look_up find_rule climb_turn best_rule better_of matches meets specificity index_of range_to turns_to loop_to loop_on range turns parts_from
 no_accent = refl
 
 no_tone : look_up pack read (context 3 4 0 0) ≡ look.Nothing
-unfolding context look_up find_rule climb_turn best_rule better_of matches meets specificity index_of rangeTo turnsTo loopTo loopOn range turns parts_from
+unfolding context look_up find_rule climb_turn best_rule better_of matches meets specificity index_of range_to turns_to loop_to loop_on range turns parts_from
 no_tone = refl
 
 -- ---- every field of each record, from bytes that are their own offsets behind the kind

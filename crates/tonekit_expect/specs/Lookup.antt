@@ -1,6 +1,6 @@
 -- Document 01's section Lookup, on a pack that was read: which curves a context takes. Names follow `expect.rs`.
 use Rattle.std.specs.Prelude.{ℕ, ◌+◌, ◌*◌, ◌≤◌, ◌<◌, Bool, true, cond, ◌&&◌, ◌||◌, ◌≡◌, List, eqb, ltb, length, get_or, Float}
-use Rattle.tonekit_core.specs.Loop.{Turn, next, stop, range, rangeTo, loopTo}
+use Rattle.tonekit_core.specs.Loop.{Turn, next, stop, range, range_to, loop_to}
 use Rattle.tonekit_core.specs.Layout.{accent_parent, rule_size, rule_label, rule_tone, rule_prev, rule_final, rule_form}
 use Rattle.tonekit_core.specs.Layout.{tone_knot_count, tone_knots, part_size, part_weight, part_knot_count, part_knots}
 use Rattle.tonekit_bytes.specs.Fields.{byte_at, u16_at, f32_at}
@@ -22,7 +22,7 @@ abbrev pub index_turn : List ℕ → List ℕ → ℕ → ℕ → ℕ → Turn �
 index_turn s os n i u = cond (eqb (number_at s (get_or os i 0)) n) (stop (found.At i)) (next u)
 
 unfoldable pub index_of : List ℕ → List ℕ → ℕ → Found
-index_of s os n = rangeTo (index_turn s os n) (λ u. found.Nothing) 0 (length os) 0
+index_of s os n = range_to (index_turn s os n) (λ u. found.Nothing) 0 (length os) 0
 
 -- a rule's final that asks for this phrase position: 1 is no, 2 is yes
 abbrev pub final_of : Context → ℕ
@@ -90,7 +90,7 @@ climb_turn s st c i = or_parent s st i (best_rule s st c i)
 -- `find_rule`: a walk of at most as many steps as there are accents
 unfoldable pub find_rule : List ℕ → Pst → Context → ℕ → Winner
 unfolding climb_turn
-find_rule s st c i = loopTo (climb_turn s st c) winner.Nothing (length st.accents) i
+find_rule s st c i = loop_to (climb_turn s st c) winner.Nothing (length st.accents) i
 
 -- a winner is the rule of one of n accents, at an offset as offsets are held
 abbrev pub Placed : ℕ → Winner → Type 0

@@ -118,11 +118,11 @@ magic X x c small v w =
     let C2-is : 2 ^ suc (52 + K) ≡ 2 ^ 53 * u = ap (λ (k : ℕ). 2 ^ k) (one_more K) ∙ pow-add 2 53 K in
     let twice : 2 ^ 53 * u ≡ C + C = doubled u in
     let lo : 2 ^ (52 + K) ≤ X + C = le_trans (le_of_eq C-is) (omega arith) in
-    let hi : X + C < 2 ^ suc (52 + K) = lt_of_lt_of_le (below-twice X C below) (le_of_eq (sym (C2-is ∙ twice))) in
-    let z : size (X + C) - 53 ≡ K = ap (λ (n : ℕ). n - 53) (size_at (X + C) (52 + K) lo hi) ∙ less-53 K in
+    let hi : X + C < 2 ^ suc (52 + K) = lt_of_lt_of_le (below_twice X C below) (le_of_eq (sym (C2-is ∙ twice))) in
+    let z : size (X + C) - 53 ≡ K = ap (λ (n : ℕ). n - 53) (size_at (X + C) (52 + K) lo hi) ∙ less_53 K in
     let g : grid binary64 (X + C) L ≡ (R + 2 ^ 52) * u = grid_units binary64 (X + C) K z ∙ ap (λ (n : ℕ). n * u) (closest_more X (2 ^ 52) u u-pos refl) in
     let R-le = rounded_le X in
-    let big : 2 ^ 53 * u ≤ 2 ^ 2097 = le_trans (le_of_eq (sym (pow-add 2 53 K))) (pow_mono (sum-le K K-le)) in
+    let big : 2 ^ 53 * u ≤ 2 ^ 2097 = le_trans (le_of_eq (sym (pow-add 2 53 K))) (pow_mono (sum_le K K-le)) in
     let fine : (R + 2 ^ 52) * u < overflow binary64 = lt_of_le_of_lt (le_trans (mul-le-mul_right u (few R R-le)) big) (lit< tt) in
     let s = add binary64 x c in
     let is : HasValue s false ((R + 2 ^ 52) * u) L =
@@ -141,14 +141,14 @@ magic X x c small v w =
     doubled : (u : ℕ) → 9007199254740992 * u ≡ 4503599627370496 * u + 4503599627370496 * u
     doubled u = omega arith
 
-    below-twice : (X C : ℕ) → X < C → X + C < C + C
-    below-twice X C h = omega arith
+    below_twice : (X C : ℕ) → X < C → X + C < C + C
+    below_twice X C h = omega arith
 
-    less-53 : (K : ℕ) → suc (52 + K) - 53 ≡ K
-    less-53 K = omega arith
+    less_53 : (K : ℕ) → suc (52 + K) - 53 ≡ K
+    less_53 K = omega arith
 
-    sum-le : (K : ℕ) → K ≤ 1178 → 53 + K ≤ 2097
-    sum-le K h = omega arith
+    sum_le : (K : ℕ) → K ≤ 1178 → 53 + K ≤ 2097
+    sum_le K h = omega arith
 
     few : (R : ℕ) → R ≤ 16777216 → R + 4503599627370496 ≤ 9007199254740992
     few R h = omega arith
@@ -164,15 +164,15 @@ grid_32 : (X : ℕ) → grid binary32 X L ≡ rounded X * 2 ^ cut X
 grid_32 X =
     let k = cut X in
     let w : X * 2 ^ 149 / L ≡ X / 2 ^ 925 = div_same (X * 2 ^ 149) L X (2 ^ 925) L-pos (pow_pos 925) (mul_assoc X (2 ^ 149) (2 ^ 925)) in
-    let d : size (X / 2 ^ 925) - 24 ≡ k = ap (λ (z : ℕ). z - 24) (size_shift X 925) ∙ minus-both (size X) in
+    let d : size (X / 2 ^ 925) - 24 ≡ k = ap (λ (z : ℕ). z - 24) (size_shift X 925) ∙ minus_both (size X) in
     ap (λ (z : ℕ). closest (X * 2 ^ 149) (L * 2 ^ (size z - 24)) * 2 ^ (size z - 24)) w
     ∙ ap (λ (z : ℕ). closest (X * 2 ^ 149) (L * 2 ^ z) * 2 ^ z) d
     ∙ ap (λ (z : ℕ). z * 2 ^ k)
     (closest_same (X * 2 ^ 149) (L * 2 ^ k) X (2 ^ (k + 925)) (mul-pos L-pos (pow_pos k)) (pow_pos (k + 925))
     (ap (λ (z : ℕ). X * 2 ^ 149 * z) (pow-add 2 k 925) ∙ shuffle X (2 ^ 149) (2 ^ k) (2 ^ 925)))
   where
-    minus-both : (z : ℕ) → z - 925 - 24 ≡ z - 949
-    minus-both z = omega arith
+    minus_both : (z : ℕ) → z - 925 - 24 ≡ z - 949
+    minus_both z = omega arith
 
     shuffle : (X a b c : ℕ) → X * a * (b * c) ≡ X * (a * c * b)
     shuffle X a b c = simp (mul_assoc, mul_comm, mul_left_comm)
@@ -182,17 +182,17 @@ abbrev pub limit : ℕ
 limit = (2 ^ 25 - 1) * 2 ^ 1177
 
 within : (X : ℕ) → X < limit → rounded X * 2 ^ cut X < overflow binary32
-within X h = ⊎_elim (λ g. low-case g) (λ g. top-case g) (either (cut X) 253)
+within X h = ⊎_elim (λ g. low_case g) (λ g. top_case g) (either (cut X) 253)
   where
-    c-le : cut X ≤ 253
-    c-le = cut_le X (lt_of_lt_of_le h (lit≤ tt))
+    c_le : cut X ≤ 253
+    c_le = cut_le X (lt_of_lt_of_le h (lit≤ tt))
 
-    low-case : cut X < 253 → rounded X * 2 ^ cut X < overflow binary32
-    low-case g = lt_of_le_of_lt (mul-le-mul (rounded_le X) (pow_mono (le_of_suc-le-suc g))) (lit< tt)
+    low_case : cut X < 253 → rounded X * 2 ^ cut X < overflow binary32
+    low_case g = lt_of_le_of_lt (mul-le-mul (rounded_le X) (pow_mono (le_of_suc-le-suc g))) (lit< tt)
 
-    top-case : 253 ≤ cut X → rounded X * 2 ^ cut X < overflow binary32
-    top-case g =
-        let e : cut X ≡ 253 = le_antisymm c-le g in
+    top_case : 253 ≤ cut X → rounded X * 2 ^ cut X < overflow binary32
+    top_case g =
+        let e : cut X ≡ 253 = le_antisymm c_le g in
         let m : closest X (2 ^ 1178) ≤ closest (limit - 1) (2 ^ 1178) = closest_mono X (2 ^ 1178) (limit - 1) (2 ^ 1178) (pow_pos 1178) (pow_pos 1178) (mul-le-mul_right (2 ^ 1178) (le_of_suc-le-suc h)) in
         subst (λ (k : ℕ). closest X (2 ^ (k + 925)) * 2 ^ k < overflow binary32) (sym e) (lt_of_le_of_lt (mul-le-mul_right (2 ^ 253) m) (lit< tt))
 

@@ -110,7 +110,7 @@ positive_up c y p h = plus→positive y c p (lt_of_lt_of_le (den_pos y) (le_tran
 pub within_div : (f : Format) (c : ℕ) (z : Float) {a : ℕ} {x : Float} (y : Float) → T (positive z && leb (den z) (c * plus z)) → a * c ≤ 2 ^ prec f → Within a x → T (finite y) → T (le z y) → Within (a * c) (div f x y)
 within_div f c z {a} {x} y t k v p h =
     let Z = positive-finite z (and_l (positive z) (leb (den z) (c * plus z)) t) in
-    let z0 = positive-nonneg z (and_l (positive z) (leb (den z) (c * plus z)) t) in
+    let z0 = positive_nonneg z (and_l (positive z) (leb (den z) (c * plus z)) t) in
     let u = le→under z y Z p h in
     let m : minus y * den z ≡ 0 = ap (λ (i : ℕ). i * den z) (no_minus y p (le_trans_float zero_f z y z0 h)) ∙ zero-mul (den z) in
     let n : minus z * den y ≡ 0 = ap (λ (i : ℕ). i * den y) (no_minus z Z z0) ∙ zero-mul (den y) in
@@ -120,11 +120,11 @@ within_div f c z {a} {x} y t k v p h =
     (quotient_small (plus x) (plus y) (den x) (den y) a c (part_l (plus x) (minus x) (a * den x) v.small) r)
     (quotient_small (minus x) (plus y) (den x) (den y) a c (part_r (plus x) (minus x) (a * den x) v.small) r)
   where
-    positive-nonneg : (z : Float) → T (positive z) → T (le zero_f z)
-    positive-nonneg nan p = absurd p
-    positive-nonneg (inf s) p = absurd p
-    positive-nonneg (fin true m e) p = absurd p
-    positive-nonneg (fin false m e) p = under→le zero_f (fin false m e) tt tt (omega arith)
+    positive_nonneg : (z : Float) → T (positive z) → T (le zero_f z)
+    positive_nonneg nan p = absurd p
+    positive_nonneg (inf s) p = absurd p
+    positive_nonneg (fin true m e) p = absurd p
+    positive_nonneg (fin false m e) p = under→le zero_f (fin false m e) tt tt (omega arith)
 
 pub within_narrow : {a : ℕ} {x : Float} → a ≤ 2 ^ 24 → Within a x → Within a (narrowed x)
 within_narrow {a} {x} k v =

@@ -35,8 +35,8 @@ bits_mono f n o h = go (leb l k) (leb→le l k) (nleb→lt l k)
     l : ℕ
     l = size o - prec f
 
-    k-le : k ≤ l
-    k-le = let s = size-le n (size o) (lt_of_le_of_lt h (size-lt o)) in omega arith
+    k_le : k ≤ l
+    k_le = let s = size-le n (size o) (lt_of_le_of_lt h (size-lt o)) in omega arith
 
     same : k ≡ l → bits_of f false n ≤ bits_of f false o
     same e =
@@ -54,7 +54,7 @@ bits_mono f n o h = go (leb l k) (leb→le l k) (nleb→lt l k)
         omega arith
 
     go : (b : Bool) → (T b → l ≤ k) → (T (not b) → k < l) → bits_of f false n ≤ bits_of f false o
-    go true i j = same (le_antisymm k-le (i tt))
+    go true i j = same (le_antisymm k_le (i tt))
     go false i j = more (j tt)
 
 units_mono : (f : Format) (m n : ℕ) (e d : ℤ) → m * up e * down d ≤ n * up d * down e → units_of_lem f (fin false m e) ≤ units_of_lem f (fin false n d)

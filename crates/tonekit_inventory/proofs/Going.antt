@@ -67,21 +67,21 @@ module _ (src : Source) (n : ℕ) (c : Context) where
   }
 
   module _ (w ps : List Float) (i : Inventory) (t : ℕ) (g : Going src n c w ps i t) where
-    pub going-ends : n ≤ t → n ≤ 8 → Lists src c i w ps
-    going-ends h r = record {
+    pub going_ends : n ≤ t → n ≤ 8 → Lists src c i w ps
+    going_ends h r = record {
       is = ended (list_tone src c) g.same h;
       sound = record { counted = record { few = omega (arith, g.many); each = λ k l. g.few k }; weighed = g.weighed; pointed = g.pointed };
     }
 
     -- tone t, and what its lookup gives
     module _ (h : t < n) (tone : Tone) (tone_is : get_or src.tones t no_tone_lem ≡ tone) where
-      with-tones : (number : ℕ) (prior : Float) (r : Region) (name : Named) → (with_tone t number prior r name i).tones ≡ i.tones
+      with_tones : (number : ℕ) (prior : Float) (r : Region) (name : Named) → (with_tone t number prior r name i).tones ≡ i.tones
       unfolding with_tone
-      with-tones number prior r name = refl
+      with_tones number prior r name = refl
 
-      with-counts : (number : ℕ) (prior : Float) (r : Region) (name : Named) → name.count ≤ 4 → (k : ℕ) → get_or (with_tone t number prior r name i).counts k 0 ≤ 4
+      with_counts : (number : ℕ) (prior : Float) (r : Region) (name : Named) → name.count ≤ 4 → (k : ℕ) → get_or (with_tone t number prior r name i).counts k 0 ≤ 4
       unfolding with_tone
-      with-counts number prior r name l k = set_bounded i.counts t name.count 4 g.few l k
+      with_counts number prior r name l k = set_bounded i.counts t name.count 4 g.few l k
 
       -- the code's stores, which are those of the components that were given
       module _ (cs : List Carried) (gives : given_of (src.look (in_context c tone.number)) ≡ cs) (name : Named) (named : name ≡ named_of cs) (region : Region) (region_is : region ≡ region_of tone)
@@ -95,7 +95,7 @@ module _ (src : Source) (n : ℕ) (c : Context) where
           inside = omega arith;
           weighed = ap length put.weighed ∙ length-sets w (4 * t) (weights_of cs) ∙ g.weighed;
           pointed = ap length put.pointed ∙ length-sets ps (40 * t) (points_of cs) ∙ g.pointed;
-          many = ap (λ (x : Inventory). x.tones) ej ∙ with-tones tone.number (f32 tone.prior) region name ∙ g.many;
-          few = λ k. rw ej (with-counts tone.number (f32 tone.prior) region name l k);
+          many = ap (λ (x : Inventory). x.tones) ej ∙ with_tones tone.number (f32 tone.prior) region name ∙ g.many;
+          few = λ k. rw ej (with_counts tone.number (f32 tone.prior) region name l k);
           same = again (list_tone src c) g.same h turned;
         }

@@ -123,9 +123,9 @@ module _ (d : Carried) (t : ℕ) (tone : Tone) (cs : List Carried) (l : Listed) 
     other : u ≡ t → ⊥
     other q = absurd (omega arith)
 
-    entered-before : Entered d ds u (slotted t tone cs l)
+    entered_before : Entered d ds u (slotted t tone cs l)
     unfolding slotted with_tone
-    entered-before = record {
+    entered_before = record {
       count = get_or-set_other l.inventory.counts t u _ 0 other ∙ e.count;
       owner = get_or-set_other l.inventory.owners t u _ 0 other ∙ e.owner;
       form = get_or-set_other l.inventory.forms t u _ 0 other ∙ e.form;
@@ -136,27 +136,27 @@ module _ (d : Carried) (t : ℕ) (tone : Tone) (cs : List Carried) (l : Listed) 
 
 -- a source whose tones have four components at most, of ten points each, in this context
 module _ (d : Carried) (src : Source) (c : Context) where
-  abbrev pub componentsAt : ℕ → List Carried
-  componentsAt t = given_of (src.look (in_context c (get_or src.tones t no_tone_lem).number))
+  abbrev pub components_at : ℕ → List Carried
+  components_at t = given_of (src.look (in_context c (get_or src.tones t no_tone_lem).number))
 
-  module _ (tones_few : length src.tones ≤ 8) (few : (t : ℕ) → t < length src.tones → length (componentsAt t) ≤ 4)
-      (tens : (t : ℕ) → t < length src.tones → Tens d (componentsAt t)) where
+  module _ (tones_few : length src.tones ≤ 8) (few : (t : ℕ) → t < length src.tones → length (components_at t) ≤ 4)
+      (tens : (t : ℕ) → t < length src.tones → Tens d (components_at t)) where
     record So (n : ℕ) (l : Listed) : Type 0 where
       room : Room l
-      each : (t : ℕ) → t < n → Entered d (componentsAt t) t l
+      each : (t : ℕ) → t < n → Entered d (components_at t) t l
 
     so_far : So (length src.tones) (listings src c)
     unfolding listings
     so_far =
         range_keeps (list_tone src c) So 0 (length src.tones) (nothing_yet (length src.tones)) (omega arith)
         (λ t l h p. record {
-          room = slotted_room d t _ (componentsAt t) l p.room;
+          room = slotted_room d t _ (components_at t) l p.room;
           each = λ u g. ⊎_elim
-              (λ e. rw e (entered_here d t _ (componentsAt t) l p.room (omega arith) (few t h) (tens t h)))
-              (λ b. entered-before d t _ (componentsAt t) l p.room u (componentsAt u) b (few u (omega arith)) (p.each u b))
+              (λ e. rw e (entered_here d t _ (components_at t) l p.room (omega arith) (few t h) (tens t h)))
+              (λ b. entered_before d t _ (components_at t) l p.room u (components_at u) b (few u (omega arith)) (p.each u b))
               (eq-or-lt_of_le (let k : u ≤ t = omega arith in k));
         })
         (record { room = nothing_room (length src.tones); each = λ t h. absurd (not-suc-le-zero h) })
 
-    pub listings-enter : (t : ℕ) → t < length src.tones → Entered d (componentsAt t) t (listings src c)
-    listings-enter = so_far.each
+    pub listings_enter : (t : ℕ) → t < length src.tones → Entered d (components_at t) t (listings src c)
+    listings_enter = so_far.each

@@ -9,7 +9,7 @@ use native.Mathlib.Numerals.{add-one}
 use lib.Dec.{eqb}
 use lib.ListN.{length, get_or, drop, drop_of_length-le}
 use lib.Seq.{drop-cons}
-use Rattle.tonekit_core.specs.Loop.{Turn, next, stop, turnsTo, rangeTo}
+use Rattle.tonekit_core.specs.Loop.{Turn, next, stop, turns_to, range_to}
 use Rattle.tonekit_pack.specs.Pack.{number_at}
 use Rattle.tonekit_pack.specs.declared.Pack.{Pack}
 use Rattle.tonekit_pack.specs.Held.{shown}
@@ -33,15 +33,15 @@ pick hit miss os found.Nothing = miss
 -- what a list says of the first record with number n is what the search finds
 module _ {R : Type 0} (s : List ℕ) (n : ℕ) (hit : ℕ → R) (miss : R) (says : List ℕ → R) (ends : says [] ≡ miss) (goes : (o : ℕ) (os : List ℕ) → says (o ∷ os) ≡ cond (eqb (number_at s o) n) (hit o) (says os)) where
   abbrev on : List ℕ → ℕ → ℕ → Turn ℕ Found → Found
-  on os = turnsTo (index_turn s os n) (λ u. found.Nothing)
+  on os = turns_to (index_turn s os n) (λ u. found.Nothing)
 
   stopped : (os : List ℕ) (k j : ℕ) (f : Found) → on os k j (stop f) ≡ f
-  unfolding turnsTo
+  unfolding turns_to
   stopped os zero j f = refl
   stopped os (suc k) j f = refl
 
   from : (os : List ℕ) (k j : ℕ) → k + j ≡ length os → says (drop j os) ≡ pick hit miss os (on os k j (next 0))
-  unfolding turnsTo
+  unfolding turns_to
   from os zero j h = let e : drop j os ≡ [] = drop_of_length-le os {i = j} (omega arith) in ap says e ∙ ends
   from os (suc k) j h =
       ap says (drop-cons os j 0 (omega arith))
@@ -51,7 +51,7 @@ module _ {R : Type 0} (s : List ℕ) (n : ℕ) (hit : ℕ → R) (miss : R) (say
       (λ f. rw (f, ← add-one j) (from os k (j + 1) (omega arith))))
 
   searched : (os : List ℕ) → says os ≡ pick hit miss os (index_of s os n)
-  unfolding index_of rangeTo
+  unfolding index_of range_to
   searched os = from os (length os - 0) 0 (omega arith)
 
 or_cond : (b c : Bool) → (b || c) ≡ cond b true c
@@ -70,15 +70,15 @@ module _ (s os : List ℕ) (n : ℕ) (accent_of : ℕ → Accent) (number : (o :
   pub accent_none : index_of s os n ≡ found.Nothing → accent_in (map accent_of os) n ≡ none
   accent_none e = accents ∙ rw e
 
-module _ (s os : List ℕ) (n : ℕ) (toneOf : ℕ → Tone) (number : (o : ℕ) → (toneOf o).number ≡ number_at s o) where
-  tones : tone_in (map toneOf os) n ≡ pick (λ o. true) false os (index_of s os n)
+module _ (s os : List ℕ) (n : ℕ) (tone_of : ℕ → Tone) (number : (o : ℕ) → (tone_of o).number ≡ number_at s o) where
+  tones : tone_in (map tone_of os) n ≡ pick (λ o. true) false os (index_of s os n)
   unfolding tone_in
-  tones = searched s n (λ o. true) false (λ l. tone_in (map toneOf l) n) refl (λ o l. rw (number o) (or_cond (eqb (number_at s o) n) (tone_in (map toneOf l) n))) os
+  tones = searched s n (λ o. true) false (λ l. tone_in (map tone_of l) n) refl (λ o l. rw (number o) (or_cond (eqb (number_at s o) n) (tone_in (map tone_of l) n))) os
 
-  pub tone_found : (i : ℕ) → index_of s os n ≡ found.At i → tone_in (map toneOf os) n ≡ true
+  pub tone_found : (i : ℕ) → index_of s os n ≡ found.At i → tone_in (map tone_of os) n ≡ true
   tone_found i e = tones ∙ rw e
 
-  pub tone_none : index_of s os n ≡ found.Nothing → tone_in (map toneOf os) n ≡ false
+  pub tone_none : index_of s os n ≡ found.Nothing → tone_in (map tone_of os) n ≡ false
   tone_none e = tones ∙ rw e
 
 -- the tolerances stand behind an accent's kind, number and parent

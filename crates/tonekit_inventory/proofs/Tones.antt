@@ -22,7 +22,7 @@ use Rattle.tonekit_inventory.specs.declared.Named.{Named}
 use Rattle.tonekit_inventory.specs.Fields.{region_at}
 use Rattle.tonekit_inventory.specs.Slots.{InSlots, Looked, Lists, name_of}
 use Rattle.tonekit_inventory.specs.Gather.{region_of, named_of, with_tone, weights_of, points_of, no_tone_lem, given_of, in_context, f32, no_inventory}
-use Rattle.tonekit_inventory.proofs.Going.{first_named, map_at, going_starts, going-ends, going_on}
+use Rattle.tonekit_inventory.proofs.Going.{first_named, map_at, going_starts, going_ends, going_on}
 use Rattle.tonekit_inventory.proofs.Going as going
 
 -- ---- a listing's name is that of its first component
@@ -86,7 +86,7 @@ module _ (s : List ℕ) (p : Pack) (c : Context) where
 
   module _ (w ps : List Float) (i : Inventory) (t : ℕ) (g : Going s p c w ps i t) where
     pub ends : p.tones ≤ t → p.tones ≤ 8 → Lists (source_of_pack s (shown p)) c i w ps
-    ends = going-ends (source_of_pack s (shown p)) p.tones c w ps i t g
+    ends = going_ends (source_of_pack s (shown p)) p.tones c w ps i t g
 
     pub goes : (v qs : List Float) (j : Inventory) (name : Named) → t < p.tones → (k : Look) → k ≡ look_up s (shown p) (in_context c (byte_at s (get_or p.toneat t 0 + 1)))
         → name ≡ named_of (given_of (given s k)) → name.count ≤ 4

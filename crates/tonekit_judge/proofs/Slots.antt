@@ -79,8 +79,8 @@ module _ (d : ℕ → ℕ → Float) (counts : List ℕ) where
         let k : get_or counts t' 0 ≡ get_or counts t 0 = ap (λ (n : ℕ). get_or counts n 0) q in
         f.at t' j' a b (omega arith)
 
-    pub filled-tone : Filled d counts (4 * (t + 1)) ds
-    filled-tone = record {
+    pub filled_tone : Filled d counts (4 * (t + 1)) ds
+    filled_tone = record {
       at = λ t' j' a b h.
           let k : t' ≤ t = omega arith in
           ⊎_elim (λ q. own t' j' a b q) (λ q. f.at t' j' a b (omega arith)) (eq-or-lt_of_le k);

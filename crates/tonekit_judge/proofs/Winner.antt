@@ -44,35 +44,35 @@ module _ (tones : ℕ) (counts : List ℕ) (s : Scoring) where
     leading true true h = a
     leading true false h = h refl
 
-    mixed-best : (score : Float) → Best (mixed m i score d2)
+    mixed_best : (score : Float) → Best (mixed m i score d2)
     unfolding mixed
-    mixed-best score found = leading m.found (lt m.score score) b
+    mixed_best score found = leading m.found (lt m.score score) b
 
-    weighed-best : (w : Float) → Best (weighed s m i w d2)
+    weighed_best : (w : Float) → Best (weighed s m i w d2)
     unfolding weighed mix_turn
-    weighed-best w =
+    weighed_best w =
         by_bool (λ c. Best (cond c (mix_turn s m i w d2) m)) (lt zero32 w)
         (by_bool (λ c. Best (cond c m (mixed m i (add binary64 (ln_of w) (log_of s d2)) d2))) (le w zero32) b
-        (mixed-best (add binary64 (ln_of w) (log_of s d2)))) b
+        (mixed_best (add binary64 (ln_of w) (log_of s d2)))) b
 
   module _ (weights : List Float) (d : ℕ → ℕ → Float) where
-    part-best : (t : ℕ) (weight : Float) (m : Mixing) → t < tones → Best m → Best (part_mixing s weights d (get_or counts t 0) t weight m)
+    part_best : (t : ℕ) (weight : Float) (m : Mixing) → t < tones → Best m → Best (part_mixing s weights d (get_or counts t 0) t weight m)
     unfolding part_mixing
-    part-best t weight m h b =
+    part_best t weight m h b =
         range_keeps (part_turn s weights d t weight) (λ j m. Best m) 0 (get_or counts t 0) m (omega arith)
-        (λ j m l b. weighed-best m (4 * t + j) (d t j) b (record { tone = t; component = j; listed = h; has = l; is = refl }) _) b
+        (λ j m l b. weighed_best m (4 * t + j) (d t j) b (record { tone = t; component = j; listed = h; has = l; is = refl }) _) b
 
-    target-best : (g : Targets) → Placed tones g → Best (target_mixing s counts weights d g)
+    target_best : (g : Targets) → Placed tones g → Best (target_mixing s counts weights d g)
     unfolding target_mixing
-    target-best g p =
+    target_best g p =
         range_keeps (target_turn s counts weights d g.places g.weights) (λ k m. Best m) 0 g.count no_mixing (omega arith)
-        (λ k m h b. part-best (get_or g.places k 0) (get_or g.weights k nan) m (p.each k h) b)
+        (λ k m h b. part_best (get_or g.places k 0) (get_or g.weights k nan) m (p.each k h) b)
         (λ e. let z : ◌≡◌ {A = ℕ} 0 1 = cc in absurd (omega arith))
 
-    pub winner-among : (g : Targets) → Placed tones g → (ll d2 : Float) (slot : ℕ) → mixture_of (target_mixing s counts weights d g) ≡ Scored ll slot d2 → Among tones counts slot
-    winner-among g p ll d2 slot e =
+    pub winner_among : (g : Targets) → Placed tones g → (ll d2 : Float) (slot : ℕ) → mixture_of (target_mixing s counts weights d g) ≡ Scored ll slot d2 → Among tones counts slot
+    winner_among g p ll d2 slot e =
         let m = target_mixing s counts weights d g in
-        subst (Among tones counts) (sym (slot_of m ll d2 slot e)) (target-best g p (found_of m.found _ _ ll d2 m.index slot e))
+        subst (Among tones counts) (sym (slot_of m ll d2 slot e)) (target_best g p (found_of m.found _ _ ll d2 m.index slot e))
 
 -- owner, form, label and part of a judgement in which a component won
 module _ (x : ToneShape) (temperature threshold : Float) (t : Tolerance) (l : Listed) (g : Targets) (issues : ℕ) (ok : usable x ≡ true) (ll d2 : Float) (slot : ℕ) where

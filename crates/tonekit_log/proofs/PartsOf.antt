@@ -47,10 +47,10 @@ mant_is t h =
 -- ---- whole numbers: differences are exact
 pick_less : (f : Format) (a b c : ℕ) → a < b → sum f false a true b c ≡ round f true (b - a) c
 unfolding sum
-pick_less f a b c h = go (ltb a b) (lt-ltb' h)
+pick_less f a b c h = go (ltb a b) (lt_ltb' h)
   where
-    lt-ltb' : a < b → T (ltb a b)
-    lt-ltb' h = lt→ltb a b h
+    lt_ltb' : a < b → T (ltb a b)
+    lt_ltb' h = lt→ltb a b h
 
     go : (t : Bool) → T t → cond t (round f true (b - a) c) (round f (false && ltb b a) (a - b) c) ≡ round f true (b - a) c
     go true k = refl
@@ -90,15 +90,15 @@ int_sub a b ha hb = go (leb b a) (leb→le b a) (nleb→lt b a)
 pub shift_minus : (a b k : ℕ) → minus (a + k) (b + k) ≡ minus a b
 shift_minus a b k = go (leb b a) (leb→le b a) (nleb→lt b a)
   where
-    up-case : (a b k : ℕ) → a + k - (b + k) ≡ a - b
-    up-case a b k = omega arith
+    up_case : (a b k : ℕ) → a + k - (b + k) ≡ a - b
+    up_case a b k = omega arith
 
-    down-case : (a b k : ℕ) → b + k - suc (a + k) ≡ b - suc a
-    down-case a b k = omega arith
+    down_case : (a b k : ℕ) → b + k - suc (a + k) ≡ b - suc a
+    down_case a b k = omega arith
 
     go : (t : Bool) → (T t → b ≤ a) → (T (not t) → a < b) → minus (a + k) (b + k) ≡ cond t (pos (a - b)) (negsuc (b - suc a))
-    go true p q = ap (λ (t : Bool). cond t (pos (a + k - (b + k))) (negsuc (b + k - suc (a + k)))) (le-leb (b + k) (a + k) (let z = p tt in omega arith)) ∙ ap pos (up-case a b k)
-    go false p q = ap (λ (t : Bool). cond t (pos (a + k - (b + k))) (negsuc (b + k - suc (a + k)))) (lt-leb (b + k) (a + k) (let z = q tt in omega arith)) ∙ ap negsuc (down-case a b k)
+    go true p q = ap (λ (t : Bool). cond t (pos (a + k - (b + k))) (negsuc (b + k - suc (a + k)))) (le-leb (b + k) (a + k) (let z = p tt in omega arith)) ∙ ap pos (up_case a b k)
+    go false p q = ap (λ (t : Bool). cond t (pos (a + k - (b + k))) (negsuc (b + k - suc (a + k)))) (lt-leb (b + k) (a + k) (let z = q tt in omega arith)) ∙ ap negsuc (down_case a b k)
 
 pub parts : {a b c d : Float} → a ≡ b → c ≡ d → ◌≡◌ {A = Parts} (record { m = a; e = c }) (record { m = b; e = d })
 parts p q = λ i. record { m = p i; e = q i }

@@ -7,7 +7,7 @@ use native.Mathlib.Omega.{arith}
 use lib.ListN.{length, get_or, take, length-append, get_or-eq_default}
 use lib.Dec.{eqb}
 use borrow.Author.Tests.{eqb-true, eqb-false}
-use Rattle.tonekit_core.specs.Loop.{loopTo, loopOn}
+use Rattle.tonekit_core.specs.Loop.{loop_to, loop_on}
 use Rattle.tonekit_core.specs.declared.Refusal.TheVariants.{CutShort}
 use Rattle.tonekit_core.specs.declared.Verdict.TheVariants as verdict
 use Rattle.tonekit_core.proofs.LoopLaws.{range_same}
@@ -124,7 +124,7 @@ module _ (n : ℕ) (t s : List ℕ) (a : Agree n t s) (at : ℕ) (st : Pst) (p :
       (λ d. rw (a.ends at (omega arith), a.bytes at (omega arith), d))
 
 no_turn : (s : List ℕ) (d : Out) (at : ℕ) (st : Pst) → run s d 0 at st ≡ d
-unfolding loopTo loopOn
+unfolding loop_to loop_on
 no_turn s d at st = refl
 
 run_same : (f n : ℕ) (t s : List ℕ) (a : Agree n t s) (d : Out) (at : ℕ) (st : Pst) → Low at st → 6991 ≤ n → run t d f at st ≡ run s d f at st

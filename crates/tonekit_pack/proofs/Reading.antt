@@ -5,7 +5,7 @@ use mathlib.Core.List.{List}
 use native.Mathlib.Omega.{arith}
 use lib.ListN.{length, length-append}
 use borrow.Author.Tests.{ne_eqb}
-use Rattle.tonekit_core.specs.Loop.{loopTo, loop_again, loop_stop}
+use Rattle.tonekit_core.specs.Loop.{loop_to, loop_again, loop_stop}
 use Rattle.tonekit_core.specs.declared.Refusal.{Refusal}
 use Rattle.tonekit_core.specs.declared.Refusal.TheVariants.{CutShort}
 use Rattle.tonekit_core.specs.declared.Verdict.TheVariants as verdict
@@ -38,7 +38,7 @@ pub record Going (s : List ℕ) (st : Pack) (at : ℕ) : Type 0 where
   pub inside : at ≤ length s
   pub fuel : ℕ
   pub enough : length s < fuel + at
-  pub same : loopTo (record_turn s) (refused CutShort (length s)) fuel (record { at = at; st = shown st }) ≡ read_pack s
+  pub same : loop_to (record_turn s) (refused CutShort (length s)) fuel (record { at = at; st = shown st }) ≡ read_pack s
 
 module _ (s : List ℕ) (st : Pack) (at : ℕ) (g : Going s st at) where
   place : Here

@@ -1,6 +1,6 @@
 -- Document 01's section Pack: which bytes are a pack, and the refusal and place of those that are not. A record is held by its offset.
 use Rattle.std.specs.Prelude.{ℕ, zero, suc, ◌+◌, ◌-◌, Bool, true, false, cond, not, ◌&&◌, ◌||◌, List, [], ◌∷◌, ◌++◌, eqb, leb, ltb, length, get_or}
-use Rattle.tonekit_core.specs.Loop.{Turn, next, stop, loopTo}
+use Rattle.tonekit_core.specs.Loop.{Turn, next, stop, loop_to}
 use Rattle.tonekit_core.specs.Layout.{settings_kind, settings_size, settings_temperature, settings_threshold}
 use Rattle.tonekit_core.specs.Layout.{own_number, tone_kind, tone_size, tone_prior, tone_knot_count, tone_knots, tone_region}
 use Rattle.tonekit_core.specs.Layout.{accent_kind, accent_size, accent_parent, accent_contour}
@@ -194,7 +194,7 @@ start = record { at = 0; st = record { last = 0; tones = []; accents = []; first
 -- a pack at the front of a longer input. A record has at least one byte, so there are no more turns than bytes, and one for what is missing
 unfoldable pub read_pack : List ℕ → Out
 unfolding record_verdict size_of added
-read_pack s = loopTo (record_turn s) (refused CutShort (length s)) (length s + 1) start
+read_pack s = loop_to (record_turn s) (refused CutShort (length s)) (length s + 1) start
 
 -- a single pack: 3 at the first byte behind it
 abbrev pub singly : List ℕ → Out → Out

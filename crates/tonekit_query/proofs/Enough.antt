@@ -7,7 +7,7 @@ use native.Mathlib.Omega.{arith}
 use borrow.Author.Tests.{ne_eqb, lt-leb}
 use lib.Dec.{eqb, leb}
 use lib.ListN.{length, take}
-use Rattle.tonekit_core.specs.Loop.{Turn, next, turnsTo, rangeTo}
+use Rattle.tonekit_core.specs.Loop.{Turn, next, turns_to, range_to}
 use Rattle.tonekit_core.specs.declared.Verdict.{Verdict}
 use Rattle.tonekit_core.specs.declared.Verdict.TheVariants as verdict
 use Rattle.tonekit_core.proofs.LoopLaws.{range_same}
@@ -64,26 +64,26 @@ module _ (n : ℕ) (t s : List ℕ) (a : Agree n t s) (room : 10287 ≤ n) where
 
   -- frames that lie within those bytes
   abbrev on : ℕ → ℕ → Turn ℕ QueryRead → QueryRead
-  on = turnsTo (frame_turn t) (λ (at : ℕ). Good (fields_of t))
+  on = turns_to (frame_turn t) (λ (at : ℕ). Good (fields_of t))
 
   abbrev on' : ℕ → ℕ → Turn ℕ QueryRead → QueryRead
-  on' = turnsTo (frame_turn s) (λ (at : ℕ). Good (fields_of s))
+  on' = turns_to (frame_turn s) (λ (at : ℕ). Good (fields_of s))
 
   then_same : (k i at : ℕ) (v : Verdict) → on k i (next (at + 10)) ≡ on' k i (next (at + 10)) → on k i (after_frame at v) ≡ on' k i (after_frame at v)
-  unfolding turnsTo
+  unfolding turns_to
   then_same k i at verdict.Fine behind = behind
   then_same zero i at (verdict.Refused r) behind = refl
   then_same (suc k) i at (verdict.Refused r) behind = refl
 
   frames_same : (k i at : ℕ) → at + 10 * k ≤ 10286 → on k i (next at) ≡ on' k i (next at)
-  unfolding turnsTo
+  unfolding turns_to
   frames_same zero i at h = ap Good fields_same
   frames_same (suc k) i at h =
       then_same k (i + 1) at (frame_verdict t at) (frames_same k (i + 1) (at + 10) (omega arith))
       ∙ ap (λ (v : Verdict). on' k (i + 1) (after_frame at v)) (frame_same at (omega arith))
 
   after_same : (v : Verdict) → record_verdict t ≡ v → after_record t v ≡ after_record s v
-  unfolding rangeTo
+  unfolding range_to
   after_same verdict.Fine e =
       frames_same (u16_at t 44 - 0) 0 46 (omega (arith, (fixed t e).count)) ∙ ap (read_frames s) (two n t s a 44 (omega arith))
   after_same (verdict.Refused r) e = refl

@@ -9,7 +9,7 @@ use lib.Dec.{eqb, leb, ltb}
 use lib.ListN.{length, drop, length-drop}
 use lib.Seq.{length-take-le}
 use Rattle.tonekit_core.proofs.Split.{neither, both}
-use Rattle.tonekit_core.specs.Loop.{Turn, next, stop, turnsTo, rangeTo}
+use Rattle.tonekit_core.specs.Loop.{Turn, next, stop, turns_to, range_to}
 use Rattle.tonekit_core.specs.declared.Refusal.{Refusal}
 use Rattle.tonekit_core.specs.declared.Refusal.TheVariants.{Misplaced, CutShort, Overrun, Crowded, BadQuery}
 use Rattle.tonekit_core.specs.declared.Verdict.{Verdict}
@@ -86,10 +86,10 @@ frame_whole s at e =
 -- the frames that were read lie within the bytes
 module _ (s : List ℕ) (q : Query) where
   abbrev on : ℕ → ℕ → Turn ℕ QueryRead → QueryRead
-  on = turnsTo (frame_turn s) (λ (at : ℕ). Good (fields_of s))
+  on = turns_to (frame_turn s) (λ (at : ℕ). Good (fields_of s))
 
   stopped : (k i : ℕ) (r : Refusal) (place : ℕ) → on k i (stop (Refused r place)) ≡ Good q → ⊥
-  unfolding turnsTo
+  unfolding turns_to
   stopped zero i r place e = no_query r place q e
   stopped (suc k) i r place e = no_query r place q e
 
@@ -101,7 +101,7 @@ module _ (s : List ℕ) (q : Query) where
   frame_then k i at (verdict.Refused r) v behind e = absurd (stopped k (i + 1) r at e)
 
   frames_whole : (k i at : ℕ) → at ≤ length s → on k i (next at) ≡ Good q → (q ≡ fields_of s) × (at + 10 * k ≤ length s)
-  unfolding turnsTo
+  unfolding turns_to
   frames_whole zero i at h e = (cc, omega arith)
   frames_whole (suc k) i at h e =
       let r = frame_then k i at (frame_verdict s at) refl (λ w f. frames_whole k (i + 1) (at + 10) w f) e in
@@ -117,7 +117,7 @@ pub record Holds (s : List ℕ) (q : Query) : Type 0 where
   pub last : q.last ≤ 1
 
 after_verdict : (s : List ℕ) (q : Query) (v : Verdict) → record_verdict s ≡ v → after_record s v ≡ Good q → Holds s q
-unfolding rangeTo fields_of
+unfolding range_to fields_of
 after_verdict s q verdict.Fine v e =
     let f = fixed s v in
     let r = frames_whole s q (u16_at s 44 - 0) 0 46 f.whole e in

@@ -2,7 +2,7 @@
 use Rattle.std.specs.Prelude.{ℕ, ◌≡◌, refl, false, List, [], ◌∷◌, ◌++◌, pos, take, replicate}
 use Rattle.std.specs.Float.{fin, binary32}
 use Rattle.std.specs.Float.Ieee.{of_bits, lt}
-use Rattle.tonekit_core.specs.Loop.{turns, range, turnsTo, rangeTo}
+use Rattle.tonekit_core.specs.Loop.{turns, range, turns_to, range_to}
 use Rattle.tonekit_core.specs.declared.Refusal.TheVariants.{Misplaced, CutShort, Overrun, Crowded, BadQuery}
 use Rattle.tonekit_core.specs.declared.Checked.TheVariants.{Loads, Refused}
 use Rattle.tonekit_query.specs.declared.Frame.TheVariants.{Voiced, Unvoiced}
@@ -34,12 +34,12 @@ abbrev voiced : List ℕ
 voiced = frame 50 1 a110
 
 loads : (check_query (plain 1 ++ voiced) ≡ Loads) × (check_query (plain 0) ≡ Loads) × (check_query (fixed 1 3 1 minus_zero_lem 0 0) ≡ Loads)
-unfolding check_query load_query read_query record_verdict variants_fine variant_fine frame_verdict fields_of turns range turnsTo rangeTo
+unfolding check_query load_query read_query record_verdict variants_fine variant_fine frame_verdict fields_of turns range turns_to range_to
 loads = (refl, refl, refl)
 
 -- 1: another kind, of the record and of a frame
 misplaced : (check_query (49 ∷ plain 0) ≡ Refused Misplaced 0) × (check_query (plain 1 ++ frame 51 1 a110) ≡ Refused Misplaced 46)
-unfolding check_query load_query read_query record_verdict variants_fine variant_fine frame_verdict fields_of turns range turnsTo rangeTo
+unfolding check_query load_query read_query record_verdict variants_fine variant_fine frame_verdict fields_of turns range turns_to range_to
 misplaced = (refl, refl)
 
 -- 2: no input, a record cut by a byte, before 4 in one record; a frame that is missing (at the input's end), a frame cut by a byte (at its offset)
@@ -48,20 +48,20 @@ cut : (check_query [] ≡ Refused CutShort 0)
     × (check_query (take 45 (fixed 0 0 5 unused 0 0)) ≡ Refused CutShort 0)
     × (check_query (plain 2 ++ voiced) ≡ Refused CutShort 56)
     × (check_query (plain 2 ++ (voiced ++ take 9 voiced)) ≡ Refused CutShort 56)
-unfolding check_query load_query read_query record_verdict variants_fine variant_fine frame_verdict fields_of turns range turnsTo rangeTo
+unfolding check_query load_query read_query record_verdict variants_fine variant_fine frame_verdict fields_of turns range turns_to range_to
 cut = (refl, refl, refl, refl, refl)
 
 -- 3: a byte behind; after 10 in a frame
 overrun : (check_query (plain 1 ++ (voiced ++ (0 ∷ []))) ≡ Refused Overrun 56)
     × (check_query (plain 1 ++ (frame 50 2 a110 ++ (0 ∷ []))) ≡ Refused BadQuery 46)
-unfolding check_query load_query read_query record_verdict variants_fine variant_fine frame_verdict fields_of turns range turnsTo rangeTo
+unfolding check_query load_query read_query record_verdict variants_fine variant_fine frame_verdict fields_of turns range turns_to range_to
 overrun = (refl, refl)
 
 -- 4: five variants; 1,025 frames; before 10 in one record
 crowded : (check_query (fixed 0 0 5 unused 0 0) ≡ Refused Crowded 0)
     × (check_query (fixed 0 0 0 unused 1 4) ≡ Refused Crowded 0)
     × (check_query (fixed 2 0 5 unused 0 0) ≡ Refused Crowded 0)
-unfolding check_query load_query read_query record_verdict variants_fine variant_fine frame_verdict fields_of turns range turnsTo rangeTo
+unfolding check_query load_query read_query record_verdict variants_fine variant_fine frame_verdict fields_of turns range turns_to range_to
 crowded = (refl, refl, refl)
 
 -- 10: final 2; issue bit 10; an unused variant that is not zero bytes; a frame's flag 2
@@ -69,7 +69,7 @@ bad : (check_query (fixed 2 0 0 unused 0 0) ≡ Refused BadQuery 0)
     × (check_query (fixed 0 4 0 unused 0 0) ≡ Refused BadQuery 0)
     × (check_query (fixed 0 0 0 minus_zero_lem 0 0) ≡ Refused BadQuery 0)
     × (check_query (plain 2 ++ (voiced ++ frame 50 2 a110)) ≡ Refused BadQuery 56)
-unfolding check_query load_query read_query record_verdict variants_fine variant_fine frame_verdict fields_of turns range turnsTo rangeTo
+unfolding check_query load_query read_query record_verdict variants_fine variant_fine frame_verdict fields_of turns range turns_to range_to
 bad = (refl, refl, refl, refl)
 
 -- 110 Hz; flag 0; 0, −1, infinite and no number of Hz; past the end

@@ -1,6 +1,6 @@
 -- Document 01's section Query: which bytes are a query, and the refusal and place of those that are not.
 use Rattle.std.specs.Prelude.{ℕ, ◌+◌, ◌*◌, Bool, true, cond, not, ◌&&◌, ◌||◌, List, eqb, leb, ltb, length, take, drop, Float}
-use Rattle.tonekit_core.specs.Loop.{Turn, next, stop, range, rangeTo}
+use Rattle.tonekit_core.specs.Loop.{Turn, next, stop, range, range_to}
 use Rattle.tonekit_core.specs.Layout.{query_kind, query_size, query_accent, query_tone, query_prev, query_final, query_start, query_end}
 use Rattle.tonekit_core.specs.Layout.{query_floor, query_ceil, query_issues, query_variant_count, variant_tones, variant_weights}
 use Rattle.tonekit_core.specs.Layout.{variant_size, query_frame_count, frame_kind, frame_size, frame_voiced}
@@ -72,7 +72,7 @@ abbrev pub frame_turn : List ℕ → ℕ → ℕ → Turn ℕ QueryRead
 frame_turn s i at = after_frame at (frame_verdict s at)
 
 abbrev pub read_frames : List ℕ → ℕ → QueryRead
-read_frames s count = rangeTo (frame_turn s) (λ at. Good (fields_of s)) 0 count query_size
+read_frames s count = range_to (frame_turn s) (λ at. Good (fields_of s)) 0 count query_size
 
 -- a query at the front of a longer input: its fixed record, then as many frames as that counts
 abbrev pub after_record : List ℕ → Verdict → QueryRead

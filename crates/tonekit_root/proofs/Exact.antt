@@ -145,11 +145,11 @@ even_power d g h = ap (λ (z : ℕ). d * z) (ap (λ (z : ℕ). 2 ^ z) (halves g 
 
 pub odd_power : (d g : ℕ) → (g % 2 ≡ 0 → ⊥) → d * 2 ^ g ≡ 2 * d * 4 ^ (g / 2)
 odd_power d g h =
-    ap (λ (z : ℕ). d * z) (ap (λ (z : ℕ). 2 ^ z) (halves g (odd-mod g h)) ∙ pow-suc 2 (2 * (g / 2)) ∙ ap (λ (z : ℕ). z * 2) (sym (four_two (g / 2))))
+    ap (λ (z : ℕ). d * z) (ap (λ (z : ℕ). 2 ^ z) (halves g (odd_mod g h)) ∙ pow-suc 2 (2 * (g / 2)) ∙ ap (λ (z : ℕ). z * 2) (sym (four_two (g / 2))))
     ∙ shuffle d (4 ^ (g / 2))
   where
-    odd-mod : (g : ℕ) → (g % 2 ≡ 0 → ⊥) → g % 2 ≡ 1
-    odd-mod g h = ⊎_elim (λ e. absurd (h e)) (λ e. e) (zero_or_one g)
+    odd_mod : (g : ℕ) → (g % 2 ≡ 0 → ⊥) → g % 2 ≡ 1
+    odd_mod g h = ⊎_elim (λ e. absurd (h e)) (λ e. e) (zero_or_one g)
       where
         zero_or_one : (g : ℕ) → (g % 2 ≡ 0) ⊎ (g % 2 ≡ 1)
         zero_or_one g = go (eqb (g % 2) 0) (eqb→eq (g % 2) 0) (λ t n. T_not (eqb (g % 2) 0) t (eq→eqb n))

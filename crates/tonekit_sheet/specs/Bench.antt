@@ -1,7 +1,7 @@
 -- Worked examples, computed: sheets that load, and refusals with their places, among them those that wait for the sheet's end.
 use Rattle.std.specs.Prelude.{ℕ, ◌≡◌, refl, List, [], ◌∷◌, ◌++◌, replicate}
 use Rattle.std.specs.Float.Ieee.{lt, le, of_bits}
-use Rattle.tonekit_core.specs.Loop.{range, turns, rangeTo, turnsTo, loopTo, loopOn}
+use Rattle.tonekit_core.specs.Loop.{range, turns, range_to, turns_to, loop_to, loop_on}
 use Rattle.tonekit_core.specs.declared.Refusal.TheVariants.{Misplaced, Overrun, Crowded, OffScale, Doubled, Loose, Unordered}
 use Rattle.tonekit_core.specs.declared.Verdict.TheVariants as verdict
 use Rattle.tonekit_pack.specs.Ranges.{above_zero, a_share, weight_fine, region_fine, tolerances_fine}
@@ -10,7 +10,7 @@ use Rattle.tonekit_sheet.specs.Reader.{Out, Sst, loaded, refused, complete, due_
 
 -- what an input is, as a single sheet; opened, it computes
 unfoldable read : List ℕ → Out
-unfolding load_sheet read_sheet finished loose_row accent_down row_due row_names row_wrong named same_lists repeated list_wrong record_verdict complete due_next size_of body_verdict settings_verdict tone_verdict accent_verdict row_verdict list_verdict component_verdict point_fine points_fine holds zero_or_held added above_zero a_share weight_fine region_fine tolerances_fine range turns rangeTo turnsTo loopTo loopOn lt le of_bits
+unfolding load_sheet read_sheet finished loose_row accent_down row_due row_names row_wrong named same_lists repeated list_wrong record_verdict complete due_next size_of body_verdict settings_verdict tone_verdict accent_verdict row_verdict list_verdict component_verdict point_fine points_fine holds zero_or_held added above_zero a_share weight_fine region_fine tolerances_fine range turns range_to turns_to loop_to loop_on lt le of_bits
 read s = load_sheet s
 
 abbrev one : List ℕ

@@ -35,19 +35,19 @@ module _ (f : ℕ → List ℕ) where
 
   -- each piece has n bytes
   module _ (n : ℕ) (each : (i : ℕ) → length (f i) ≡ n) where
-    pieces-length : (k i : ℕ) → length (pieces k i) ≡ n * k
+    pieces_length : (k i : ℕ) → length (pieces k i) ≡ n * k
     unfolding pieces
-    pieces-length zero i = omega arith
-    pieces-length (suc k) i =
+    pieces_length zero i = omega arith
+    pieces_length (suc k) i =
         length-append (f i) (pieces k (i + 1))
         ∙ (let a : length (f i) ≡ n = each i in
-        let b : length (pieces k (i + 1)) ≡ n * k = pieces-length k (i + 1) in
+        let b : length (pieces k (i + 1)) ≡ n * k = pieces_length k (i + 1) in
         let d : n * suc k ≡ n + n * k = mul-suc n k ∙ add_comm (n * k) n in
         omega arith)
 
-    pub gather-length : (lo hi : ℕ) → length (gather lo hi) ≡ n * (hi - lo)
+    pub gather_length : (lo hi : ℕ) → length (gather lo hi) ≡ n * (hi - lo)
     unfolding gather
-    gather-length lo hi = pieces-length (hi - lo) lo
+    gather_length lo hi = pieces_length (hi - lo) lo
 
 -- bs was written at `at`, and r is the place past it
 pub record Wrote (bs : List ℕ) (at : ℕ) (before after : List ℕ) (r : ℕ) : Type 0 where
@@ -73,11 +73,11 @@ module _ (f : ℕ → List ℕ) where
   write_begun lo hi at out h = record { few = h; place = refl; size = refl; same = refl }
 
   module _ {hi at : ℕ} {bs before out : List ℕ} {i o : ℕ} (w : Writing f hi at bs before out i o) where
-    pub write-room : i < hi → at + length bs ≤ length before → o + length (f i) ≤ length out
-    write-room h l = omega (arith, gather_more f i hi h, w.place, w.size)
+    pub write_room : i < hi → at + length bs ≤ length before → o + length (f i) ≤ length out
+    write_room h l = omega (arith, gather_more f i hi h, w.place, w.size)
 
-    pub write-next : i < hi → {out' : List ℕ} {o' : ℕ} → Wrote (f i) o out out' o' → Writing f hi at bs before out' (i + 1) o'
-    write-next h {out'} {o'} t =
+    pub write_next : i < hi → {out' : List ℕ} {o' : ℕ} → Wrote (f i) o out out' o' → Writing f hi at bs before out' (i + 1) o'
+    write_next h {out'} {o'} t =
         let g : gather f i hi ≡ f i ++ gather f (i + 1) hi = gather_step f i hi h in
         record {
           few = omega arith;
@@ -90,8 +90,8 @@ module _ (f : ℕ → List ℕ) where
               ∙ w.same;
         }
 
-    pub write-ended : hi ≤ i → Wrote bs at before out o
-    write-ended h =
+    pub write_ended : hi ≤ i → Wrote bs at before out o
+    write_ended h =
         let g : gather f i hi ≡ [] = gather_done f i hi h in
         record { place = omega (arith, gather_none f i hi h, w.place); same = ap (sets out o) (sym g) ∙ w.same }
 

@@ -2,7 +2,7 @@
 use Rattle.std.specs.Prelude.{ℕ, zero, suc, ◌+◌, ◌-◌, ◌*◌, Bool, true, false, cond, not, ◌&&◌, ◌||◌, List, [], ◌∷◌, ◌++◌, eqb, leb, ltb, pos, length, get_or, Float}
 use Rattle.std.specs.Float.{fin}
 use Rattle.std.specs.Float.Ieee.{le}
-use Rattle.tonekit_core.specs.Loop.{Turn, next, stop, range, rangeTo, loopTo}
+use Rattle.tonekit_core.specs.Loop.{Turn, next, stop, range, range_to, loop_to}
 use Rattle.tonekit_core.specs.Layout.{f32_size, settings_size, sheet_settings_kind, sheet_tone_kind, sheet_tone_size, sheet_tone_prior, sheet_tone_region}
 use Rattle.tonekit_core.specs.Layout.{sheet_accent_kind, sheet_accent_size, sheet_accent_contour, sheet_row_kind, sheet_row_size, sheet_row_accent, sheet_row_tone}
 use Rattle.tonekit_core.specs.Layout.{sheet_row_prev, sheet_row_list, sheet_row_final_list, sheet_list_kind, sheet_list_size, sheet_list_owner, sheet_list_form}
@@ -183,7 +183,7 @@ loose_turn s st r u =
     (stop (found.At (row_at st r)))
 
 unfoldable pub loose_row : List ℕ → Sst → Found
-loose_row s st = rangeTo (loose_turn s st) (λ u. found.Nothing) 0 st.rows 0
+loose_row s st = range_to (loose_turn s st) (λ u. found.Nothing) 0 st.rows 0
 
 -- an accent whose number is not above that of the one before it
 abbrev pub accent_turn : List ℕ → Sst → ℕ → ℕ → Turn ℕ Found
@@ -192,7 +192,7 @@ accent_turn s st i before =
     cond (ltb before n) (next n) (stop (found.At (get_or st.accents i 0)))
 
 unfoldable pub accent_down : List ℕ → Sst → Found
-accent_down s st = rangeTo (accent_turn s st) (λ n. found.Nothing) 0 (length st.accents) 0
+accent_down s st = range_to (accent_turn s st) (λ n. found.Nothing) 0 (length st.accents) 0
 
 -- row r is the one due at its place
 abbrev pub prev_due_lem : List ℕ → Sst → ℕ → ℕ
@@ -223,7 +223,7 @@ row_turn s st r m =
     (stop (found.At (row_at st r)))
 
 unfoldable pub row_wrong : List ℕ → Sst → Found
-row_wrong s st = rangeTo (row_turn s st) (λ m. found.Nothing) 0 st.rows 0
+row_wrong s st = range_to (row_turn s st) (λ m. found.Nothing) 0 st.rows 0
 
 -- a row names list n
 abbrev pub names_turn : List ℕ → Sst → ℕ → ℕ → Bool → Bool
@@ -258,7 +258,7 @@ list_turn s st i u =
     (stop (found.At o))
 
 unfoldable pub list_wrong : List ℕ → Sst → Found
-list_wrong s st = rangeTo (list_turn s st) (λ u. found.Nothing) 0 (length st.lists) 0
+list_wrong s st = range_to (list_turn s st) (λ u. found.Nothing) 0 (length st.lists) 0
 
 -- "a sheet's list references (7), then 8, are judged at its end"; 8 stands at the first accent, row or list at fault
 abbrev pub or_else : Found → Found → Found
@@ -297,7 +297,7 @@ start = record { at = 0; st = record { last = 0; tones = []; accents = []; rows 
 
 -- a sheet at the front of a longer input. A record has at least one byte, so there are no more turns than bytes, and one for what is missing
 unfoldable pub read_sheet : List ℕ → Out
-read_sheet s = loopTo (record_turn s) (refused CutShort (length s)) (length s + 1) start
+read_sheet s = loop_to (record_turn s) (refused CutShort (length s)) (length s + 1) start
 
 -- a single sheet: "3 follows"
 abbrev pub singly : List ℕ → Out → Out

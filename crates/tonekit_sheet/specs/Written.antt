@@ -2,7 +2,7 @@
 use Rattle.std.specs.Prelude.{ℕ, ◌≡◌, refl, true, false, cond, List, [], ◌∷◌, ◌++◌, eqb, replicate}
 use Rattle.std.proofs.Math.Option.{Option, none, some}
 use Rattle.std.proofs.Common.{inl, inr, arith}
-use Rattle.tonekit_core.specs.Loop.{turns, range, turnsTo, rangeTo}
+use Rattle.tonekit_core.specs.Loop.{turns, range, turns_to, range_to}
 use Rattle.tonekit_expect.specs.Source.{Settings, Tone, Accent, Carried, Source, accent_in, tone_in, settings_at}
 use Rattle.tonekit_expect.specs.Lookup.{index_of}
 use Rattle.tonekit_expect.specs.declared.Context.{Context}
@@ -132,19 +132,19 @@ abbrev at : ℕ → ℕ → ℕ → Context
 at accent prev last = record { accent = accent; tone = 1; prev = prev; last = last }
 
 not_final : look_sheet printed read (at 3 0 0) ≡ some (lone 3 7 0 0)
-unfolding look_sheet index_of rangeTo turnsTo carried_from carried_at bits_at
+unfolding look_sheet index_of range_to turns_to carried_from carried_at bits_at
 not_final = refl
 
 final : look_sheet printed read (at 3 0 1) ≡ some (lone 3 8 0 0)
-unfolding look_sheet index_of rangeTo turnsTo carried_from carried_at bits_at
+unfolding look_sheet index_of range_to turns_to carried_from carried_at bits_at
 final = refl
 
 second_accent : look_sheet printed read (at 5 0 0) ≡ some (lone 3 8 0 0)
-unfolding look_sheet index_of rangeTo turnsTo carried_from carried_at bits_at
+unfolding look_sheet index_of range_to turns_to carried_from carried_at bits_at
 second_accent = refl
 
 after_tone : look_sheet printed read (at 5 1 0) ≡ none
-unfolding look_sheet index_of rangeTo turnsTo carried_from carried_at bits_at
+unfolding look_sheet index_of range_to turns_to carried_from carried_at bits_at
 after_tone = refl
 
 -- ---- every field of each record, read and written: bytes that are their own offsets behind the kind

@@ -68,27 +68,27 @@ module _ (w : List Carried → ℕ) where
     abbrev pub left : List (List Carried) → ℕ
     left seen = sum_to (unseen seen) n
 
-    fewer-at : (seen : List (List Carried)) (v : List Carried) (i : ℕ) → unseen (seen ++ (v ∷ [])) i ≤ unseen seen i
+    fewer_at : (seen : List (List Carried)) (v : List Carried) (i : ℕ) → unseen (seen ++ (v ∷ [])) i ≤ unseen seen i
     unfolding unseen
-    fewer-at seen v i =
+    fewer_at seen v i =
         split (seen_in (f i) seen)
         (λ e. rw (e, seen_more (f i) seen (v ∷ []) e) (omega arith))
         (λ e. split (seen_in (f i) (seen ++ (v ∷ []))) (λ g. rw (e, g) (omega arith)) (λ g. rw (e, g) (omega arith)))
 
-    pub left-fewer : (seen : List (List Carried)) (v : List Carried) → left (seen ++ (v ∷ [])) ≤ left seen
-    left-fewer seen v = sum_most (unseen (seen ++ (v ∷ []))) (unseen seen) n (λ i l. fewer-at seen v i)
+    pub left_fewer : (seen : List (List Carried)) (v : List Carried) → left (seen ++ (v ∷ [])) ≤ left seen
+    left_fewer seen v = sum_most (unseen (seen ++ (v ∷ []))) (unseen seen) n (λ i l. fewer_at seen v i)
 
     taken_at : (seen : List (List Carried)) (v : List Carried) (i : ℕ) → f i ≡ v → seen_in v seen ≡ false → w v + unseen (seen ++ (v ∷ [])) i ≤ unseen seen i
     unfolding unseen
     taken_at seen v i e h = rw (e, h, seen_last v seen) (omega arith)
 
-    pub left-all : left [] ≡ sum_to (λ i. w (f i)) n
+    pub left_all : left [] ≡ sum_to (λ i. w (f i)) n
     unfolding unseen seen_in
-    left-all = refl
+    left_all = refl
 
     pub left_less : (seen : List (List Carried)) (v : List Carried) (i : ℕ) → i < n → f i ≡ v → seen_in v seen ≡ false → w v + left (seen ++ (v ∷ [])) ≤ left seen
     left_less seen v i l e h =
-        sum_less (unseen (seen ++ (v ∷ []))) (unseen seen) (w v) n i l (λ j b. fewer-at seen v j) (taken_at seen v i e h)
+        sum_less (unseen (seen ++ (v ∷ []))) (unseen seen) (w v) n i l (λ j b. fewer_at seen v j) (taken_at seen v i e h)
 
 -- ---- the lists of a sheet, from two pools
 module _ (f : ℕ → List Carried) (n : ℕ) (g : ℕ → List Carried) (m : ℕ) where
@@ -106,19 +106,19 @@ module _ (f : ℕ → List Carried) (n : ℕ) (g : ℕ → List Carried) (m : �
 
     room_first : Room []
     unfolding weigh
-    room_first = omega (arith, left-all w f n, left-all w g m)
+    room_first = omega (arith, left_all w f n, left_all w g m)
 
-    room-one : (seen : List (List Carried)) (v : List Carried) → Pooled v → seen_in v seen ≡ false → Room seen → Room (seen ++ (v ∷ []))
-    room-one seen v p h r =
+    room_one : (seen : List (List Carried)) (v : List Carried) → Pooled v → seen_in v seen ≡ false → Room seen → Room (seen ++ (v ∷ []))
+    room_one seen v p h r =
         let e = weigh_snoc w seen v in
-        let a = left-fewer w f n seen v in
-        let b = left-fewer w g m seen v in
+        let a = left_fewer w f n seen v in
+        let b = left_fewer w g m seen v in
         ⊎_elim (λ t. omega (arith, left_less w f n seen v t.0 t.1 t.2 h)) (λ t. omega (arith, left_less w g m seen v t.0 t.1 t.2 h)) p
 
     room_noted : (seen : List (List Carried)) (o : Option (List Carried)) → ((v : List Carried) → o ≡ some v → Pooled v) → Room seen → Room (noted seen o)
     unfolding noted
     room_noted seen none p r = r
-    room_noted seen (some v) p r = split (seen_in v seen) (λ e. rw e r) (λ e. rw e (room-one seen v (p v refl) e r))
+    room_noted seen (some v) p r = split (seen_in v seen) (λ e. rw e r) (λ e. rw e (room_one seen v (p v refl) e r))
 
     pub budget : (v : View) → ((r last : ℕ) (cs : List Carried) → v.row r last ≡ some cs → Pooled cs) → weigh w (lists_of v) ≤ whole
     unfolding lists_of

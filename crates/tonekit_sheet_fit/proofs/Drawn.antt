@@ -7,7 +7,7 @@ use native.Mathlib.Omega.{arith}
 use lib.Dec.{eqb, leb, ltb}
 use lib.ListN.{length, get_or}
 use borrow.Author.Tests.{eqb-true, eqb-false, ltb-true, lt-ltb, le-leb, lt-leb}
-use Rattle.tonekit_core.specs.Loop.{Turn, next, stop, turns, range, loopOn, loopTo}
+use Rattle.tonekit_core.specs.Loop.{Turn, next, stop, turns, range, loop_on, loop_to}
 use Rattle.tonekit_bytes.specs.Fields.{byte_at}
 use Rattle.tonekit_pack.specs.Pack.{Pst, number_at}
 use Rattle.tonekit_core.proofs.Split.{split}
@@ -75,15 +75,15 @@ module _ (s : List ℕ) (st : Pst) (c : Context) where
   }
   turn_right i h found.Nothing e = parent_right i (parent_of s st i) refl
 
-  walk_right : (n : ℕ) (t : Turn ℕ Winner) (a r : ℕ) → Right t → loopOn (climb_turn s st c) winner.Nothing n t ≡ winner.Rule a r → (a < length st.accents) × Behind a r
-  unfolding loopOn climb_turn
+  walk_right : (n : ℕ) (t : Turn ℕ Winner) (a r : ℕ) → Right t → loop_on (climb_turn s st c) winner.Nothing n t ≡ winner.Rule a r → (a < length st.accents) × Behind a r
+  unfolding loop_on climb_turn
   walk_right zero (next j) a r R e = let z : ◌≡◌ {A = ℕ} 0 1 = cc in absurd (omega arith)
   walk_right zero (stop w) a r R e = R.ending a r (ap stop e)
   walk_right (suc n) (next j) a r R e = walk_right n (climb_turn s st c j) a r (turn_right j (R.onward j refl) (best_rule s st c j) refl) e
   walk_right (suc n) (stop w) a r R e = R.ending a r (ap stop e)
 
-  walk_from : (n i a r : ℕ) → i < length st.accents → loopTo (climb_turn s st c) winner.Nothing n i ≡ winner.Rule a r → (a < length st.accents) × Behind a r
-  unfolding loopTo
+  walk_from : (n i a r : ℕ) → i < length st.accents → loop_to (climb_turn s st c) winner.Nothing n i ≡ winner.Rule a r → (a < length st.accents) × Behind a r
+  unfolding loop_to
   walk_from n i a r h e =
       walk_right n (next i) a r
       (record { onward = λ j q. let g : i ≡ j = cc in subst (λ (n : ℕ). n < length st.accents) g h; ending = λ a r q. let z : ◌≡◌ {A = ℕ} 0 1 = cc in absurd (omega arith) }) e

@@ -21,7 +21,7 @@ use Rattle.tonekit_sheet.specs.Fit.{components_in, Fit}
 use Rattle.tonekit_sheet_fit.proofs.Budget.{sum_same, sum_scaled, weigh, Pooled, whole, budget}
 use Rattle.tonekit_sheet_fit.proofs.Drawn.{Drawn, ruled, cited, rule_of, citation_of, list_of, drawn}
 use Rattle.tonekit_sheet_fit.proofs.Parts.{parts_of, few_parts}
-use Rattle.tonekit_sheet_fit.proofs.Held.{settings_fit, tones-fit, tones_apart, accents-fit, accents_apart}
+use Rattle.tonekit_sheet_fit.proofs.Held.{settings_fit, tones_fit, tones_apart, accents_fit, accents_apart}
 use Rattle.tonekit_sheet_fit.proofs.Lists.{lists_fit}
 
 -- ---- the lists that a lookup can give: one for each rule, and one for each accent and tone
@@ -102,11 +102,11 @@ fit_of_pack s b st e p =
       settings = settings_fit s b st e l;
       some_tones = omega (arith, some_tones s st e l);
       few_tones = omega (arith, l.kept.few_tones);
-      tones = tones-fit s b st e l;
+      tones = tones_fit s b st e l;
       tones_once = tones_apart s st e l;
       some_accents = omega (arith, some_accents s st e l);
       few_accents = omega (arith, l.kept.few_accents);
-      accents = accents-fit s b st e l;
+      accents = accents_fit s b st e l;
       accents_once = accents_apart s st e l;
       lists = λ c cs h q. lists_fit s b st e p c cs q;
       few_lists = few_lists s st e p;

@@ -67,13 +67,13 @@ module _ (s : List ℕ) (b : Bytes s) where
         let t = l.kept.begun (omega arith) in
         record { temperature_bits = u32_below s b 1; threshold_bits = u32_below s b 5; temperature = t.1; threshold = t.2 }
 
-    pub tones-fit : (i : ℕ) → i < length (map (tone_at s) st.tones) → ToneFit (get_or (map (tone_at s) st.tones) i no_tone_lem)
-    tones-fit i h =
+    pub tones_fit : (i : ℕ) → i < length (map (tone_at s) st.tones) → ToneFit (get_or (map (tone_at s) st.tones) i no_tone_lem)
+    tones_fit i h =
         let g : i < length st.tones = omega (arith, length-map st.tones (tone_at s)) in
         rw (map_at (tone_at s) st.tones i 0 no_tone_lem g) (tone_fits _ (get_or st.tones i 0) (l.kept.tones i g))
 
-    pub accents-fit : (i : ℕ) → i < length (map (accent_at s) st.accents) → AccentFit (get_or (map (accent_at s) st.accents) i no_accent_lem)
-    accents-fit i h =
+    pub accents_fit : (i : ℕ) → i < length (map (accent_at s) st.accents) → AccentFit (get_or (map (accent_at s) st.accents) i no_accent_lem)
+    accents_fit i h =
         let g : i < length st.accents = omega (arith, length-map st.accents (accent_at s)) in
         rw (map_at (accent_at s) st.accents i 0 no_accent_lem g) (accent_fits _ (get_or st.accents i 0) (l.kept.accents i g))
 

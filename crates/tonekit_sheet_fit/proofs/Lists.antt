@@ -98,8 +98,8 @@ module _ (s : List ℕ) (b : Bytes s) (st : Pst) (e : ℕ) (p : read_pack s ≡ 
     at : (j : ℕ) → j < m.count → get_or (list_of s m) j no_carried ≡ carried (component_of s m j)
     at j h = components_at s m no_carried m.count j h
 
-    carried-fits : (j : ℕ) → j < m.count → CarriedFit (carried (component_of s m 0)) j (carried (component_of s m j))
-    carried-fits j h =
+    carried_fits : (j : ℕ) → j < m.count → CarriedFit (carried (component_of s m 0)) j (carried (component_of s m j))
+    carried_fits j h =
         let n = named s m j in
         let z = named s m 0 in
         record {
@@ -113,9 +113,9 @@ module _ (s : List ℕ) (b : Bytes s) (st : Pst) (e : ℕ) (p : read_pack s ≡ 
           points = λ k g. carried_fine s m j k g (points_fine_lem s st e p c m j q h k g);
         }
 
-    list-fits : ListFit (source_of_pack s st) (list_of s m)
+    list_fits : ListFit (source_of_pack s st) (list_of s m)
     unfolding source_of_pack
-    list-fits =
+    list_fits =
         let f = fine in
         let n = components_length s m m.count in
         let z = named s m 0 in
@@ -123,7 +123,7 @@ module _ (s : List ℕ) (b : Bytes s) (st : Pst) (e : ℕ) (p : read_pack s ≡ 
         record {
           any = omega (arith, f.any);
           few = omega (arith, f.few);
-          each = λ j h. let g : j < m.count = omega arith in rw (first, at j g) (carried-fits j g);
+          each = λ j h. let g : j < m.count = omega arith in rw (first, at j g) (carried_fits j g);
           owner = rw (first, z.owner) f.owner;
           least = rw (first, z.form) f.least;
           most = rw (first, z.form) f.most;
@@ -135,7 +135,7 @@ module _ (s : List ℕ) (b : Bytes s) (st : Pst) (e : ℕ) (p : read_pack s ≡ 
 
   of_look : (o : Look) (cs : List Carried) → look_up s st c ≡ o → given s o ≡ some cs → ListFit (source_of_pack s st) cs
   of_look look.Nothing cs q g = let z : ◌≡◌ {A = ℕ} 0 1 = cc in absurd (omega arith)
-  of_look (look.Found m) cs q g = let h : list_of s m ≡ cs = cc in subst (ListFit (source_of_pack s st)) h (list-fits m q)
+  of_look (look.Found m) cs q g = let h : list_of s m ≡ cs = cc in subst (ListFit (source_of_pack s st)) h (list_fits m q)
 
   pub lists_fit : (cs : List Carried) → (source_of_pack s st).look c ≡ some cs → ListFit (source_of_pack s st) cs
   unfolding source_of_pack

@@ -17,7 +17,7 @@ use Rattle.tonekit_pack.proofs.Loads.{loads}
 use Rattle.tonekit_expect.specs.declared.Listing.{Listing}
 use Rattle.tonekit_expect.specs.Lookup.{component_of}
 use Rattle.tonekit_expect.specs.Source.{Accent, Carried, accent_in, carried, components, tone_at, accent_at, source_of_pack}
-use Rattle.tonekit_sheet.specs.Gather.{pieces, gather, gather-length}
+use Rattle.tonekit_sheet.specs.Gather.{pieces, gather, gather_length}
 use Rattle.tonekit_sheet.specs.Sheet.{or_skip, asc_from, ascending, View, rows_of, view_of, lists_of, bits_bytes, component_bytes, components_bytes, tone_piece, accent_piece, row_piece, list_piece, bytes_with, bytes_of, sheet}
 use Rattle.tonekit_sheet_fit.specs.Room.{Suffices}
 use Rattle.tonekit_sheet_fit.proofs.Budget.{sum_scaled, weigh}
@@ -118,9 +118,9 @@ module _ (v : View) (lists : List (List Carried)) (few_tones : length v.tones �
         length-append accents (rows ++ (own ++ (23 ∷ []))),
         length-append rows (own ++ (23 ∷ [])),
         length-append own (23 ∷ []),
-        gather-length (tone_piece v) 15 (λ i. refl) 0 (length v.tones),
-        gather-length (accent_piece v) 18 (λ i. refl) 0 (length v.accents),
-        gather-length (row_piece v lists) 6 (λ i. refl) 0 (rows_of v),
+        gather_length (tone_piece v) 15 (λ i. refl) 0 (length v.tones),
+        gather_length (accent_piece v) 18 (λ i. refl) 0 (length v.accents),
+        gather_length (row_piece v lists) 6 (λ i. refl) 0 (rows_of v),
       )
 
 -- ---- the sheet of a pack

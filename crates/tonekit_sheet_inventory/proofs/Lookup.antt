@@ -30,14 +30,14 @@ module _ (s : List ℕ) (st : Sst) (n : ℕ) where
   prev_inside p e =
       split (eqb n 0)
       (λ z. let f : found.At 0 ≡ found.At p = rw z at e in let q : 0 ≡ p = cc in omega arith)
-      (λ z. by-tone z (index_of s st.tones n) refl)
+      (λ z. by_tone z (index_of s st.tones n) refl)
     where
-      by-tone : eqb n 0 ≡ mathlib.Core.Bool.false → (f : Found) → index_of s st.tones n ≡ f → p ≤ length st.tones
-      by-tone z (found.At q) i =
+      by_tone : eqb n 0 ≡ mathlib.Core.Bool.false → (f : Found) → index_of s st.tones n ≡ f → p ≤ length st.tones
+      by_tone z (found.At q) i =
           let g : found.At (q + 1) ≡ found.At p = rw (z, i) at e in
           let w : q + 1 ≡ p = cc in
           omega (arith, (index_found s st.tones n q i).inside)
-      by-tone z found.Nothing i =
+      by_tone z found.Nothing i =
           let g : found.Nothing ≡ found.At p = rw (z, i) at e in
           let w : ◌≡◌ {A = ℕ} 0 1 = cc in
           absurd (omega arith)
@@ -71,9 +71,9 @@ module _ (s : List ℕ) (st : Sst) (c : Context) where
     no_tone e = rw (ea, e)
 
     module _ (t : ℕ) (et : index_of s st.tones c.tone ≡ found.At t) where
-      pub no-prev : prev_found s st c.prev ≡ found.Nothing → look_sheet s st c ≡ none
+      pub no_prev : prev_found s st c.prev ≡ found.Nothing → look_sheet s st c ≡ none
       unfolding look_sheet
-      no-prev e = rw (ea, et, e)
+      no_prev e = rw (ea, et, e)
 
       module _ (p : ℕ) (ep : prev_found s st c.prev ≡ found.At p) where
         pub number_is : look_sheet s st c ≡ list_numbered s st (byte_at s (row_at st (row_place st a t p) + final_place c))

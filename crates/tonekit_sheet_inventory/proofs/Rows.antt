@@ -40,4 +40,4 @@ module _ (s : List ℕ) (st : Sst) (e : ℕ) (h : read_sheet s ≡ loaded st e) 
       let r = row_place st a t p in
       let b : r < st.rows = omega (arith, l.all_rows, inside (length st.accents) (length st.tones) a t p ha ht hp) in
       let o = (ordered s st e e l.fine).rows r b in
-      split (eqb c.last 0) (λ w. rw w o.first-held) (λ w. rw w o.final-held)
+      split (eqb c.last 0) (λ w. rw w o.first_held) (λ w. rw w o.final_held)

@@ -16,7 +16,7 @@ use Rattle.tonekit_inventory.specs.Fields.{region_at}
 use Rattle.tonekit_inventory.specs.declared.Named.{Named}
 use Rattle.tonekit_inventory.specs.Slots.{InSlots, Lists}
 use Rattle.tonekit_inventory.specs.Gather.{region_of, named_of, with_tone, weights_of, points_of, no_tone_lem, given_of, in_context, f32, no_inventory}
-use Rattle.tonekit_inventory.proofs.Going.{map_at, going_starts, going-ends, going_on}
+use Rattle.tonekit_inventory.proofs.Going.{map_at, going_starts, going_ends, going_on}
 use Rattle.tonekit_inventory.proofs.Going as going
 use Rattle.tonekit_sheet.specs.FromSheet.{tone_at, carried_from, look_sheet, source_of_sheet}
 use Rattle.tonekit_sheet_read.specs.declared.Sheet.{Sheet}
@@ -73,7 +73,7 @@ module _ (s : List ℕ) (st : Sheet) (c : Context) where
 
   module _ (w ps : List Float) (i : Inventory) (t : ℕ) (g : Going s st c w ps i t) where
     pub ends : st.tones ≤ t → st.tones ≤ 8 → Lists (source_of_sheet s (shown st)) c i w ps
-    ends = going-ends (source_of_sheet s (shown st)) st.tones c w ps i t g
+    ends = going_ends (source_of_sheet s (shown st)) st.tones c w ps i t g
 
     pub goes : (v qs : List Float) (j : Inventory) (name : Named) → t < st.tones → (o : ℕ) → o ≡ sheet_tone_at t → (f : Found) → Looks s (shown st) (in_context c (byte_at s (o + 1))) f
         → name ≡ named_of (given_of (told s f)) → name.count ≤ 4

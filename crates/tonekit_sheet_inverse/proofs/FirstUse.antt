@@ -19,7 +19,7 @@ use Rattle.tonekit_sheet.specs.Reader.{Sst, most}
 use Rattle.tonekit_sheet.specs.FromSheet.{list_numbered}
 use Rattle.tonekit_sheet_laws.proofs.Loops.{range_last}
 use Rattle.tonekit_sheet_laws.proofs.Numbers.{seen_here, place_below, place_get, Once, place_once}
-use Rattle.tonekit_sheet_inverse.proofs.Order.{firstList, finalList, mostTurn, greatest, Ordered}
+use Rattle.tonekit_sheet_inverse.proofs.Order.{first_list, final_list, most_turn, greatest, Ordered}
 use Rattle.tonekit_sheet_inverse.proofs.Pieces.{content_at}
 
 -- ---- the greater of two
@@ -39,18 +39,18 @@ module _ (s : List ℕ) (st : Sst) where
   grows zero r = let e : r + 0 ≡ r = omega arith in rw e (omega arith)
   grows (suc k) r =
       let e : r + suc k ≡ r + k + 1 = omega arith in
-      rw (e, range_last (mostTurn s st) (r + k) 0)
-      (omega (arith, grows k r, most_left (greatest s st (r + k)) (firstList s st (r + k)), most_left (most (greatest s st (r + k)) (firstList s st (r + k))) (finalList s st (r + k))))
+      rw (e, range_last (most_turn s st) (r + k) 0)
+      (omega (arith, grows k r, most_left (greatest s st (r + k)) (first_list s st (r + k)), most_left (most (greatest s st (r + k)) (first_list s st (r + k))) (final_list s st (r + k))))
 
   -- it is at least each that a row names
-  named_below : (r n : ℕ) → r < st.rows → (firstList s st r ≡ n) ⊎ (finalList s st r ≡ n) → n ≤ greatest s st st.rows
+  named_below : (r n : ℕ) → r < st.rows → (first_list s st r ≡ n) ⊎ (final_list s st r ≡ n) → n ≤ greatest s st st.rows
   named_below r n h w =
       let m = greatest s st r in
-      let a = firstList s st r in
-      let b = finalList s st r in
+      let a = first_list s st r in
+      let b = final_list s st r in
       let k = st.rows - (r + 1) in
       let e : r + 1 + k ≡ st.rows = omega arith in
-      let g : most (most m a) b ≤ greatest s st st.rows = rw (range_last (mostTurn s st) r 0, e) at (grows k (r + 1)) in
+      let g : most (most m a) b ≤ greatest s st st.rows = rw (range_last (most_turn s st) r 0, e) at (grows k (r + 1)) in
       ⊎_elim (λ q. omega (arith, most_right m a, most_left (most m a) b)) (λ q. omega (arith, most_right (most m a) b)) w
 
   -- so it is the count of the lists
@@ -132,8 +132,8 @@ module _ (s : List ℕ) (st : Sst) (different : (i j : ℕ) → j < i → i < le
   module _ (o : Ordered s st) where
     -- rows whose lookups give the lists that they name: after r of them the lists are those up to the greatest number
     module _ (row : ℕ → ℕ → Option (List Carried))
-        (first_is : (r : ℕ) → r < st.rows → row r 0 ≡ list_numbered s st (firstList s st r))
-        (final-is : (r : ℕ) → r < st.rows → row r 1 ≡ list_numbered s st (finalList s st r)) where
+        (first_is : (r : ℕ) → r < st.rows → row r 0 ≡ list_numbered s st (first_list s st r))
+        (final-is : (r : ℕ) → r < st.rows → row r 1 ≡ list_numbered s st (final_list s st r)) where
       record Upto (r : ℕ) (l : List (List Carried)) : Type 0 where
         is : l ≡ contents s st (greatest s st r)
         few : greatest s st r ≤ length st.lists
@@ -142,19 +142,19 @@ module _ (s : List ℕ) (st : Sst) (different : (i j : ℕ) → j < i → i < le
       upto_next r l h u =
           let q = o.rows r h in
           let m = greatest s st r in
-          let a = firstList s st r in
-          let b = finalList s st r in
-          let x : noted l (row r 0) ≡ contents s st (most m a) = rw (u.is, first_is r h) (noted_list m a q.first_next q.first-held) in
+          let a = first_list s st r in
+          let b = final_list s st r in
+          let x : noted l (row r 0) ≡ contents s st (most m a) = rw (u.is, first_is r h) (noted_list m a q.first_next q.first_held) in
           record {
-            is = rw (x, final-is r h, range_last (mostTurn s st) r 0) (noted_list (most m a) b q.final-next q.final-held);
-            few = rw (range_last (mostTurn s st) r 0) (most_bound (most m a) b (length st.lists) (most_bound m a (length st.lists) u.few q.first-held) q.final-held);
+            is = rw (x, final-is r h, range_last (most_turn s st) r 0) (noted_list (most m a) b q.final_next q.final_held);
+            few = rw (range_last (most_turn s st) r 0) (most_bound (most m a) b (length st.lists) (most_bound m a (length st.lists) u.few q.first_held) q.final_held);
           }
 
       upto_all : Upto st.rows (range (λ r l. noted (noted l (row r 0)) (row r 1)) 0 st.rows [])
       unfolding contents
       upto_all =
           range_keeps (λ (r : ℕ) (l : List (List Carried)). noted (noted l (row r 0)) (row r 1)) Upto 0 st.rows [] (omega arith) upto_next
-          (let z = range_done (mostTurn s st) 0 0 0 (omega arith) in record { is = rw z; few = rw z (omega arith) })
+          (let z = range_done (most_turn s st) 0 0 0 (omega arith) in record { is = rw z; few = rw z (omega arith) })
 
       -- and every list is named
       pub lists_are : range (λ r l. noted (noted l (row r 0)) (row r 1)) 0 st.rows [] ≡ contents s st (length st.lists)

@@ -17,7 +17,7 @@ use Rattle.tonekit_sheet.specs.FromSheet.{tone_at, accent_at, look_sheet, source
 use Rattle.tonekit_sheet_inverse.specs.Place.{list_place, lists_from}
 use Rattle.tonekit_sheet_inverse.proofs.Spans.{Spans, one_spans, joined, gather_spans, spans_all}
 use Rattle.tonekit_sheet_inverse.proofs.Loads.{Loads, loads_whole}
-use Rattle.tonekit_sheet_inverse.proofs.Order.{accentNumber, firstList, finalList, Ordered, ordered}
+use Rattle.tonekit_sheet_inverse.proofs.Order.{accent_number_of, first_list, final_list, Ordered, ordered}
 use Rattle.tonekit_sheet_inverse.proofs.Ascending.{number_of, ascending_up}
 use Rattle.tonekit_sheet_inverse.proofs.Look.{map_get, context_at, row_context_lem, look_row}
 use Rattle.tonekit_sheet_inverse.proofs.Pieces.{ListIs, settings_spans, tone_spans, accent_spans, row_spans, list_spans, alike}
@@ -35,14 +35,14 @@ view_at s st = record { settings = settings_at s 0; tones = tones_of s st; accen
 
 module _ (s : List ℕ) (b : Bytes s) (st : Sst) (e : ℕ) (l : Loads s st e) (o : Ordered s st) where
   -- ---- the view
-  accent_number : (i : ℕ) → i < length st.accents → number_of (accents_of s st) i ≡ accentNumber s st i
+  accent_number : (i : ℕ) → i < length st.accents → number_of (accents_of s st) i ≡ accent_number_of s st i
   accent_number i h = ap (λ (a : Accent). a.number) (map_get (accent_at s) st.accents i no_accent_lem h)
 
   accents_stand : ascending (accents_of s st) ≡ accents_of s st
   accents_stand =
       let n : length (accents_of s st) ≡ length st.accents = length-map st.accents (accent_at s) in
       ascending_up (accents_of s st)
-      (λ i h. let q = accent_number i (omega arith) in (rw q (o.accents-least i (omega arith)), rw q (b _)))
+      (λ i h. let q = accent_number i (omega arith) in (rw q (o.accents_least i (omega arith)), rw q (b _)))
       (λ i j h g. rw (accent_number i (omega arith), accent_number j (omega arith)) (o.accents_up i j h (omega arith)))
 
   view_is : view_of (source_of_sheet s st) ≡ view_at s st
@@ -90,8 +90,8 @@ module _ (s : List ℕ) (b : Bytes s) (st : Sst) (e : ℕ) (l : Loads s st e) (o
   row_span : (r : ℕ) → r < st.rows → Spans s (row_at st r) (row_at st (r + 1)) (row_piece (view_at s st) (contents s st (length st.lists)) r)
   row_span r h =
       let q = o.rows r h in
-      let n : number_in (contents s st (length st.lists)) ((view_at s st).row r 0) ≡ firstList s st r = rw (look_row s st e l o r 0 h) (number_is s st different (firstList s st r) q.first-held) in
-      let m : number_in (contents s st (length st.lists)) ((view_at s st).row r 1) ≡ finalList s st r = rw (look_row s st e l o r 1 h) (number_is s st different (finalList s st r) q.final-held) in
+      let n : number_in (contents s st (length st.lists)) ((view_at s st).row r 0) ≡ first_list s st r = rw (look_row s st e l o r 0 h) (number_is s st different (first_list s st r) q.first_held) in
+      let m : number_in (contents s st (length st.lists)) ((view_at s st).row r 1) ≡ final_list s st r = rw (look_row s st e l o r 1 h) (number_is s st different (final_list s st r) q.final_held) in
       rw (n, m, row_context_lem s st e l o r 0 h) (row_spans s b (row_at st r) (row_at st (r + 1)) (context_at s st r 0) (omega arith) (l.rows r h) q.accent q.tone q.prev)
 
   rows_span : Spans s (rows_from st) (lists_from st) (gather (row_piece (view_at s st) (contents s st (length st.lists))) 0 (rows_of (view_at s st)))

@@ -8,7 +8,7 @@ use native.Mathlib.Numerals.{add-one}
 use lib.Dec.{eqb}
 use lib.ListN.{length, get_or, length-map}
 use borrow.Author.Tests.{eq-eqb, ne_eqb}
-use Rattle.tonekit_core.specs.Loop.{rangeTo, to_again, to_stop}
+use Rattle.tonekit_core.specs.Loop.{range_to, to_again, to_stop}
 use Rattle.tonekit_bytes.specs.Fields.{byte_at}
 use Rattle.tonekit_pack.specs.Pack.{number_at}
 use Rattle.tonekit_expect.specs.Lookup.{index_turn, index_of}
@@ -20,12 +20,12 @@ use Rattle.tonekit_sheet.specs.Reader.{Sst, rows_due, row_at, prev_due_lem}
 use Rattle.tonekit_sheet.specs.FromSheet.{tone_at, accent_at, list_numbered, prev_found, look_sheet}
 use Rattle.tonekit_sheet_laws.proofs.RowPlaces.{Places, some_tone, row_places}
 use Rattle.tonekit_sheet_inverse.proofs.Loads.{Loads}
-use Rattle.tonekit_sheet_inverse.proofs.Order.{accentNumber, Ordered}
+use Rattle.tonekit_sheet_inverse.proofs.Order.{accent_number_of, Ordered}
 use Rattle.tonekit_sheet_inverse.proofs.Rows.{row_back}
 
 -- ---- the place of a number that no record before it has
 module _ (s os : List ℕ) (n i : ℕ) (b : i < length os) (e : number_at s (get_or os i 0) ≡ n) (new : (j : ℕ) → j < i → number_at s (get_or os j 0) ≡ n → ⊥) where
-  searched : (k j : ℕ) → j + k ≡ i → rangeTo (index_turn s os n) (λ u. found.Nothing) j (length os) 0 ≡ found.At i
+  searched : (k j : ℕ) → j + k ≡ i → range_to (index_turn s os n) (λ u. found.Nothing) j (length os) 0 ≡ found.At i
   searched zero j q =
       let z : j ≡ i = omega arith in
       rw z (sym (to_stop (index_turn s os n) (λ u. found.Nothing) {a = found.At i} refl b (rw (eq-eqb (number_at s (get_or os i 0)) n e))))
@@ -46,15 +46,15 @@ map_get f (o ∷ os) (suc i) d b = map_get f os i d (omega arith)
 -- the context of row r, by the records that are due there
 abbrev pub context_at : List ℕ → Sst → ℕ → ℕ → Context
 context_at s st r last = record {
-  accent = accentNumber s st (accent_place (length st.tones) r);
+  accent = accent_number_of s st (accent_place (length st.tones) r);
   tone = number_at s (get_or st.tones (tone_place (length st.tones) r) 0);
   prev = prev_due_lem s st (prev_place (length st.tones) r);
   last = last;
 }
 
 module _ (s : List ℕ) (st : Sst) (e : ℕ) (l : Loads s st e) (o : Ordered s st) where
-  accent_at_lem : (i : ℕ) → i < length st.accents → index_of s st.accents (accentNumber s st i) ≡ found.At i
-  accent_at_lem i b = index_at s st.accents (accentNumber s st i) i b refl (λ j c q. omega (arith, o.accents_up j i c b))
+  accent_at_lem : (i : ℕ) → i < length st.accents → index_of s st.accents (accent_number_of s st i) ≡ found.At i
+  accent_at_lem i b = index_at s st.accents (accent_number_of s st i) i b refl (λ j c q. omega (arith, o.accents_up j i c b))
 
   tone_at_lem : (i : ℕ) → i < length st.tones → index_of s st.tones (number_at s (get_or st.tones i 0)) ≡ found.At i
   tone_at_lem i b = index_at s st.tones (number_at s (get_or st.tones i 0)) i b refl (λ j c q. l.tones_once j i c b q)

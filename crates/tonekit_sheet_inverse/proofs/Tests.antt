@@ -5,7 +5,7 @@ use mathlib.Core.Bool.{Bool, true, false, cond, ◌&&◌, ◌||◌}
 use native.Mathlib.Omega.{arith}
 use lib.Dec.{eqb}
 use borrow.Author.Tests.{eqb-true, eqb-false}
-use Rattle.tonekit_core.specs.Loop.{Turn, next, stop, range, range_done, rangeTo, to_again, to_stop}
+use Rattle.tonekit_core.specs.Loop.{Turn, next, stop, range, range_done, range_to, to_again, to_stop}
 use Rattle.tonekit_core.proofs.LoopLaws.{range_keeps}
 use Rattle.tonekit_core.proofs.Split.{split, absurd_bool, either}
 use Rattle.tonekit_expect.specs.declared.Found.{Found}
@@ -20,7 +20,7 @@ module _ {S : Type 0} (t : ℕ → S → Bool) (g : ℕ → S → S) (o : ℕ �
   abbrev turn : ℕ → S → Turn S Found
   turn i u = cond (t i u) (next (g i u)) (stop (found.At (o i)))
 
-  went : (k i : ℕ) → i + k ≡ n → rangeTo turn (λ u. found.Nothing) i n (range g 0 i m) ≡ found.Nothing
+  went : (k i : ℕ) → i + k ≡ n → range_to turn (λ u. found.Nothing) i n (range g 0 i m) ≡ found.Nothing
       → (j : ℕ) → i ≤ j → j < n → t j (range g 0 j m) ≡ true
   went zero i e h j a b = absurd (omega arith)
   went (suc k) i e h j a b =
@@ -33,7 +33,7 @@ module _ {S : Type 0} (t : ℕ → S → Bool) (g : ℕ → S → S) (o : ℕ �
       (λ w. not_nothing (o i) (to_stop turn (λ u. found.Nothing) h (omega arith) (rw w)))
 
   -- none failed
-  pub none_failed : rangeTo turn (λ u. found.Nothing) 0 n m ≡ found.Nothing → (j : ℕ) → j < n → t j (range g 0 j m) ≡ true
+  pub none_failed : range_to turn (λ u. found.Nothing) 0 n m ≡ found.Nothing → (j : ℕ) → j < n → t j (range g 0 j m) ≡ true
   none_failed h j b = went n 0 (omega arith) (rw (range_done g 0 0 m (omega arith)) h) j (omega arith) b
 
 -- the turn at which a test passed, and a test that none passed

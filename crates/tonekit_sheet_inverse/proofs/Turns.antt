@@ -6,7 +6,7 @@ use native.Mathlib.Omega.{arith}
 use lib.ListN.{length}
 use lib.Dec.{ltb}
 use borrow.Author.Tests.{ne_eqb, ltb-false}
-use Rattle.tonekit_core.specs.Loop.{loopTo, loopOn, loop_again, loop_stop}
+use Rattle.tonekit_core.specs.Loop.{loop_to, loop_on, loop_again, loop_stop}
 use Rattle.tonekit_core.specs.declared.Refusal.{Refusal}
 use Rattle.tonekit_core.specs.declared.Refusal.TheVariants.{CutShort, Overrun, Loose, Unordered}
 use Rattle.tonekit_core.specs.declared.Verdict.TheVariants as verdict
@@ -20,13 +20,13 @@ use Rattle.tonekit_sheet_inverse.proofs.Records.{Sound, sound}
 
 -- the rest of the reading, from a place on
 abbrev pub run : List ℕ → ℕ → ℕ → Sst → Out
-run s n at st = loopTo (record_turn s) (refused CutShort (length s)) n (record { at = at; st = st })
+run s n at st = loop_to (record_turn s) (refused CutShort (length s)) n (record { at = at; st = st })
 
 pub not_loaded : {P : Type 0} (r : Refusal) (place e : ℕ) (st : Sst) → refused r place ≡ loaded st e → P
 not_loaded r place e st h = let z : ◌≡◌ {A = ℕ} 0 1 = cc in absurd (omega arith)
 
 pub no_turns : {P : Type 0} (s : List ℕ) (at : ℕ) (st fin : Sst) (e : ℕ) → run s 0 at st ≡ loaded fin e → P
-unfolding loopTo loopOn
+unfolding loop_to loop_on
 no_turns s at st fin e h = not_loaded CutShort (length s) e fin h
 
 pub record Accepted (s : List ℕ) (f at : ℕ) (st fin : Sst) (e : ℕ) : Type 0 where

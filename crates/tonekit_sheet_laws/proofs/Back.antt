@@ -13,7 +13,7 @@ use Rattle.tonekit_expect.specs.Lookup.{index_of}
 use Rattle.tonekit_expect.specs.declared.Context.{Context}
 use Rattle.tonekit_sheet.specs.Sheet.{View, no_tone_lem, no_accent_lem, prev_number, row_context, ascending, view_of, rows_of, lists_of, sheet}
 use Rattle.tonekit_sheet.specs.Reader.{Sst, Out, refused}
-use Rattle.tonekit_sheet.specs.FromSheet.{tone_at as toneRead, accent_at as accentRead, prev_found, look_sheet, source_of_sheet}
+use Rattle.tonekit_sheet.specs.FromSheet.{tone_at as tone_is_read, accent_at as accent_is_read, prev_found, look_sheet, source_of_sheet}
 use Rattle.tonekit_sheet.specs.Agree.{Held}
 use Rattle.tonekit_sheet.specs.Fit.{Fit, components_in}
 use Rattle.tonekit_core.specs.declared.Refusal.TheVariants.{CutShort}
@@ -48,15 +48,15 @@ module _ (s : List ℕ) (d : Out) (src : Source) (v : View) (fit : ViewFit src v
       let w = settings_read s d src v fit laid in
       λ i. record { temperature = w.temperature i; threshold = w.threshold i }
 
-  tones_same : map (toneRead s) (up_to tone_at (length v.tones)) ≡ v.tones
+  tones_same : map (tone_is_read s) (up_to tone_at (length v.tones)) ≡ v.tones
   tones_same =
-      all_read (toneRead s) tone_at v.tones no_tone_lem
+      all_read (tone_is_read s) tone_at v.tones no_tone_lem
       (λ k h. let w = tone_read s d src v fit laid k h in
       λ i. record { number = w.number i; prior = w.prior i; flag = w.flag i; from = w.from i; to = w.to i })
 
-  accents_same : map (accentRead s) (up_to (accent_at v) (length v.accents)) ≡ v.accents
+  accents_same : map (accent_is_read s) (up_to (accent_at v) (length v.accents)) ≡ v.accents
   accents_same =
-      all_read (accentRead s) (accent_at v) v.accents no_accent_lem
+      all_read (accent_is_read s) (accent_at v) v.accents no_accent_lem
       (λ k h. let w = accent_read s d src v fit laid k h in
       λ i. record { number = w.number i; contour = w.contour i; onset = w.onset i; offset = w.offset i; turning = w.turning i })
 

@@ -6,7 +6,7 @@ use native.Mathlib.Omega.{arith}
 use lib.ListN.{length, length-append, get_or-append}
 use lib.Seq.{get_or-append-add}
 use Rattle.tonekit_bytes.proofs.Stands.{Stands, stands_first, stands_then}
-use Rattle.tonekit_sheet.specs.Gather.{gather, gather_done, gather_step, gather-length}
+use Rattle.tonekit_sheet.specs.Gather.{gather, gather_done, gather_step, gather_length}
 
 -- ---- pieces
 module _ (f : ℕ → List ℕ) where
@@ -29,7 +29,7 @@ module _ (f : ℕ → List ℕ) where
   pub even_stands : {s : List ℕ} {o : ℕ} (m n i : ℕ) → ((j : ℕ) → length (f j) ≡ m) → i < n → Stands s o (gather f 0 n) → Stands s (o + m * i) (f i)
   even_stands {s} {o} m n i l h w =
       let z : i - 0 ≡ i = omega arith in
-      let g : length (gather f 0 i) ≡ m * i = rw z at (gather-length f m l 0 i) in
+      let g : length (gather f 0 i) ≡ m * i = rw z at (gather_length f m l 0 i) in
       piece_stands n i (o + m * i) h (rw g) w
 
   pub gather_next : (i : ℕ) → length (gather f 0 (i + 1)) ≡ length (gather f 0 i) + length (f i)

@@ -119,13 +119,13 @@ module _ (s : List ℕ) (d : Out) (src : Source) (v : View) (fit : ViewFit src v
   unfolding row_names
   row_names_lem r h =
       let n = row_numbers v r h in
-      rw (first_number r h, final_number r h, n.first-most, le-leb (number_in lists (v.row r 0)) (length (so_far v r) + 1) n.first)
+      rw (first_number r h, final_number r h, n.first_most, le-leb (number_in lists (v.row r 0)) (length (so_far v r) + 1) n.first)
       (le-leb (number_in lists (v.row r 1)) (length (half v r) + 1) n.final)
 
   row_turn_lem : (r : ℕ) → r < rows_of v → row_turn s st r (length (so_far v r)) ≡ next (length (so_far v (r + 1)))
   row_turn_lem r h =
       let n = row_numbers v r h in
-      rw (row_due_lem r h, row_names_lem r h) (ap next (rw (first_number r h, final_number r h, n.first-most) n.final-most))
+      rw (row_due_lem r h, row_names_lem r h) (ap next (rw (first_number r h, final_number r h, n.first_most) n.final_most))
 
   pub none_wrong : row_wrong s st ≡ found.Nothing
   unfolding row_wrong

@@ -57,9 +57,9 @@ module _ (v : View) where
   -- the two numbers of row r: each at most 1 more than the greatest before it
   pub record RowNumbers (r : ℕ) : Type 0 where
     pub first : number_in (lists_of v) (v.row r 0) ≤ length (so_far v r) + 1
-    pub first-most : most (length (so_far v r)) (number_in (lists_of v) (v.row r 0)) ≡ length (half v r)
+    pub first_most : most (length (so_far v r)) (number_in (lists_of v) (v.row r 0)) ≡ length (half v r)
     pub final : number_in (lists_of v) (v.row r 1) ≤ length (half v r) + 1
-    pub final-most : most (length (half v r)) (number_in (lists_of v) (v.row r 1)) ≡ length (so_far v (r + 1))
+    pub final_most : most (length (half v r)) (number_in (lists_of v) (v.row r 1)) ≡ length (so_far v (r + 1))
 
   pub row_numbers : (r : ℕ) → r < rows_of v → RowNumbers r
   row_numbers r h =
@@ -67,9 +67,9 @@ module _ (v : View) where
       let b = noted_number (half v r) (lists_of v) (v.row r 1) (rw (so_next r) at (all_grows (r + 1) (omega arith))) in
       record {
         first = rw a (noted_least (so_far v r) (v.row r 0));
-        first-most = rw a (noted_most (so_far v r) (v.row r 0));
+        first_most = rw a (noted_most (so_far v r) (v.row r 0));
         final = rw b (noted_least (half v r) (v.row r 1));
-        final-most = rw (b, so_next r) (noted_most (half v r) (v.row r 1));
+        final_most = rw (b, so_next r) (noted_most (half v r) (v.row r 1));
       }
 
   -- nothing is lost

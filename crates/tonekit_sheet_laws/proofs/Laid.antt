@@ -6,7 +6,7 @@ use native.Mathlib.Omega.{arith}
 use native.Mathlib.Numerals.{add-one}
 use lib.ListN.{length, get_or, length-append}
 use Rattle.tonekit_expect.specs.Source.{Carried}
-use Rattle.tonekit_sheet.specs.Gather.{gather, gather_done, gather-length}
+use Rattle.tonekit_sheet.specs.Gather.{gather, gather_done, gather_length}
 use Rattle.tonekit_sheet.specs.Sheet.{View, rows_of, settings_bytes, tone_piece, accent_piece, row_piece, list_piece, bytes_with}
 use Rattle.tonekit_sheet_laws.specs.Place.{components_before, tone_at, accent_at, row_at, list_at}
 use Rattle.tonekit_bytes.proofs.Stands.{Stands, stands_at, stands_whole, stands_first, stands_then}
@@ -34,7 +34,7 @@ module _ (lists : List (List Carried)) (ten : (i : ℕ) → i < length lists →
       omega (arith, a, lists_length i (omega arith), list_length (i + 1) (get_or lists i []) (ten i h))
 
 even : (f : ℕ → List ℕ) (m n : ℕ) → ((j : ℕ) → length (f j) ≡ m) → length (gather f 0 n) ≡ m * n
-even f m n h = let e : n - 0 ≡ n = omega arith in rw e at (gather-length f m h 0 n)
+even f m n h = let e : n - 0 ≡ n = omega arith in rw e at (gather_length f m h 0 n)
 
 module _ (v : View) (lists : List (List Carried)) (ten : (i : ℕ) → i < length lists → Ten (get_or lists i [])) where
   abbrev tones : List ℕ

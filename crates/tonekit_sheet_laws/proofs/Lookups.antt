@@ -8,7 +8,7 @@ use native.Mathlib.Numerals.{add-one}
 use lib.Dec.{eqb}
 use lib.ListN.{length, get_or}
 use borrow.Author.Tests.{eq-eqb, ne_eqb, eqb-true, eqb-false}
-use Rattle.tonekit_core.specs.Loop.{rangeTo, to_again, to_stop}
+use Rattle.tonekit_core.specs.Loop.{range_to, to_again, to_stop}
 use Rattle.tonekit_bytes.specs.Fields.{byte_at}
 use Rattle.tonekit_pack.specs.Pack.{number_at}
 use Rattle.tonekit_core.proofs.Split.{split}
@@ -37,7 +37,7 @@ use Rattle.tonekit_sheet_laws.proofs.Finished.{first_number, final_number}
 -- ---- a number that a record has is found
 module _ (s os : List ℕ) (n : ℕ) where
   index_from : (k j m : ℕ) → j + k ≡ length os → j ≤ m → m < length os → number_at s (get_or os m 0) ≡ n
-      → (i : ℕ) × (rangeTo (index_turn s os n) (λ u. found.Nothing) j (length os) 0 ≡ found.At i)
+      → (i : ℕ) × (range_to (index_turn s os n) (λ u. found.Nothing) j (length os) 0 ≡ found.At i)
   index_from zero j m e l h q = absurd (omega arith)
   index_from (suc k) j m e l h q =
       split (eqb (number_at s (get_or os j 0)) n)

@@ -5,7 +5,7 @@ use mathlib.Core.Bool.{Bool, true, false, ◌&&◌, ◌||◌}
 use native.Mathlib.Omega.{arith}
 use lib.Dec.{eqb}
 use borrow.Author.Tests.{eqb-true, eqb-false}
-use Rattle.tonekit_core.specs.Loop.{Turn, next, turns, range, rangeTo, to_again, to_ended}
+use Rattle.tonekit_core.specs.Loop.{Turn, next, turns, range, range_to, to_again, to_ended}
 use Rattle.tonekit_core.proofs.LoopLaws.{range_keeps}
 use Rattle.tonekit_core.proofs.Split.{split, both}
 
@@ -55,9 +55,9 @@ range_none t n h =
 
 -- no turn stops: at turn i the state is x i
 module _ {S R : Type 0} (f : ℕ → S → Turn S R) (g : S → R) (x : ℕ → S) where
-  through : (k i hi : ℕ) → i + k ≡ hi → ((j : ℕ) → j < hi → f j (x j) ≡ next (x (j + 1))) → rangeTo f g i hi (x i) ≡ g (x hi)
+  through : (k i hi : ℕ) → i + k ≡ hi → ((j : ℕ) → j < hi → f j (x j) ≡ next (x (j + 1))) → range_to f g i hi (x i) ≡ g (x hi)
   through zero i hi e h = let q : i ≡ hi = omega arith in rw q (sym (to_ended f g refl (omega arith)))
   through (suc k) i hi e h = sym (to_again f g refl (omega arith) (h i (omega arith))) ∙ through k (i + 1) hi (omega arith) h
 
-  pub to_through : (n : ℕ) → ((j : ℕ) → j < n → f j (x j) ≡ next (x (j + 1))) → rangeTo f g 0 n (x 0) ≡ g (x n)
+  pub to_through : (n : ℕ) → ((j : ℕ) → j < n → f j (x j) ≡ next (x (j + 1))) → range_to f g 0 n (x 0) ≡ g (x n)
   to_through n h = through n 0 n (omega arith) h

@@ -38,15 +38,15 @@ module _ (s : List ℕ) (src : Source) (v : View) (fit : ViewFit src v) (laid : 
   abbrev end : ℕ
   end = list_at v lists (length lists)
 
-  abbrev at-end : Sst
-  at-end = read_to v lists (last_of 20 22 (length lists)) (length v.tones) (length v.accents) (rows_of v) (length lists) 0 (components_before lists (length lists))
+  abbrev at_end : Sst
+  at_end = read_to v lists (last_of 20 22 (length lists)) (length v.tones) (length v.accents) (rows_of v) (length lists) 0 (components_before lists (length lists))
 
   some_rows : 1 ≤ rows_of v
   some_rows =
       let t = length v.tones in
       mul-pos {m = length v.accents} {n = t * (t + 1)} fit.some_accents (mul-pos {m = t} {n = t + 1} fit.some_tones (omega arith))
 
-  through : Reach s d 0 start.st end at-end
+  through : Reach s d 0 start.st end at_end
   through =
       let t = length v.tones in
       let a = length v.accents in
@@ -55,7 +55,7 @@ module _ (s : List ℕ) (src : Source) (v : View) (fit : ViewFit src v) (laid : 
       (then (from (accent_at v a) (read_to v lists 19 t a 0 0 0 0) (through_rows s d src v fit laid some_rows) (omega arith) refl)
       (from (row_at v (rows_of v)) (read_to v lists 20 t a (rows_of v) 0 0 0) (through_lists s d src v fit laid) (omega (arith, before_none lists)) (rw (before_none lists)))))
 
-  end_pass : Passes s end at-end 23 1
+  end_pass : Passes s end at_end 23 1
   unfolding size_of due_next body_verdict
   end_pass = record {
     kind = kind laid.finish (omega arith);
@@ -66,11 +66,11 @@ module _ (s : List ℕ) (src : Source) (v : View) (fit : ViewFit src v) (laid : 
     body = refl;
   }
 
-  reads : read_sheet s ≡ loaded at-end (length s)
+  reads : read_sheet s ≡ loaded at_end (length s)
   unfolding read_sheet
   reads =
       let r = through.go (length s + 1) (omega arith) in
-      r.2 ∙ over s d end at-end r.0 end_pass r.1 ∙ nothing_found s d src v fit laid _ _ (end + 1) ∙ ap (loaded at-end) (sym laid.size)
+      r.2 ∙ over s d end at_end r.0 end_pass r.1 ∙ nothing_found s d src v fit laid _ _ (end + 1) ∙ ap (loaded at_end) (sym laid.size)
 
   pub loads : load_sheet s ≡ loaded (st_of_view v lists) (length s)
   unfolding load_sheet st_of_view

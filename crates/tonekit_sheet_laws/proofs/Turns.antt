@@ -6,7 +6,7 @@ use mathlib.Core.List.{List}
 use native.Mathlib.Omega.{arith}
 use lib.ListN.{length}
 use borrow.Author.Tests.{ne_eqb, lt-leb, le-ltb}
-use Rattle.tonekit_core.specs.Loop.{loopTo, loop_again, loop_stop}
+use Rattle.tonekit_core.specs.Loop.{loop_to, loop_again, loop_stop}
 use Rattle.tonekit_core.specs.declared.Verdict.TheVariants as verdict
 use Rattle.tonekit_bytes.specs.Fields.{byte_at}
 use Rattle.tonekit_pack.specs.Pack.{in_turn}
@@ -18,7 +18,7 @@ all_pass crowded fine new held c f n h = rw (c, f, n, h)
 
 -- the rest of the reading, from a place on
 abbrev pub run : List ℕ → Out → ℕ → ℕ → Sst → Out
-run s d n at st = loopTo (record_turn s) d n (record { at = at; st = st })
+run s d n at st = loop_to (record_turn s) d n (record { at = at; st = st })
 
 -- the record at `at`, of kind k and so many bytes, is whole, due and fine
 pub record Passes (s : List ℕ) (at : ℕ) (st : Sst) (k size : ℕ) : Type 0 where

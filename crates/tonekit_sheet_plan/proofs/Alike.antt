@@ -102,10 +102,10 @@ unequal (x ∷ xs) [] h = refl
 unequal (x ∷ xs) (y ∷ ys) h = rw (unequal xs ys (λ e. h (ap suc e))) (and_false (same_carried x y))
 
 module _ (s : List ℕ) (a b : Listing) where
-  abbrev pub sameFirst : ℕ → Bool
-  sameFirst n = same (components s a n) (components s b n)
+  abbrev pub same_first : ℕ → Bool
+  same_first n = same (components s a n) (components s b n)
 
-  first_more : (n : ℕ) → sameFirst (suc n) ≡ (sameFirst n && same_carried (carried (component_of s a n)) (carried (component_of s b n)))
+  first_more : (n : ℕ) → same_first (suc n) ≡ (same_first n && same_carried (carried (component_of s a n)) (carried (component_of s b n)))
   unfolding components
   first_more n =
       same_snoc (components s a n) (components s b n) (carried (component_of s a n)) (carried (component_of s b n)) (components_length s a n ∙ sym (components_length s b n))
@@ -114,21 +114,21 @@ module _ (s : List ℕ) (a b : Listing) where
   counts_differ h =
       sym (unequal (components s a a.count) (components s b b.count) (λ e. h (sym (components_length s a a.count) ∙ e ∙ components_length s b b.count)))
 
-  pub first_none : sameFirst 0 ≡ true
+  pub first_none : same_first 0 ≡ true
   unfolding components same
   first_none = refl
 
-  pub first_on : (n : ℕ) → sameFirst n ≡ true → same_carried (carried (component_of s a n)) (carried (component_of s b n)) ≡ true → sameFirst (n + 1) ≡ true
+  pub first_on : (n : ℕ) → same_first n ≡ true → same_carried (carried (component_of s a n)) (carried (component_of s b n)) ≡ true → same_first (n + 1) ≡ true
   first_on n e h = rw (add-one, first_more n, e, h)
 
-  still : (d n : ℕ) → sameFirst n ≡ false → sameFirst (n + d) ≡ false
+  still : (d n : ℕ) → same_first n ≡ false → same_first (n + d) ≡ false
   still zero n e = let q : n + zero ≡ n = omega arith in rw q e
   still (suc d) n e = let q : n + suc d ≡ suc (n + d) = omega arith in rw (q, first_more (n + d), still d n e)
 
-  pub first_off : (n m : ℕ) → n < m → same_carried (carried (component_of s a n)) (carried (component_of s b n)) ≡ false → false ≡ sameFirst m
+  pub first_off : (n m : ℕ) → n < m → same_carried (carried (component_of s a n)) (carried (component_of s b n)) ≡ false → false ≡ same_first m
   first_off n m h e =
       let q : suc n + (m - suc n) ≡ m = omega arith in
-      sym (ap sameFirst (sym q) ∙ still (m - suc n) (suc n) (first_more n ∙ rw e (and_false (sameFirst n))))
+      sym (ap same_first (sym q) ∙ still (m - suc n) (suc n) (first_more n ∙ rw e (and_false (same_first n))))
 
 -- ---- every component has ten points
 points_length : (knots : List Float) (n : ℕ) → length (first_points knots n) ≡ n

@@ -159,22 +159,22 @@ module _ (s lists memo : List ℕ) (n : Counts) (l : Listing) (g : Sane s lists 
     known : (seen_in its before ≡ true) × (get_or memo i 0 / 16777216 ≡ suc (place_in its before))
     known = rw (again s l k byte (get_or memo i 0) e) at (g.memo_fine.right i h)
 
-    pub way-known : PlanOf (noted before (some its)) s lists memo n
-    way-known = record { same = sym (noted_old before its known.0); sane = g }
+    pub way_known : PlanOf (noted before (some its)) s lists memo n
+    way_known = record { same = sym (noted_old before its known.0); sane = g }
 
-    pub number-known : get_or memo i 0 / 16777216 ≡ number_in before (some its)
-    number-known = known.1 ∙ number_some before its
+    pub number_known : get_or memo i 0 / 16777216 ≡ number_in before (some its)
+    number_known = known.1 ∙ number_some before its
 
   module _ (j : ℕ) (place : FirstPlace its before n.lists j) where
-    pub number-place : j + 1 ≡ number_in before (some its)
-    number-place = add-one j ∙ ap suc place.first ∙ number_some before its
+    pub number_place : j + 1 ≡ number_in before (some its)
+    number_place = add-one j ∙ ap suc place.first ∙ number_some before its
 
     abbrev memo' : List ℕ
     memo' = memo_after memo n.known (entry_of (key_of l) (j + 1))
 
     -- it is one of the lists
-    pub way-found : j < n.lists → PlanOf (noted before (some its)) s lists memo' (record { lists = n.lists; known = known_after n.known })
-    way-found h =
+    pub way_found : j < n.lists → PlanOf (noted before (some its)) s lists memo' (record { lists = n.lists; known = known_after n.known })
+    way_found h =
         let t : seen_in its before ≡ true = place.seen ∙ lt-ltb j n.lists h in
         record {
           same = sym (noted_old before its t);
@@ -189,34 +189,34 @@ module _ (s lists memo : List ℕ) (n : Counts) (l : Listing) (g : Sane s lists 
       fresh : seen_in its before ≡ false
       fresh = place.seen ∙ le-ltb j n.lists h
 
-      at-end : j ≡ n.lists
-      at-end = omega (arith, place.few)
+      at_end : j ≡ n.lists
+      at_end = omega (arith, place.few)
 
-      pub way-room : j < 128
-      way-room =
+      pub way_room : j < 128
+      way_room =
           let m : length (before ++ (its ∷ [])) ≤ 128 = rw (noted_new before its fresh) at room in
-          omega (arith, length-append before (its ∷ []), planned_length s lists n.lists, at-end)
+          omega (arith, length-append before (its ∷ []), planned_length s lists n.lists, at_end)
 
       -- its entry has its mark
       module _ (mark : ℕ) (marked : mark ≡ mark_of its) where
         abbrev entered : ℕ
         entered = entry_of (key_of l) mark
 
-        pub way-new : PlanOf (noted before (some its)) s (set lists j entered) memo' (record { lists = j + 1; known = known_after n.known })
-        way-new =
+        pub way_new : PlanOf (noted before (some its)) s (set lists j entered) memo' (record { lists = j + 1; known = known_after n.known })
+        way_new =
             let small = key_small s l k byte in
             let same : key_listing s entered ≡ l = again s l k byte entered (entry_key (key_of l) mark small) in
-            let lf : ListsFine s lists j = subst (ListsFine s lists) (sym at-end) g.lists_fine in
-            let mf : MemoFine s lists j memo n.known = subst (λ (m : ℕ). MemoFine s lists m memo n.known) (sym at-end) g.memo_fine in
+            let lf : ListsFine s lists j = subst (ListsFine s lists) (sym at_end) g.lists_fine in
+            let mf : MemoFine s lists j memo n.known = subst (λ (m : ℕ). MemoFine s lists m memo n.known) (sym at_end) g.memo_fine in
             let p : planned s (set lists j entered) (j + 1) ≡ before ++ (its ∷ []) =
-            planned_more s lists j lf entered way-room ∙ ap₂ (λ (a : List (List Carried)) (v : Listing). a ++ (carried_by s v ∷ [])) (ap (planned s lists) at-end) same in
+            planned_more s lists j lf entered way_room ∙ ap₂ (λ (a : List (List Carried)) (v : Listing). a ++ (carried_by s v ∷ [])) (ap (planned s lists) at_end) same in
             record {
               same = p ∙ sym (noted_new before its fresh);
               sane = record {
-                lists_fine = lists_more s lists j lf entered way-room (rw same k) (entry_number (key_of l) mark small ∙ marked ∙ ap (λ (v : Listing). mark_of (carried_by s v)) (sym same));
+                lists_fine = lists_more s lists j lf entered way_room (rw same k) (entry_number (key_of l) mark small ∙ marked ∙ ap (λ (v : Listing). mark_of (carried_by s v)) (sym same));
                 memo_fine =
-                    memo_more s (set lists j entered) (j + 1) memo n.known (memo_kept s lists j lf entered way-room memo n.known mf) l (key_of l) (j + 1) small (again s l k byte)
-                    (rw p (seen_last its before)) (rw p (add-one j ∙ ap suc (at-end ∙ sym (planned_length s lists n.lists) ∙ sym (place_last its before fresh))));
+                    memo_more s (set lists j entered) (j + 1) memo n.known (memo_kept s lists j lf entered way_room memo n.known mf) l (key_of l) (j + 1) small (again s l k byte)
+                    (rw p (seen_last its before)) (rw p (add-one j ∙ ap suc (at_end ∙ sym (planned_length s lists n.lists) ∙ sym (place_last its before fresh))));
               };
             }
 

@@ -36,20 +36,20 @@ module _ (s : List ℕ) (st : Pst) where
 
   module _ (a : Sorted) (o : Ordered s st a) where
     -- by the accents that are sorted
-    pub view-sorted : (pack_view s st).accents ≡ accents_of s a
-    view-sorted = view_accents ∙ sym o.same
+    pub view_sorted : (pack_view s st).accents ≡ accents_of s a
+    view_sorted = view_accents ∙ sym o.same
 
-    pub view-row : (r last : ℕ) → given s (look_up s st (row_context (tones_of s st) (accents_of s a) r last)) ≡ (pack_view s st).row r last
-    view-row r last = rw o.same (sym (view_look r last))
+    pub view_row : (r last : ℕ) → given s (look_up s st (row_context (tones_of s st) (accents_of s a) r last)) ≡ (pack_view s st).row r last
+    view_row r last = rw o.same (sym (view_look r last))
 
-    accent-count : length (pack_view s st).accents ≡ a.count
-    accent-count = ap length view-sorted ∙ length-map (in_order a.at a.count) (accent_at s) ∙ order_length a.at a.count
+    accent_count : length (pack_view s st).accents ≡ a.count
+    accent_count = ap length view_sorted ∙ length-map (in_order a.at a.count) (accent_at s) ∙ order_length a.at a.count
 
-    tone-count : length (pack_view s st).tones ≡ length st.tones
-    tone-count = ap length view_tones ∙ length-map st.tones (tone_at s)
+    tone_count : length (pack_view s st).tones ≡ length st.tones
+    tone_count = ap length view_tones ∙ length-map st.tones (tone_at s)
 
-    pub view-rows : rows_of (pack_view s st) ≡ row_count a.count (length st.tones)
-    view-rows = rw (accent-count, tone-count)
+    pub view_rows : rows_of (pack_view s st) ≡ row_count a.count (length st.tones)
+    view_rows = rw (accent_count, tone_count)
 
 -- ---- no turn makes the lists fewer
 noted_grows : (lists : List (List Carried)) (o : Option (List Carried)) → length lists ≤ length (noted lists o)
@@ -85,7 +85,7 @@ pub lists_begun : (s : List ℕ) (p : Pack) (a : Sorted) → Ordered s (shown p)
     → range (note_turn (pack_view s (shown p))) 0 n lists ≡ lists_of (pack_view s (shown p))
 unfolding lists_of
 lists_begun s p a o n lists e z =
-    let h : rows_of (pack_view s (shown p)) ≡ n = view-rows s (shown p) a o ∙ ap (row_count a.count) (order_length p.toneat p.tones) ∙ sym e in
+    let h : rows_of (pack_view s (shown p)) ≡ n = view_rows s (shown p) a o ∙ ap (row_count a.count) (order_length p.toneat p.tones) ∙ sym e in
     rw (z, h)
 
 -- ---- a pack that was read has a tone

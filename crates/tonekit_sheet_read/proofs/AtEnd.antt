@@ -17,15 +17,15 @@ module _ (s : List ℕ) (st : Sst) (e : ℕ) where
     accent_at_lem o h = rw (l, h)
 
     module _ (a : accent_down s st ≡ found.Nothing) where
-      pub row-at-fault : (o : ℕ) → row_wrong s st ≡ found.At o → refused Unordered o ≡ finished s st e
+      pub row_at_fault : (o : ℕ) → row_wrong s st ≡ found.At o → refused Unordered o ≡ finished s st e
       unfolding finished
-      row-at-fault o h = rw (l, a, h)
+      row_at_fault o h = rw (l, a, h)
 
       module _ (r : row_wrong s st ≡ found.Nothing) where
-        pub list-at-fault : (o : ℕ) → list_wrong s st ≡ found.At o → refused Unordered o ≡ finished s st e
+        pub list_at_fault : (o : ℕ) → list_wrong s st ≡ found.At o → refused Unordered o ≡ finished s st e
         unfolding finished
-        list-at-fault o h = rw (l, a, r, h)
+        list_at_fault o h = rw (l, a, r, h)
 
-        pub no-fault : list_wrong s st ≡ found.Nothing → loaded st e ≡ finished s st e
+        pub no_fault : list_wrong s st ≡ found.Nothing → loaded st e ≡ finished s st e
         unfolding finished
-        no-fault h = rw (l, a, r, h)
+        no_fault h = rw (l, a, r, h)

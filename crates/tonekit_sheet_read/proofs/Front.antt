@@ -8,7 +8,7 @@ use lib.ListN.{length, get_or, take}
 use lib.Dec.{eqb, leb, ltb}
 use lib.Ieee.{Float}
 use borrow.Author.Tests.{eqb-true, eqb-false, leb-true, leb-false, ltb-true, ltb-false}
-use Rattle.tonekit_core.specs.Loop.{loopTo, loopOn}
+use Rattle.tonekit_core.specs.Loop.{loop_to, loop_on}
 use Rattle.tonekit_core.proofs.LoopLaws.{range_same, to_same}
 use Rattle.tonekit_core.specs.declared.Refusal.TheVariants.{CutShort, Loose, Unordered}
 use Rattle.tonekit_bytes.specs.Fields.{byte_at}
@@ -146,39 +146,39 @@ module _ (n : ℕ) (t s : List ℕ) (a : Agree n t s) (at : ℕ) (st : Sst) (p :
 
   module _ (c : Closed st) where
     -- a list, with all its components, stands before the end
-    list-fine : (i : ℕ) → i < length st.lists → ListRead s (get_or st.lists i 0) 0 at
-    list-fine i h =
+    list_fine_lem : (i : ℕ) → i < length st.lists → ListRead s (get_or st.lists i 0) 0 at
+    list_fine_lem i h =
         split (ltb (i + 1) (length st.lists)) (λ u. p.lists i (ltb-true (i + 1) (length st.lists) u))
         (λ u. let q : length st.lists - 1 ≡ i = omega (arith, ltb-false (i + 1) (length st.lists) u) in rw (no_due p.placed c, q) at (p.latest (omega arith)))
 
     -- so as many bytes of it as the longest list has are in the front
-    list-byte : (i k : ℕ) → i < length st.lists → k < 187 → byte_at t (get_or st.lists i 0 + k) ≡ byte_at s (get_or st.lists i 0 + k)
-    list-byte i k l h = let f = list-fine i l in a.bytes (get_or st.lists i 0 + k) (omega (arith, f.extent, f.some))
+    list_byte : (i k : ℕ) → i < length st.lists → k < 187 → byte_at t (get_or st.lists i 0 + k) ≡ byte_at s (get_or st.lists i 0 + k)
+    list_byte i k l h = let f = list_fine_lem i l in a.bytes (get_or st.lists i 0 + k) (omega (arith, f.extent, f.some))
 
-    equal-same : (i j : ℕ) → i < length st.lists → j < length st.lists → same_lists t (get_or st.lists i 0) (get_or st.lists j 0) ≡ same_lists s (get_or st.lists i 0) (get_or st.lists j 0)
+    equal_same : (i j : ℕ) → i < length st.lists → j < length st.lists → same_lists t (get_or st.lists i 0) (get_or st.lists j 0) ≡ same_lists s (get_or st.lists i 0) (get_or st.lists j 0)
     unfolding same_lists
-    equal-same i j l h =
+    equal_same i j l h =
         let x = get_or st.lists i 0 in
         let y = get_or st.lists j 0 in
-        rw (list-byte i 6 l (omega arith))
+        rw (list_byte i 6 l (omega arith))
         (range_same (same_turn t x y) (same_turn s x y) 2 (list_size s x) true (omega arith)
-        (λ k u b. let d : k < 187 = omega (arith, (list-fine i l).few) in rw (list-byte i k l d, list-byte j k h d)))
+        (λ k u b. let d : k < 187 = omega (arith, (list_fine_lem i l).few) in rw (list_byte i k l d, list_byte j k h d)))
 
-    repeated-same : (i : ℕ) → i < length st.lists → repeated t st.lists i (get_or st.lists i 0) ≡ repeated s st.lists i (get_or st.lists i 0)
+    repeated_same : (i : ℕ) → i < length st.lists → repeated t st.lists i (get_or st.lists i 0) ≡ repeated s st.lists i (get_or st.lists i 0)
     unfolding repeated
-    repeated-same i l =
+    repeated_same i l =
         let x = get_or st.lists i 0 in
-        range_same (equal_turn t st.lists x) (equal_turn s st.lists x) 0 i false (omega arith) (λ j u h. ap (λ (b : Bool). u || b) (equal-same i j l (omega arith)))
+        range_same (equal_turn t st.lists x) (equal_turn s st.lists x) 0 i false (omega arith) (λ j u h. ap (λ (b : Bool). u || b) (equal_same i j l (omega arith)))
 
     lists_same : list_wrong t st ≡ list_wrong s st
     unfolding list_wrong
     lists_same =
         to_same (list_turn t st) (list_turn s st) (λ u. found.Nothing) (length st.lists) 0
-        (λ i u l. rw (list-byte i 1 l (omega arith), named_same (i + 1), repeated-same i l))
+        (λ i u l. rw (list_byte i 1 l (omega arith), named_same (i + 1), repeated_same i l))
 
-    finished-same : (e : ℕ) → finished t st e ≡ finished s st e
+    finished_same : (e : ℕ) → finished t st e ≡ finished s st e
     unfolding finished
-    finished-same e = rw (loose_same, down_same, wrong_same, lists_same)
+    finished_same e = rw (loose_same, down_same, wrong_same, lists_same)
 
 closes : (st : Sst) {k : ℕ} → k ≡ 23 → Due st k → Closed st
 closes st q (settings z) = absurd (omega arith)
@@ -190,7 +190,7 @@ closes st q (component d) = absurd (omega arith)
 closes st q (finish c) = c
 
 no_turn : (s : List ℕ) (d : Out) (at : ℕ) (st : Sst) → run s d 0 at st ≡ d
-unfolding loopTo loopOn
+unfolding loop_to loop_on
 no_turn s d at st = refl
 
 run_same : (f n : ℕ) (t s : List ℕ) (a : Agree n t s) (d : Out) (at : ℕ) (st : Sst) → Kept s at st → 13400 ≤ n → run t d f at st ≡ run s d f at st
@@ -204,7 +204,7 @@ run_same (suc f) n t s a d at st p l =
     (λ v. let ok = sound s at st v in
     split (eqb (byte_at s at) 23)
     (λ e. let k : byte_at s at ≡ 23 = eqb-true (byte_at s at) 23 e in
-    run_end t d (suc f) at st (omega arith) (same ∙ v) (here ∙ k) ∙ finished-same n t s a at st p low l (closes st k ok.due) (at + 1) ∙ sym (run_end s d (suc f) at st (omega arith) v k))
+    run_end t d (suc f) at st (omega arith) (same ∙ v) (here ∙ k) ∙ finished_same n t s a at st p low l (closes st k ok.due) (at + 1) ∙ sym (run_end s d (suc f) at st (omega arith) v k))
     (λ e. let k : byte_at s at ≡ 23 → ⊥ = eqb-false (byte_at s at) 23 e in
     let q : suc f - 1 ≡ f = omega arith in
     rw (run_on t d (suc f) at st (omega arith) (same ∙ v) (λ x. k (sym here ∙ x)), run_on s d (suc f) at st (omega arith) v k, q, here, count)

@@ -6,7 +6,7 @@ use native.Mathlib.Omega.{arith}
 use lib.ListN.{length, length-append}
 use lib.Dec.{leb}
 use borrow.Author.Tests.{ne_eqb, leb-true, leb-false}
-use Rattle.tonekit_core.specs.Loop.{loopTo, loop_again, loop_stop}
+use Rattle.tonekit_core.specs.Loop.{loop_to, loop_again, loop_stop}
 use Rattle.tonekit_core.specs.declared.Refusal.{Refusal}
 use Rattle.tonekit_core.specs.declared.Refusal.TheVariants.{CutShort}
 use Rattle.tonekit_core.specs.declared.Verdict.TheVariants as verdict
@@ -123,7 +123,7 @@ pub record Going (s : List ℕ) (st : Sheet) (at : ℕ) : Type 0 where
   pub inside : at ≤ length s
   pub fuel : ℕ
   pub enough : length s < fuel + at
-  pub same : loopTo (record_turn s) (refused CutShort (length s)) fuel (record { at = at; st = shown st }) ≡ read_sheet s
+  pub same : loop_to (record_turn s) (refused CutShort (length s)) fuel (record { at = at; st = shown st }) ≡ read_sheet s
 
 -- what a kind that is due and fine shows of the counts
 module _ (s : List ℕ) (st : Sheet) (at : ℕ) (g : Going s st at) where

@@ -6,7 +6,7 @@ use native.Mathlib.Omega.{arith}
 use lib.ListN.{length}
 use lib.Dec.{eqb}
 use borrow.Author.Tests.{ne_eqb, eqb-true, eqb-false}
-use Rattle.tonekit_core.specs.Loop.{loopTo, loop_again, loop_stop}
+use Rattle.tonekit_core.specs.Loop.{loop_to, loop_again, loop_stop}
 use Rattle.tonekit_core.specs.declared.Refusal.{Refusal}
 use Rattle.tonekit_core.specs.declared.Refusal.TheVariants.{CutShort}
 use Rattle.tonekit_core.specs.declared.Verdict.TheVariants as verdict
@@ -22,7 +22,7 @@ with_record s at st = added (byte_at s at) at (byte_at s (at + 6)) st
 
 -- the rest of the reading, from a place on
 abbrev pub run : List ℕ → Out → ℕ → ℕ → Sst → Out
-run s d n at st = loopTo (record_turn s) d n (record { at = at; st = st })
+run s d n at st = loop_to (record_turn s) d n (record { at = at; st = st })
 
 -- what one turn of a reading is
 module _ (s : List ℕ) (d : Out) (n at : ℕ) (st : Sst) (some : 0 < n) where
@@ -51,7 +51,7 @@ limits_agree (suc n) (suc m) s d c at st l h k =
     (λ r v. run_refused s d (suc n) at st (omega arith) r v ∙ sym (run_refused s c (suc m) at st (omega arith) r v))
 
 -- the limit of turns never ends the reading: with any more turns, and whatever stands for too few, it gives the same
-pub limit_idle : (s : List ℕ) (d : Out) (n : ℕ) → length s < n → loopTo (record_turn s) d n start ≡ read_sheet s
+pub limit_idle : (s : List ℕ) (d : Out) (n : ℕ) → length s < n → loop_to (record_turn s) d n start ≡ read_sheet s
 unfolding read_sheet
 limit_idle s d n h = limits_agree n (length s + 1) s d (refused CutShort (length s)) 0 start.st (omega arith) (omega arith) (omega arith)
 
@@ -78,5 +78,5 @@ accepted s d f at st fin e h =
     (λ r v. not_loaded r at e fin (sym (run_refused s d (suc f) at st (omega arith) r v) ∙ h))
 
 pub no_turns : {P : Type 0} (s : List ℕ) (at : ℕ) (st fin : Sst) (r : Refusal) (place e : ℕ) → run s (refused r place) 0 at st ≡ loaded fin e → P
-unfolding loopTo Rattle.tonekit_core.specs.Loop.loopOn
+unfolding loop_to Rattle.tonekit_core.specs.Loop.loop_on
 no_turns s at st fin r place e h = not_loaded r place e fin h

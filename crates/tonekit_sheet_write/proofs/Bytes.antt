@@ -20,7 +20,7 @@ use Rattle.tonekit_expect.specs.declared.Context.{Context}
 use Rattle.tonekit_expect.specs.declared.Listing.{Listing}
 use Rattle.tonekit_expect.specs.declared.Look.{Look}
 use Rattle.tonekit_expect.proofs.Carried.{named, components_length, components_at}
-use Rattle.tonekit_sheet.specs.Gather.{pieces, gather, gather-length, Wrote}
+use Rattle.tonekit_sheet.specs.Gather.{pieces, gather, gather_length, Wrote}
 use Rattle.tonekit_sheet.specs.Number.{number_in}
 use Rattle.tonekit_sheet.specs.Sheet.{no_tone_lem, no_accent_lem, no_carried, tone_bytes, accent_bytes, row_bytes, row_context, bits_bytes, component_bytes, components_bytes, list_bytes, tone_piece, row_piece}
 use Rattle.tonekit_sheet_plan.specs.declared.Sorted.{Sorted}
@@ -30,7 +30,7 @@ use Rattle.tonekit_sheet_plan.specs.Plans.{list_at, ListsFine}
 use Rattle.tonekit_sheet_plan.proofs.Ascend.{map_get}
 use Rattle.tonekit_sheet_plan.proofs.Alike.{points_ten}
 use Rattle.tonekit_sheet_plan.proofs.Memo.{planned_get}
-use Rattle.tonekit_sheet_plan.proofs.Views.{view_tones, view-sorted}
+use Rattle.tonekit_sheet_plan.proofs.Views.{view_tones, view_sorted}
 use Rattle.tonekit_sheet_write.specs.Pieces.{head_of, component_piece, sorted_piece, planned_list, components_part}
 
 -- bytes written to the start of a part are written at its place
@@ -74,7 +74,7 @@ module _ (s : List ℕ) (l : Listing) where
   component_size j e = ap length (component_is j e) ∙ component_length j
 
   pub components_size : length (components_part s l) ≡ sheet_component_size * l.count
-  components_size = let q : l.count - 0 ≡ l.count = omega arith in rw q at (gather-length (component_piece s l) sheet_component_size component_length 0 l.count)
+  components_size = let q : l.count - 0 ≡ l.count = omega arith in rw q at (gather_length (component_piece s l) sheet_component_size component_length 0 l.count)
 
 -- pieces from the front, and one more behind them
 module _ (f : ℕ → List ℕ) where
@@ -149,7 +149,7 @@ module _ (s : List ℕ) (p : Pack) (a : Sorted) (lists : List (List Carried)) (r
       → row_bytes c n m ≡ row_piece (pack_view s (shown p)) lists r
   row_is {c} {n} {m} x y ec en ex em ey =
       let v = pack_view s (shown p) in
-      let f : c ≡ row_context v.tones v.accents r 0 = ec ∙ ap₂ (λ (ts : List Tone) (xs : List Accent). row_context ts xs r 0) (sym (view_tones s (shown p))) (sym (view-sorted s (shown p) a o)) in
+      let f : c ≡ row_context v.tones v.accents r 0 = ec ∙ ap₂ (λ (ts : List Tone) (xs : List Accent). row_context ts xs r 0) (sym (view_tones s (shown p))) (sym (view_sorted s (shown p) a o)) in
       let g : n ≡ number_in lists (v.row r 0) = en ∙ ap (number_in lists) ex in
       let h : m ≡ number_in lists (v.row r 1) = em ∙ ap (number_in lists) ey in
       rw (f, g, h)

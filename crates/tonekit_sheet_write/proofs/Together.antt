@@ -9,13 +9,13 @@ use Rattle.tonekit_pack.specs.Held.{in_order, shown}
 use Rattle.tonekit_pack.specs.declared.Pack.{Pack}
 use Rattle.tonekit_pack.proofs.InOrder.{order_length}
 use Rattle.tonekit_expect.specs.Source.{Accent, settings_at, tone_at, accent_at, source_of_pack}
-use Rattle.tonekit_sheet.specs.Gather.{gather, gather-length, gather_more, gather_none, Wrote, joined, room_first, room_then}
+use Rattle.tonekit_sheet.specs.Gather.{gather, gather_length, gather_more, gather_none, Wrote, joined, room_first, room_then}
 use Rattle.tonekit_sheet.specs.Sheet.{view_of, no_accent_lem, settings_bytes, accent_bytes, tone_piece, accent_piece, row_count, rows_of, lists_of, bytes_with, bytes_of, sheet}
 use Rattle.tonekit_sheet_plan.specs.declared.Sorted.{Sorted}
 use Rattle.tonekit_sheet_plan.specs.Rows.{pack_view, Ordered}
 use Rattle.tonekit_sheet_plan.specs.Plans.{planned}
 use Rattle.tonekit_sheet_plan.proofs.Memo.{planned_length}
-use Rattle.tonekit_sheet_plan.proofs.Views.{view_tones, view-sorted, view-rows}
+use Rattle.tonekit_sheet_plan.proofs.Views.{view_tones, view_sorted, view_rows}
 use Rattle.tonekit_sheet_write.specs.Pieces.{sorted_piece, planned_row, planned_list, tones_part, accents_part, rows_part, lists_part, planned_sheet}
 
 module _ (s : List ℕ) (p : Pack) (a : Sorted) (lists : List ℕ) (n : ℕ) where
@@ -42,20 +42,20 @@ module _ (s : List ℕ) (p : Pack) (a : Sorted) (lists : List ℕ) (n : ℕ) whe
   Whole = planned_sheet s p lists n
 
   module _ (o : Ordered s (shown p) a) where
-    settings-are : (pack_view s (shown p)).settings ≡ settings_at s 0
+    settings_are : (pack_view s (shown p)).settings ≡ settings_at s 0
     unfolding view_of source_of_pack
-    settings-are = refl
+    settings_are = refl
 
     tones_are : length (pack_view s (shown p)).tones ≡ p.tones
     tones_are = ap length (view_tones s (shown p)) ∙ length-map (in_order p.toneat p.tones) (tone_at s) ∙ order_length p.toneat p.tones
 
     accents_are : gather (accent_piece (pack_view s (shown p))) 0 (length (pack_view s (shown p)).accents) ≡ C
     accents_are =
-        ap (λ (xs : List Accent). gather (λ i. accent_bytes (get_or xs i no_accent_lem)) 0 (length xs)) (view-sorted s (shown p) a o)
+        ap (λ (xs : List Accent). gather (λ i. accent_bytes (get_or xs i no_accent_lem)) 0 (length xs)) (view_sorted s (shown p) a o)
         ∙ ap (gather (sorted_piece s a) 0) (length-map (in_order a.at a.count) (accent_at s) ∙ order_length a.at a.count)
 
     rows_are : rows_of (pack_view s (shown p)) ≡ row_count a.count p.tones
-    rows_are = view-rows s (shown p) a o ∙ ap (row_count a.count) (order_length p.toneat p.tones)
+    rows_are = view_rows s (shown p) a o ∙ ap (row_count a.count) (order_length p.toneat p.tones)
 
     parts : Whole ≡ A ++ (B ++ (C ++ (D ++ (E ++ F))))
     unfolding bytes_with
@@ -64,15 +64,15 @@ module _ (s : List ℕ) (p : Pack) (a : Sorted) (lists : List ℕ) (n : ℕ) whe
         let b : gather (tone_piece v) 0 (length v.tones) ≡ B = ap (gather (tone_piece v) 0) tones_are in
         let d : gather (planned_row s p lists n) 0 (rows_of v) ≡ D = ap (gather (planned_row s p lists n) 0) rows_are in
         let e : gather (planned_list s lists n) 0 (length (planned s lists n)) ≡ E = ap (gather (planned_list s lists n) 0) (planned_length s lists n) in
-        ap₂ (λ (x y : List ℕ). x ++ y) (ap settings_bytes settings-are)
+        ap₂ (λ (x y : List ℕ). x ++ y) (ap settings_bytes settings_are)
         (ap₂ (λ (x y : List ℕ). x ++ y) b (ap₂ (λ (x y : List ℕ). x ++ y) accents_are (ap₂ (λ (x y : List ℕ). x ++ y) d (ap (λ (x : List ℕ). x ++ F) e))))
 
     -- what stands before a row past the last, the lists, and the end
-    pub sheet-length : (r o z : ℕ) → r ≡ row_count a.count p.tones → o ≡ sheet_row_at p.tones a.count r → z ≡ length E → o + z + sheet_end_size ≡ length Whole
-    sheet-length r o z h at k =
-        let b : length B ≡ sheet_tone_size * (p.tones - 0) = gather-length (tone_piece (pack_view s (shown p))) sheet_tone_size (λ i. refl) 0 p.tones in
-        let c : length C ≡ sheet_accent_size * (a.count - 0) = gather-length (sorted_piece s a) sheet_accent_size (λ i. refl) 0 a.count in
-        let d : length D ≡ sheet_row_size * (row_count a.count p.tones - 0) = gather-length (planned_row s p lists n) sheet_row_size (λ i. refl) 0 (row_count a.count p.tones) in
+    pub sheet_length : (r o z : ℕ) → r ≡ row_count a.count p.tones → o ≡ sheet_row_at p.tones a.count r → z ≡ length E → o + z + sheet_end_size ≡ length Whole
+    sheet_length r o z h at k =
+        let b : length B ≡ sheet_tone_size * (p.tones - 0) = gather_length (tone_piece (pack_view s (shown p))) sheet_tone_size (λ i. refl) 0 p.tones in
+        let c : length C ≡ sheet_accent_size * (a.count - 0) = gather_length (sorted_piece s a) sheet_accent_size (λ i. refl) 0 a.count in
+        let d : length D ≡ sheet_row_size * (row_count a.count p.tones - 0) = gather_length (planned_row s p lists n) sheet_row_size (λ i. refl) 0 (row_count a.count p.tones) in
         omega
         (arith, ap length parts, length-append A (B ++ (C ++ (D ++ (E ++ F)))), length-append B (C ++ (D ++ (E ++ F))), length-append C (D ++ (E ++ F)), length-append D (E ++ F), length-append E F)
 
@@ -116,8 +116,8 @@ module _ (s : List ℕ) (p : Pack) (a : Sorted) (lists : List ℕ) (n : ℕ) whe
                 pub last : r₅ + sheet_end_size ≤ length o₅
                 last = room_then F w₅ room₄
 
-                pub all-written : {o₆ : List ℕ} {r₆ : ℕ} → Wrote F r₅ o₅ o₆ r₆ → Wrote Whole 0 o₀ o₆ r₆
-                all-written w₆ = rw parts (joined w₁ (joined w₂ (joined w₃ (joined w₄ (joined w₅ w₆)))))
+                pub all_written : {o₆ : List ℕ} {r₆ : ℕ} → Wrote F r₅ o₅ o₆ r₆ → Wrote Whole 0 o₀ o₆ r₆
+                all_written w₆ = rw parts (joined w₁ (joined w₂ (joined w₃ (joined w₄ (joined w₅ w₆)))))
 
 -- ---- the sum of the lists' lengths
 module _ (s lists : List ℕ) (n : ℕ) where

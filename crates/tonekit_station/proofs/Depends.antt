@@ -67,21 +67,21 @@ module _ (src : Source) (c : Context) where
 module _ (a b : Source) (agree : Agree a b) where
   -- what a context gathers
   module _ (c : Context) (x : Accent) (accent : accent_in a.accents c.accent ≡ some x) (prev : (eqb c.prev 0 || tone_in a.tones c.prev) ≡ true) (last : c.last ≤ 1) where
-    turn-same : (t : ℕ) (l : Listed) → t < length a.tones → list_tone a c t l ≡ list_tone b c t l
-    turn-same t l h =
+    turn_same : (t : ℕ) (l : Listed) → t < length a.tones → list_tone a c t l ≡ list_tone b c t l
+    turn_same t l h =
         let tone = get_or a.tones t no_tone_lem in
         let asks : Held a (in_context c tone.number) = record { accent = (x, accent); tone = tone_at_lem a.tones t h; prev = prev_held a.tones c.prev prev; final = last } in
         rw (← agree.tones) (ap (λ (k : Option (List Carried)). slotted t tone (given_of k) l) (agree.lookups (in_context c tone.number) asks))
 
-    listings-same : listings a c ≡ listings b c
+    listings_same : listings a c ≡ listings b c
     unfolding listings
-    listings-same =
-        range_same (list_tone a c) (list_tone b c) 0 (length a.tones) (nothing_yet (length a.tones)) (omega arith) turn-same
+    listings_same =
+        range_same (list_tone a c) (list_tone b c) 0 (length a.tones) (nothing_yet (length a.tones)) (omega arith) turn_same
         ∙ ap (λ (n : ℕ). range (list_tone b c) 0 n (nothing_yet n)) (ap length agree.tones)
 
     gathers_same : gathered a c ≡ gathered b c
     unfolding gathered
-    gathers_same = rw (listings-same, agree.accents c.accent, agree.settings, agree.tones)
+    gathers_same = rw (listings_same, agree.accents c.accent, agree.settings, agree.tones)
 
   prev_same : (c : Context) → (eqb c.prev 0 || tone_in a.tones c.prev) ≡ (eqb c.prev 0 || tone_in b.tones c.prev)
   prev_same c = rw agree.tones

@@ -26,7 +26,7 @@ use Rattle.tonekit_target.specs.Target.{variants_fine}
 use Rattle.tonekit_target.specs.Bench as variants
 use Rattle.tonekit_station.specs.Judgement.{tones_verdict, query_verdict, judge_outcome}
 use Rattle.tonekit_station.specs.Bench as station
-use Rattle.tonekit_station.proofs.Ways.{bad-variant}
+use Rattle.tonekit_station.proofs.Ways.{bad_variant}
 
 -- whole numbers, and f32s by their bits
 abbrev whole : ℕ → Float
@@ -77,7 +77,7 @@ together = record {
   two_knots = knots.two_knots;
   root_of_2 = root.root_of_two;
   slack_passes = variants.slack_passes;
-  slack_past = λ voiced i q enough listed two. bad-variant voiced i (weighing 32) q enough listed (rw two variants.slack_past);
+  slack_past = λ voiced i q enough listed two. bad_variant voiced i (weighing 32) q enough listed (rw two variants.slack_past);
   half_high = deltas.half_high;
   three_quarters_high = deltas.three_quarters_high;
   equal_tones = heard.equal_tones;

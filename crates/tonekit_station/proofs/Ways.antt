@@ -52,9 +52,9 @@ module _ (voiced : ℕ) (i : Inventory) (s : List ℕ) (q : Query) where
       (λ f. ltb-false voiced 3 f)
 
   module _ (enough : 3 ≤ voiced) (listed : tones_verdict i.tones i.counts ≡ verdict.Fine) where
-    pub bad-variant : variants_fine s q.variants ≡ false → query_verdict voiced true true i s q ≡ verdict.Refused refusal.BadVariant
+    pub bad_variant : variants_fine s q.variants ≡ false → query_verdict voiced true true i s q ≡ verdict.Refused refusal.BadVariant
     unfolding query_verdict
-    bad-variant f = rw (le-ltb voiced 3 enough, listed, f)
+    bad_variant f = rw (le-ltb voiced 3 enough, listed, f)
 
 -- a query that loads, by what was gathered: refused, 13 for targets, or the record
 module _ (g : Gathering) (s : List ℕ) (q : Query) (e : Extent) (is : e ≡ extent_of (frames_of s q.count) q.count q.start q.end) where
@@ -64,17 +64,17 @@ module _ (g : Gathering) (s : List ℕ) (q : Query) (e : Extent) (is : e ≡ ext
 
   module _ (fine : query_verdict e.count g.accent g.prev g.listed.inventory s q ≡ verdict.Fine) (a : Aim)
       (aims : a ≡ targets_of g.listed.inventory.tones g.listed.inventory.numbers s q.tone q.variants) (t : Targets) where
-    pub target-loose : a ≡ loose t → judge_gathered g s q ≡ refused refusal.UnknownTone 0
+    pub target_loose : a ≡ loose t → judge_gathered g s q ≡ refused refusal.UnknownTone 0
     unfolding judge_gathered
-    target-loose o = rw (← is, fine, ← aims, o)
+    target_loose o = rw (← is, fine, ← aims, o)
 
-    pub target-held : a ≡ held t → (x : ToneShape) → x ≡ shape_of (frames_of s q.count) e q.start q.end q.floor q.ceil
+    pub target_held : a ≡ held t → (x : ToneShape) → x ≡ shape_of (frames_of s q.count) e q.start q.end q.floor q.ceil
         → (issues : ℕ) → issues ≡ united q.issues x.frames
         → (j : ToneJudgement) → j ≡ judgement_of x g.temperature g.threshold g.tolerance g.listed t issues
         → (bytes : List ℕ) → bytes ≡ judgement_bytes q.tone g.listed.inventory.tones j
         → written bytes ≡ judge_gathered g s q
     unfolding judge_gathered
-    target-held o x x-is issues i-is j j-is bytes b-is = rw (← is, fine, ← aims, o, ← x-is, ← i-is, ← j-is, ← b-is)
+    target_held o x x-is issues i-is j j-is bytes b-is = rw (← is, fine, ← aims, o, ← x-is, ← i-is, ← j-is, ← b-is)
 
 pub query_good : (src : Source) (s : List ℕ) (q : Query) → load_query s ≡ query.Good q → judge_gathered (gathered src (context_of q)) s q ≡ judgement src s
 unfolding judgement

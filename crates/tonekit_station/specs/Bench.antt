@@ -6,7 +6,7 @@ use Rattle.std.specs.Float.Ieee.Scale.{finite}
 use Rattle.tonekit_core.specs.Calls.{refused, written}
 use Rattle.tonekit_core.specs.declared.Refusal.TheVariants.{CutShort, Unvoiced, UnknownAccent, NoRealisation, BadVariant}
 use Rattle.tonekit_core.specs.declared.Verdict.TheVariants.{Refused}
-use Rattle.tonekit_core.specs.Loop.{turns, range, turnsTo, rangeTo, loopOn, loopTo, while, whileIf}
+use Rattle.tonekit_core.specs.Loop.{turns, range, turns_to, range_to, loop_on, loop_to, while, while_if}
 use Rattle.tonekit_float.specs.Narrow.{narrowed}
 use Rattle.tonekit_float.specs.Whole.{whole_part, round_up}
 use Rattle.tonekit_float.specs.Pick.{lesser, greater}
@@ -75,7 +75,7 @@ unmeasured = fixed 8 (0 ∷ 0 ∷ 0xc0 ∷ 0x7f ∷ []) (0 ∷ 0 ∷ 0x40 ∷ 0x
 
 pub floor_nan : judge_outcome pack unmeasured
     ≡ written ((0x31 ∷ 0x01 ∷ 0x01 ∷ 0x00 ∷ 0x24 ∷ 0x74 ∷ 0xc9 ∷ []) ++ (replicate 54 0 ++ (0x02 ∷ 0x40 ∷ 0x00 ∷ [])))
-unfolding judge_outcome judgement judge_gathered query_verdict tones_verdict accent_in tone_in load_pack read_pack loopTo loopOn reader.record_verdict body_verdict settings_verdict tone_verdict accent_verdict rule_verdict part_verdict due_after size_of holds zero_or_held added above_zero a_share knot_fine weight_fine slot_fine knots_fine region_fine tolerances_fine range turns of_bits le lt load_query read_query record_verdict frame_verdict fields_of variant_fine variants_fine rangeTo turnsTo frame_at extent_of gathered listings source_of_pack look_up find_rule climb_turn best_rule index_of components carried component_of knots_at first_points point_at slotted with_tone no_inventory weights_of points_of target.variants_fine weights_fine main_weight targets_of place_of with_target greater judgement_bytes judgement_of usable shape_of not_measured list_of drawn chao_curve holes_filled semitones hz_to_st width_of st_to_chao log2_of half_width reach curve_at step_of mean_over rounded position whole_part round_up while whileIf narrowed finite score_bytes one_bytes delta_bytes delta_count kind_of f32s_bytes round neg to_bits add sub mul div eq is_nan of_int lesser
+unfolding judge_outcome judgement judge_gathered query_verdict tones_verdict accent_in tone_in load_pack read_pack loop_to loop_on reader.record_verdict body_verdict settings_verdict tone_verdict accent_verdict rule_verdict part_verdict due_after size_of holds zero_or_held added above_zero a_share knot_fine weight_fine slot_fine knots_fine region_fine tolerances_fine range turns of_bits le lt load_query read_query record_verdict frame_verdict fields_of variant_fine variants_fine range_to turns_to frame_at extent_of gathered listings source_of_pack look_up find_rule climb_turn best_rule index_of components carried component_of knots_at first_points point_at slotted with_tone no_inventory weights_of points_of target.variants_fine weights_fine main_weight targets_of place_of with_target greater judgement_bytes judgement_of usable shape_of not_measured list_of drawn chao_curve holes_filled semitones hz_to_st width_of st_to_chao log2_of half_width reach curve_at step_of mean_over rounded position whole_part round_up while while_if narrowed finite score_bytes one_bytes delta_bytes delta_count kind_of f32s_bytes round neg to_bits add sub mul div eq is_nan of_int lesser
 floor_nan = refl
 
 -- three such frames in the register 0 to 24 lie on the citation: a log-likelihood of 3 ln 2, distance 0, the citation of accent 1, tone 1 heard, no
@@ -85,17 +85,17 @@ level = fixed 3 (replicate 4 0) (0 ∷ 0 ∷ 0xc0 ∷ 0x41 ∷ []) ++ (frames ++
 
 pub on_citation : judge_outcome pack level
     ≡ written ((0x31 ∷ 0x01 ∷ 0x01 ∷ 0x92 ∷ 0x15 ∷ 0x05 ∷ 0x40 ∷ []) ++ (replicate 32 0 ++ ((1 ∷ 0 ∷ 0 ∷ 0 ∷ 0 ∷ 1 ∷ 1 ∷ 0 ∷ 0 ∷ 0 ∷ 1 ∷ []) ++ (replicate 11 0 ++ (0x01 ∷ 0x08 ∷ 0x00 ∷ [])))))
-unfolding judge_outcome judgement judge_gathered query_verdict tones_verdict accent_in tone_in load_pack read_pack loopTo loopOn reader.record_verdict body_verdict settings_verdict tone_verdict accent_verdict rule_verdict part_verdict due_after size_of holds zero_or_held added above_zero a_share knot_fine weight_fine slot_fine knots_fine region_fine tolerances_fine range turns of_bits le lt load_query read_query record_verdict frame_verdict fields_of variant_fine variants_fine rangeTo turnsTo frame_at extent_of gathered listings source_of_pack look_up find_rule climb_turn best_rule index_of components carried component_of knots_at first_points point_at slotted with_tone no_inventory weights_of points_of target.variants_fine weights_fine main_weight targets_of place_of with_target greater judgement_bytes judgement_of usable shape_of list_of drawn chao_curve holes_filled semitones hz_to_st width_of st_to_chao log2_of half_width reach curve_at step_of mean_over rounded position whole_part round_up while whileIf narrowed finite score_bytes one_bytes delta_bytes delta_count kind_of f32s_bytes round neg to_bits add sub mul div eq is_nan of_int lesser united with_issue scoring_of widen_for clamp_log add_to value_of excused point_weight squares_of end_term ends_of distance_of log_of mixed mix_turn calibrate kept offer offer_end offer_turn end_deltas deltas_of root_of exp_of ln_of tone_mixing loglik_at logliks ranked ranking_of heard_of weighed part_mixing target_mixing llr_of plain_of distance_from advice_of part_of with_best judged_of magnitude
+unfolding judge_outcome judgement judge_gathered query_verdict tones_verdict accent_in tone_in load_pack read_pack loop_to loop_on reader.record_verdict body_verdict settings_verdict tone_verdict accent_verdict rule_verdict part_verdict due_after size_of holds zero_or_held added above_zero a_share knot_fine weight_fine slot_fine knots_fine region_fine tolerances_fine range turns of_bits le lt load_query read_query record_verdict frame_verdict fields_of variant_fine variants_fine range_to turns_to frame_at extent_of gathered listings source_of_pack look_up find_rule climb_turn best_rule index_of components carried component_of knots_at first_points point_at slotted with_tone no_inventory weights_of points_of target.variants_fine weights_fine main_weight targets_of place_of with_target greater judgement_bytes judgement_of usable shape_of list_of drawn chao_curve holes_filled semitones hz_to_st width_of st_to_chao log2_of half_width reach curve_at step_of mean_over rounded position whole_part round_up while while_if narrowed finite score_bytes one_bytes delta_bytes delta_count kind_of f32s_bytes round neg to_bits add sub mul div eq is_nan of_int lesser united with_issue scoring_of widen_for clamp_log add_to value_of excused point_weight squares_of end_term ends_of distance_of log_of mixed mix_turn calibrate kept offer offer_end offer_turn end_deltas deltas_of root_of exp_of ln_of tone_mixing loglik_at logliks ranked ranking_of heard_of weighed part_mixing target_mixing llr_of plain_of distance_from advice_of part_of with_best judged_of magnitude
 on_citation = refl
 
 -- "Pack or sheet comes before query": a pack that is cut short at 0, and a query whose first kind is misplaced there
 pub pack_first : judge_outcome [] (1 ∷ []) ≡ refused CutShort 0
-unfolding judge_outcome load_pack read_pack loopTo loopOn reader.record_verdict
+unfolding judge_outcome load_pack read_pack loop_to loop_on reader.record_verdict
 pack_first = refl
 
 -- "11 · unvoiced · under 3 voiced frames", from a pack's and a query's bytes: two frames
 pub two_voiced : judge_outcome pack (fixed 2 (replicate 4 0) (0 ∷ 0 ∷ 0xc0 ∷ 0x41 ∷ []) ++ frames) ≡ refused Unvoiced 0
-unfolding judge_outcome judgement judge_gathered query_verdict load_pack read_pack loopTo loopOn reader.record_verdict body_verdict settings_verdict tone_verdict accent_verdict rule_verdict part_verdict due_after size_of holds zero_or_held added above_zero a_share knot_fine weight_fine slot_fine knots_fine region_fine tolerances_fine range turns of_bits le lt load_query read_query record_verdict frame_verdict fields_of variant_fine variants_fine rangeTo turnsTo frame_at extent_of
+unfolding judge_outcome judgement judge_gathered query_verdict load_pack read_pack loop_to loop_on reader.record_verdict body_verdict settings_verdict tone_verdict accent_verdict rule_verdict part_verdict due_after size_of holds zero_or_held added above_zero a_share knot_fine weight_fine slot_fine knots_fine region_fine tolerances_fine range turns of_bits le lt load_query read_query record_verdict frame_verdict fields_of variant_fine variants_fine range_to turns_to frame_at extent_of
 two_voiced = refl
 
 -- "12" before "13 for prev", with three voiced frames; with two "11" before both
@@ -124,10 +124,10 @@ abbrev below : List ℕ
 below = (48 ∷ 1 ∷ 1 ∷ 0 ∷ 0 ∷ []) ++ (replicate 18 0 ++ ((1 ∷ 1 ∷ 0 ∷ 0 ∷ 0x80 ∷ 0xbf ∷ []) ++ (replicate 15 0 ++ (3 ∷ 0 ∷ []))))
 
 pub tones_first : query_verdict 3 true true (listed 0) below varied ≡ Refused NoRealisation
-unfolding query_verdict tones_verdict rangeTo turnsTo
+unfolding query_verdict tones_verdict range_to turns_to
 tones_first = refl
 
 -- once the tone has a component the variant is refused
 pub variant_next : query_verdict 3 true true (listed 1) below varied ≡ Refused BadVariant
-unfolding query_verdict tones_verdict rangeTo turnsTo target.variants_fine weights_fine target.weight_fine main_weight range turns finite le lt of_bits neg add sub round
+unfolding query_verdict tones_verdict range_to turns_to target.variants_fine weights_fine target.weight_fine main_weight range turns finite le lt of_bits neg add sub round
 variant_next = refl

@@ -1,7 +1,7 @@
 -- Document 01's Judgement, from whatever a station holds: what a query's bytes are turned into, a function of a source and of those bytes.
 use Rattle.std.specs.Prelude.{ℕ, Bool, cond, not, List, [], ◌∷◌, eqb, ltb, get_or}
 use Rattle.tonekit_core.specs.Calls.{Outcome, refused, written}
-use Rattle.tonekit_core.specs.Loop.{Turn, next, stop, rangeTo}
+use Rattle.tonekit_core.specs.Loop.{Turn, next, stop, range_to}
 use Rattle.tonekit_core.specs.declared.Refusal.TheVariants as refusal
 use Rattle.tonekit_core.specs.declared.Verdict.{Verdict}
 use Rattle.tonekit_core.specs.declared.Verdict.TheVariants as verdict
@@ -34,7 +34,7 @@ abbrev pub tone_turn : List ℕ → ℕ → ℕ → Turn ℕ Verdict
 tone_turn counts t u = cond (eqb (get_or counts t 0) 0) (stop (verdict.Refused refusal.NoRealisation)) (next u)
 
 unfoldable pub tones_verdict : ℕ → List ℕ → Verdict
-tones_verdict tones counts = rangeTo (tone_turn counts) (λ u. verdict.Fine) 0 tones 0
+tones_verdict tones counts = range_to (tone_turn counts) (λ u. verdict.Fine) 0 tones 0
 
 abbrev pub or_else : Verdict → Verdict → Verdict
 or_else (verdict.Refused r) v = verdict.Refused r

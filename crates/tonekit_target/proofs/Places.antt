@@ -10,7 +10,7 @@ use native.Mathlib.Nat.{eq-or-lt_of_le}
 use lib.ListN.{length, get_or, set, length-set}
 use lib.Seq.{get_or-set_same, get_or-set_other}
 use lib.Ieee.{Float}
-use Rattle.tonekit_core.specs.Loop.{Turn, next, stop, turnsTo, rangeTo}
+use Rattle.tonekit_core.specs.Loop.{Turn, next, stop, turns_to, range_to}
 use Rattle.tonekit_query.specs.Query.{variant_tone, variant_weight}
 use Rattle.tonekit_core.proofs.Split.{split}
 use Rattle.tonekit_expect.specs.declared.Found.{Found}
@@ -26,8 +26,8 @@ module _ (tones : ℕ) (numbers : List ℕ) (n : ℕ) where
       (λ t. let q : j ≡ r = let e' = rw t at e in cc in subst (λ (i : ℕ). i < tones) q h)
       (λ f. let z : ◌≡◌ {A = ℕ} 0 1 = let e' = rw f at e in cc in absurd (omega arith))
 
-  from : (k j i : ℕ) (t : Turn ℕ Found) → k + j ≤ tones → ((r : ℕ) → t ≡ stop (found.At r) → r < tones) → turnsTo (place_turn numbers n) (λ u. found.Nothing) k j t ≡ found.At i → i < tones
-  unfolding turnsTo
+  from : (k j i : ℕ) (t : Turn ℕ Found) → k + j ≤ tones → ((r : ℕ) → t ≡ stop (found.At r) → r < tones) → turns_to (place_turn numbers n) (λ u. found.Nothing) k j t ≡ found.At i → i < tones
+  unfolding turns_to
   from zero j i (next u) h p e = let z : ◌≡◌ {A = ℕ} 0 1 = cc in absurd (omega arith)
   from zero j i (stop f) h p e = p i (ap stop e)
   from (suc k) j i (next u) h p e = from k (j + 1) i (place_turn numbers n j u) (omega arith) (λ r q. hit j u r (omega arith) q) e
@@ -35,7 +35,7 @@ module _ (tones : ℕ) (numbers : List ℕ) (n : ℕ) where
 
   -- what is found is a place of the inventory
   pub place_found : (i : ℕ) → place_of tones numbers n ≡ found.At i → i < tones
-  unfolding place_of rangeTo
+  unfolding place_of range_to
   place_found i e = from (tones - 0) 0 i (next 0) (omega arith) (λ r q. let z : ◌≡◌ {A = ℕ} 0 1 = cc in absurd (omega arith)) e
 
 -- past the main tone, the variants

@@ -3,7 +3,7 @@ use Rattle.std.specs.Prelude.{ℕ, zero, suc, ◌+◌, Bool, true, cond, not, �
 use Rattle.std.specs.Float.{binary32}
 use Rattle.std.specs.Float.Ieee.{neg, add, sub, lt, le, of_bits}
 use Rattle.std.specs.Float.Ieee.Scale.{finite}
-use Rattle.tonekit_core.specs.Loop.{Turn, next, stop, range, rangeTo}
+use Rattle.tonekit_core.specs.Loop.{Turn, next, stop, range, range_to}
 use Rattle.tonekit_float.specs.Pick.{greater}
 use Rattle.tonekit_query.specs.Query.{variant_tone, variant_weight}
 use Rattle.tonekit_expect.specs.declared.Found.{Found}
@@ -47,7 +47,7 @@ abbrev pub place_turn : List ℕ → ℕ → ℕ → ℕ → Turn ℕ Found
 place_turn numbers n i u = cond (eqb (get_or numbers i 0) n) (stop (found.At i)) (next u)
 
 unfoldable pub place_of : ℕ → List ℕ → ℕ → Found
-place_of tones numbers n = rangeTo (place_turn numbers n) (λ u. found.Nothing) 0 tones 0
+place_of tones numbers n = range_to (place_turn numbers n) (λ u. found.Nothing) 0 tones 0
 
 -- tone k of the target, and its weight: the main tone's is what is left, at least 0
 abbrev pub target_tone : List ℕ → ℕ → ℕ → ℕ
@@ -80,7 +80,7 @@ aim_turn tones numbers s tone main k g = aim_at s main k g (place_of tones numbe
 -- the target of a query of this tone and so many variants, among the inventory's tones
 unfoldable pub targets_of : ℕ → List ℕ → List ℕ → ℕ → ℕ → Aim
 targets_of tones numbers s tone variants =
-    rangeTo (aim_turn tones numbers s tone (main_weight s variants)) held 0 (variants + 1) (no_targets (variants + 1))
+    range_to (aim_turn tones numbers s tone (main_weight s variants)) held 0 (variants + 1) (no_targets (variants + 1))
 
 -- what the struct stands for
 abbrev pub aim_of : Aimed → Aim

@@ -15,8 +15,9 @@ loop-i-preserved c =
       l.invariant.2,
       elim c.if-wide-borrow.branch [ then-wide-borrow w ↦ omega arith | else-wide-borrow w ↦ omega arith ],
       elim c.if-wide-borrow.branch [
-          then-wide-borrow w ↦ rw w.borrow-is (most_taken l.borrow x.result y.result a.a.now a.b.now l.i _ (omega arith) (omega arith) w.if-wide-borrow.true x.ensures.0 y.ensures.0 l.invariant.4)
-          | else-wide-borrow w ↦ rw w.borrow-is (most_left l.borrow x.result y.result a.a.now a.b.now l.i _ (omega arith) (omega arith) w.if-wide-borrow.false x.ensures.0 y.ensures.0 l.invariant.4) ],
+        | then-wide-borrow w ↦ rw w.borrow-is (most_taken l.borrow x.result y.result a.a.now a.b.now l.i _ (omega arith) (omega arith) w.if-wide-borrow.true x.ensures.0 y.ensures.0 l.invariant.4)
+        | else-wide-borrow w ↦ rw w.borrow-is (most_left l.borrow x.result y.result a.a.now a.b.now l.i _ (omega arith) (omega arith) w.if-wide-borrow.false x.ensures.0 y.ensures.0 l.invariant.4)
+      ],
     )
 
 pub returns : goal.returns

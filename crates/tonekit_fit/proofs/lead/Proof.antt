@@ -1,14 +1,14 @@
 -- `lead` meets its contract: what is left of the columns, from here, gives what all give.
 use mathlib.Core.Path.{◌≡◌, refl, sym, ◌∙◌, ap}
 use Prim.Native.Nat.{◌-◌}
-use Rattle.tonekit_core.specs.Loop.{rangeTo, to_again, to_stop, to_ended}
+use Rattle.tonekit_core.specs.Loop.{range_to, to_again, to_stop, to_ended}
 use Rattle.tonekit_fit.specs.Fit.{column_turn, first_unknown, lead_of}
 use borrow.Author.Rules.{rules}
 use Rattle.tonekit_fit.proofs.lead.Statement.{statement}
 use Rattle.tonekit_fit.proofs.lead.Tie as tie
 
 abbrev invariant-loop : tie.invariant-loop
-invariant-loop m₀ col₀ m col = rangeTo column_turn first_unknown col 3 m ≡ lead_of m₀
+invariant-loop m₀ col₀ m col = range_to column_turn first_unknown col 3 m ≡ lead_of m₀
 
 abbrev decreases-loop : tie.decreases-loop
 decreases-loop m₀ col₀ m col = 3 - col

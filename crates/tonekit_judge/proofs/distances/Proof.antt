@@ -6,7 +6,7 @@ use Prim.Native.Nat.{◌+◌, ◌*◌, ◌-◌, ◌≤◌}
 use native.Mathlib.Omega.{arith}
 use lib.ListN.{length}
 use Rattle.tonekit_judge.specs.Judge.{Filled, distance_at}
-use Rattle.tonekit_judge.proofs.Slots.{filled_none, filled_more, filled-tone}
+use Rattle.tonekit_judge.proofs.Slots.{filled_none, filled_more, filled_tone}
 use Rattle.tonekit_judge.proofs.distances.Statement.{statement}
 use Rattle.tonekit_judge.proofs.distances.Tie as tie
 
@@ -37,7 +37,7 @@ loop2-again c =
     )
 
 loop_again : tie.Need-loop-preserved invariant-loop2 decreases-loop2 invariant-loop decreases-loop
-loop_again c = (search rules, search rules, filled-tone _ _ c.before.loop2.d _ c.before.loop2.j (omega arith) c.before.loop2.invariant.2)
+loop_again c = (search rules, search rules, filled_tone _ _ c.before.loop2.d _ c.before.loop2.j (omega arith) c.before.loop2.invariant.2)
 
 returns : tie.Need-returns invariant-loop2 decreases-loop2 invariant-loop decreases-loop
 returns c =

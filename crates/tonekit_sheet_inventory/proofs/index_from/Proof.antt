@@ -5,7 +5,7 @@ use native.Mathlib.Omega.{arith}
 use Prim.Native.Nat.{◌+◌, ◌*◌, ◌-◌, ◌≤◌}
 use borrow.Author.Tests.{eq-eqb, ne_eqb}
 use lib.ListN.{length, get_or}
-use Rattle.tonekit_core.specs.Loop.{rangeTo, to_again, to_stop, to_ended}
+use Rattle.tonekit_core.specs.Loop.{range_to, to_again, to_stop, to_ended}
 use Rattle.tonekit_expect.specs.Lookup.{index_turn, index_of}
 use Rattle.tonekit_expect.specs.declared.Found.TheVariants as found
 use Rattle.tonekit_sheet_read.specs.Held.{stepped}
@@ -16,7 +16,7 @@ use Rattle.tonekit_sheet_inventory.proofs.index_from.Tie as tie
 abbrev invariant-loop : tie.invariant-loop
 invariant-loop s o step count n i₀ i =
     let os = stepped o step count in
-    (i ≤ count) × (rangeTo (index_turn s os n) (λ u. found.Nothing) i (length os) 0 ≡ index_of s os n)
+    (i ≤ count) × (range_to (index_turn s os n) (λ u. found.Nothing) i (length os) 0 ≡ index_of s os n)
 
 abbrev decreases-loop : tie.decreases-loop
 decreases-loop s o step count n i₀ i = count - i

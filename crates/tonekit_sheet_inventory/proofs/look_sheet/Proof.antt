@@ -11,7 +11,7 @@ use Rattle.tonekit_expect.proofs.Walk.{index_found}
 use Rattle.tonekit_sheet.specs.FromSheet.{list_numbered, prev_found}
 use Rattle.tonekit_sheet_read.specs.Held.{shown}
 use Rattle.tonekit_sheet_inventory.proofs.Rows.{number_held}
-use Rattle.tonekit_sheet_inventory.proofs.Lookup.{accent_held, tone_held, prev_inside, prev_held, nothing, no_accent, no_tone, no-prev, number_is, looked}
+use Rattle.tonekit_sheet_inventory.proofs.Lookup.{accent_held, tone_held, prev_inside, prev_held, nothing, no_accent, no_tone, no_prev, number_is, looked}
 use Rattle.tonekit_sheet_inventory.proofs.look_sheet.Statement.{statement}
 use Rattle.tonekit_sheet_inventory.proofs.look_sheet.Tie as tie
 
@@ -26,7 +26,7 @@ returns-2 c =
 returns-3 : tie.Need-returns-3
 returns-3 c =
     nothing _ _ _
-    (no-prev _ _ _ _ (sym c.before.before.before.before.before.before.before.before.before.before.accent-index.ensures ∙ c.before.before.before.before.before.before.accent.given.1) _ (sym c.before.before.before.before.before.before.before.before.before.tone-index.ensures ∙ c.before.before.before.tone.given.1)
+    (no_prev _ _ _ _ (sym c.before.before.before.before.before.before.before.before.before.before.accent-index.ensures ∙ c.before.before.before.before.before.before.accent.given.1) _ (sym c.before.before.before.before.before.before.before.before.before.tone-index.ensures ∙ c.before.before.before.tone.given.1)
     (sym c.before.before.before.before.before.before.before.before.prev-index.ensures ∙ c.enum-told3.given.1))
 
 -- the three places

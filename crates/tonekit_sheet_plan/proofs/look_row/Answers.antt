@@ -10,7 +10,7 @@ use Rattle.tonekit_expect.specs.Lookup.{look_up}
 use Rattle.tonekit_expect.specs.Source.{given}
 use Rattle.tonekit_expect.proofs.InOrder.{order_all}
 use Rattle.tonekit_sheet_plan.proofs.Recovered.{look_kept}
-use Rattle.tonekit_sheet_plan.proofs.Views.{view-row, some_tone}
+use Rattle.tonekit_sheet_plan.proofs.Views.{view_row, some_tone}
 use Rattle.tonekit_sheet_plan.proofs.look_row.Goals as goal
 use Rattle.tonekit_sheet_plan.proofs.look_row.Goals.{Start}
 
@@ -34,7 +34,7 @@ returns c =
     let tones = order_all (λ (r : ℕ). r < 65536) p.toneat p.tones (lit< tt) (λ k. (near-tone (goal.at.returns c).Start k).fits) in
     let e = c.look_up.ensures ∙ ap (look_up s (shown p)) c.row_context.ensures in
     record {
-      gives = ap (given s) e ∙ view-row s (shown p) c.args.a c.requires.ordered c.args.i c.args.last;
+      gives = ap (given s) e ∙ view_row s (shown p) c.args.a c.requires.ordered c.args.i c.args.last;
       kept = λ l q. look_kept s (shown p) r.end r.loads rules tones _ l (sym c.look_up.ensures ∙ q);
       same = e;
     }

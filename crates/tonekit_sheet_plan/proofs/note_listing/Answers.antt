@@ -1,7 +1,7 @@
 use native.Mathlib.Omega.{arith}
 use mathlib.Core.Path.{◌∙◌}
 use Prim.Native.Nat.{◌<◌}
-use Rattle.tonekit_sheet_plan.proofs.Memo.{key_small, way-known, way-found, way-room, way-new}
+use Rattle.tonekit_sheet_plan.proofs.Memo.{key_small, way_known, way_found, way_room, way_new}
 use Rattle.tonekit_sheet_plan.proofs.note_listing.Goals as goal
 use Rattle.tonekit_sheet_plan.proofs.note_listing.Goals.{Else-j-count}
 
@@ -9,7 +9,7 @@ pub returns-then-known_at-n : goal.returns-then-known_at-n
 returns-then-known_at-n c =
     let key = c.key_of-key in
     let a = c.args in
-    way-known a.s.now a.lists.now a.memo.now a.n a.l c.requires.0.sane c.requires.1 key.ensures.2 c.known_at.result c.if-known_at-n.true (c.known_at.ensures.1 c.if-known_at-n.true ∙ key.ensures.0)
+    way_known a.s.now a.lists.now a.memo.now a.n a.l c.requires.0.sane c.requires.1 key.ensures.2 c.known_at.result c.if-known_at-n.true (c.known_at.ensures.1 c.if-known_at-n.true ∙ key.ensures.0)
 
 pub place_of-j-requires : goal.place_of-j-requires
 place_of-j-requires c =
@@ -31,7 +31,7 @@ returns-then-j-count c =
     let p = c.place_of-j in
     let key = c.key_of-key in
     let a = c.args in
-    rw (r.ensures.0, r.ensures.1, key.ensures.0) (way-found a.s.now a.lists.now a.memo.now a.n a.l c.requires.0.sane c.requires.1 key.ensures.2 p.result p.ensures c.if-j-count.true)
+    rw (r.ensures.0, r.ensures.1, key.ensures.0) (way_found a.s.now a.lists.now a.memo.now a.n a.l c.requires.0.sane c.requires.1 key.ensures.2 p.result p.ensures c.if-j-count.true)
 
 -- there is room for a new list
 room : (c : Else-j-count) → c.place_of-j.result < 128
@@ -39,7 +39,7 @@ room c =
     let p = c.place_of-j in
     let key = c.key_of-key in
     let a = c.args in
-    way-room a.s.now a.lists.now a.memo.now a.n a.l c.requires.0.sane c.requires.1 key.ensures.2 p.result p.ensures c.if-j-count.false c.requires.0.few
+    way_room a.s.now a.lists.now a.memo.now a.n a.l c.requires.0.sane c.requires.1 key.ensures.2 p.result p.ensures c.if-j-count.false c.requires.0.few
 
 -- a key and a mark above it fit one number
 small : (c : Else-j-count) → (c.key_of-key.result < 16777216) × (c.mark_of-mark.result < 256)
@@ -70,4 +70,4 @@ returns c =
     let mark = c.mark_of-mark in
     let key = c.key_of-key in
     let a = c.args in
-    rw (r.ensures.0, r.ensures.1, key.ensures.0) (way-new a.s.now a.lists.now a.memo.now a.n a.l c.requires.0.sane c.requires.1 key.ensures.2 p.result p.ensures c.if-j-count.false c.requires.0.few mark.result mark.ensures.0)
+    rw (r.ensures.0, r.ensures.1, key.ensures.0) (way_new a.s.now a.lists.now a.memo.now a.n a.l c.requires.0.sane c.requires.1 key.ensures.2 p.result p.ensures c.if-j-count.false c.requires.0.few mark.result mark.ensures.0)

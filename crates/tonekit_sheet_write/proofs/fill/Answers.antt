@@ -1,5 +1,5 @@
 use Rattle.tonekit_sheet_write.proofs.Bytes.{wrote_size}
-use Rattle.tonekit_sheet_write.proofs.Together.{first, second, third, fourth, fifth, last, all-written}
+use Rattle.tonekit_sheet_write.proofs.Together.{first, second, third, fourth, fifth, last, all_written}
 use Rattle.tonekit_sheet_write.proofs.fill.Goals as goal
 
 pub write_settings-tones-requires : goal.write_settings-tones-requires
@@ -35,7 +35,7 @@ write_end-requires c =
 pub returns : goal.returns
 returns c =
     let a = c.args in
-    all-written a.s.now a.p a.a a.lists.now a.n.lists c.requires.0.pack.ordered a.out.now c.requires.1 c.write_settings-tones.ensures c.write_tones-accents.ensures c.write_accents-rows.ensures c.write_rows-behind.ensures c.write_lists-end.ensures c.write_end.ensures
+    all_written a.s.now a.p a.a a.lists.now a.n.lists c.requires.0.pack.ordered a.out.now c.requires.1 c.write_settings-tones.ensures c.write_tones-accents.ensures c.write_accents-rows.ensures c.write_rows-behind.ensures c.write_lists-end.ensures c.write_end.ensures
 
 pub shape_of-out : goal.shape_of-out
 shape_of-out c = wrote_size (returns c)

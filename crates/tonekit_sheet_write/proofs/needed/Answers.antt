@@ -1,4 +1,4 @@
-use Rattle.tonekit_sheet_write.proofs.Together.{sheet-length}
+use Rattle.tonekit_sheet_write.proofs.Together.{sheet_length}
 use Rattle.tonekit_sheet_write.proofs.needed.Goals as goal
 
 pub row_count-rows-requires : goal.row_count-rows-requires
@@ -10,4 +10,4 @@ sheet_row_at-requires c = let g = c.requires in (g.0.few_tones, g.1.slots.few, c
 pub returns : goal.returns
 returns c =
     let a = c.args in
-    sheet-length a.s.now a.p a.a a.lists.now a.n c.requires.1 _ _ _ c.row_count-rows.ensures.0 c.sheet_row_at.ensures c.lists_size.ensures.0
+    sheet_length a.s.now a.p a.a a.lists.now a.n c.requires.1 _ _ _ c.row_count-rows.ensures.0 c.sheet_row_at.ensures c.lists_size.ensures.0

@@ -8,7 +8,7 @@ use Rattle.tonekit_core.proofs.Calls.{delivers_refused, delivers_same}
 use Rattle.tonekit_query.specs.Query.{frames_of}
 use Rattle.tonekit_shape.specs.Extract.{extent_of}
 use Rattle.tonekit_station.specs.Judgement.{query_verdict}
-use Rattle.tonekit_station.proofs.Ways.{enough_voiced, turned_back_lem, target-loose, target-held}
+use Rattle.tonekit_station.proofs.Ways.{enough_voiced, turned_back_lem, target_loose, target_held}
 use Rattle.tonekit_station.proofs.judge_gathered.Statement.{statement}
 use Rattle.tonekit_station.proofs.judge_gathered.Tie as tie
 
@@ -31,7 +31,7 @@ returns-2 c =
     let k = t.before.before in
     let v = k.before.before in
     delivers_refused _ _ _ _
-    (target-loose _ _ _ v.voiced-frames.result (voiced v) (sym k.query-verdict.ensures ∙ t.enum_told.given.1) _ g.Targets-of.ensures.0 g.Targets-of.result.targets (rw (not-true g.Targets-of.result.held c.if1.true)))
+    (target_loose _ _ _ v.voiced-frames.result (voiced v) (sym k.query-verdict.ensures ∙ t.enum_told.given.1) _ g.Targets-of.ensures.0 g.Targets-of.result.targets (rw (not-true g.Targets-of.result.held c.if1.true)))
 
 shape-of-requires : tie.Need-shape-of-requires
 shape-of-requires c κs =
@@ -67,7 +67,7 @@ returns-3 c =
     let k = t.before.before in
     let v = k.before.before in
     delivers_same _ _ _ _ _
-    (target-held _ _ _ v.voiced-frames.result (voiced v) (sym k.query-verdict.ensures ∙ t.enum_told.given.1) _ g.Targets-of.ensures.0 g.Targets-of.result.targets (rw (not-false g.Targets-of.result.held h.if1.false))
+    (target_held _ _ _ v.voiced-frames.result (voiced v) (sym k.query-verdict.ensures ∙ t.enum_told.given.1) _ g.Targets-of.ensures.0 g.Targets-of.result.targets (rw (not-false g.Targets-of.result.held h.if1.false))
     x.shape_of.result (rw (← v.before.frames.ensures) x.shape_of.ensures) i.united.result i.united.ensures r.before.judged.result r.before.judged.ensures r.judgement-record.result r.judgement-record.ensures)
     c.before.before.write-record.ensures
 

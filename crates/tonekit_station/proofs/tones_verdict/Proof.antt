@@ -3,14 +3,14 @@ use mathlib.Core.Path.{◌≡◌, refl}
 use borrow.Author.Rules.{rules}
 use Prim.Native.Nat.{◌-◌}
 use borrow.Author.Tests.{eq-eqb, ne_eqb}
-use Rattle.tonekit_core.specs.Loop.{rangeTo, to_again, to_stop, to_ended}
+use Rattle.tonekit_core.specs.Loop.{range_to, to_again, to_stop, to_ended}
 use Rattle.tonekit_core.specs.declared.Verdict.TheVariants as verdict
 use Rattle.tonekit_station.specs.Judgement.{tone_turn, tones_verdict}
 use Rattle.tonekit_station.proofs.tones_verdict.Statement.{statement}
 use Rattle.tonekit_station.proofs.tones_verdict.Tie as tie
 
 abbrev invariant-loop : tie.invariant-loop
-invariant-loop tones counts t₀ t = rangeTo (tone_turn counts) (λ u. verdict.Fine) t tones 0 ≡ tones_verdict tones counts
+invariant-loop tones counts t₀ t = range_to (tone_turn counts) (λ u. verdict.Fine) t tones 0 ≡ tones_verdict tones counts
 
 abbrev decreases-loop : tie.decreases-loop
 decreases-loop tones counts t₀ t = tones - t

@@ -3,7 +3,7 @@ use mathlib.Core.Path.{◌≡◌, refl}
 use borrow.Author.Rules.{rules}
 use Prim.Native.Nat.{◌-◌}
 use borrow.Author.Tests.{eq-eqb, ne_eqb}
-use Rattle.tonekit_core.specs.Loop.{rangeTo, to_again, to_stop, to_ended}
+use Rattle.tonekit_core.specs.Loop.{range_to, to_again, to_stop, to_ended}
 use Rattle.tonekit_expect.specs.declared.Found.TheVariants as found
 use Rattle.tonekit_target.specs.Target.{place_turn, place_of}
 use Rattle.tonekit_target.proofs.place_of.Statement.{statement}
@@ -11,7 +11,7 @@ use Rattle.tonekit_target.proofs.place_of.Tie as tie
 
 abbrev invariant-loop : tie.invariant-loop
 invariant-loop tones n numbers i₀ i =
-    rangeTo (place_turn numbers n) (λ u. found.Nothing) i tones 0 ≡ place_of tones numbers n
+    range_to (place_turn numbers n) (λ u. found.Nothing) i tones 0 ≡ place_of tones numbers n
 
 abbrev decreases-loop : tie.decreases-loop
 decreases-loop tones n numbers i₀ i = tones - i

@@ -3,7 +3,7 @@ use mathlib.Core.Path.{◌≡◌, sym, ◌∙◌, ap}
 use borrow.Author.Rules.{rules}
 use Prim.Native.Nat.{ℕ, ◌+◌, ◌-◌, ◌≤◌, ◌<◌}
 use native.Mathlib.Omega.{arith}
-use Rattle.tonekit_core.specs.Loop.{next, rangeTo, to_again, to_stop, to_ended}
+use Rattle.tonekit_core.specs.Loop.{next, range_to, to_again, to_stop, to_ended}
 use Rattle.tonekit_target.specs.Target.{held, aim_turn, targets_of}
 use Rattle.tonekit_target.proofs.Places.{place_found, Partly, partly_none, partly_more, partly_all}
 use Rattle.tonekit_target.proofs.targets_of.Statement.{statement}
@@ -11,7 +11,7 @@ use Rattle.tonekit_target.proofs.targets_of.Tie as tie
 
 abbrev invariant-loop : tie.invariant-loop
 invariant-loop tones numbers query tone variants main count g₀ k₀ g k =
-    (k ≤ variants + 1) × Partly tones (variants + 1) k g × (rangeTo (aim_turn tones numbers query tone main) held k (variants + 1) g ≡ targets_of tones numbers query tone variants)
+    (k ≤ variants + 1) × Partly tones (variants + 1) k g × (range_to (aim_turn tones numbers query tone main) held k (variants + 1) g ≡ targets_of tones numbers query tone variants)
 
 abbrev decreases-loop : tie.decreases-loop
 decreases-loop tones numbers query tone variants main count g₀ k₀ g k = variants + 1 - k

@@ -5,7 +5,7 @@ use mathlib.Core.Path.{◌≡◌, sym, ◌∙◌, ap}
 use mathlib.Core.Bool.{true}
 use Rattle.tonekit_expect.specs.Source.{components}
 use Rattle.tonekit_sheet.specs.Number.{same}
-use Rattle.tonekit_sheet_plan.proofs.Alike.{sameFirst, counts_differ, first_none, first_on, first_off}
+use Rattle.tonekit_sheet_plan.proofs.Alike.{same_first, counts_differ, first_none, first_on, first_off}
 use Rattle.tonekit_sheet_plan.proofs.same.same_listing.Goals as goal
 
 pub returns-then-a-b : goal.returns-then-a-b
@@ -33,5 +33,5 @@ pub returns : goal.returns
 returns c =
     let a = c.args in
     let e : c.loop-j.j ≡ a.a.count = omega arith in
-    sym c.loop-j.invariant.2 ∙ ap (sameFirst a.s.now a.a a.b) e
+    sym c.loop-j.invariant.2 ∙ ap (same_first a.s.now a.a a.b) e
     ∙ ap (λ (n : ℕ). same (components a.s.now a.a a.a.count) (components a.s.now a.b n)) c.if-a-b.false

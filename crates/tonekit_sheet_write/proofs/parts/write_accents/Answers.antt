@@ -2,7 +2,7 @@ use borrow.Author.Rules.{rules}
 use Prim.Native.Nat.{◌<◌}
 use native.Mathlib.Omega.{arith}
 use mathlib.Core.Path.{sym}
-use Rattle.tonekit_sheet.specs.Gather.{write_begun, write-room, write-next, write-ended}
+use Rattle.tonekit_sheet.specs.Gather.{write_begun, write_room, write_next, write_ended}
 use Rattle.tonekit_sheet_write.proofs.Bytes.{accent_piece_lem, wrote_as}
 use Rattle.tonekit_sheet_write.proofs.parts.write_accents.Goals as goal
 use Rattle.tonekit_sheet_write.proofs.parts.write_accents.Goals.{In-loop-i}
@@ -16,15 +16,15 @@ inside c = omega (arith, c.loop-i.invariant.0, c.loop-i-test.true)
 
 pub write_accent-o-requires : goal.write_accent-o-requires
 write_accent-o-requires c =
-    omega (arith, write-room _ c.loop-i.invariant.1 (inside (goal.at.write_accent-o-requires c).In-loop-i) c.requires.1)
+    omega (arith, write_room _ c.loop-i.invariant.1 (inside (goal.at.write_accent-o-requires c).In-loop-i) c.requires.1)
 
 pub loop-i-preserved : goal.loop-i-preserved
 loop-i-preserved c =
     let a = c.args in
-    (c.loop-i.invariant.0, write-next _ c.loop-i.invariant.1 (inside (goal.at.loop-i-preserved c).In-loop-i) (wrote_as (sym (accent_piece_lem a.s.now a.a c.loop-i.i (inside (goal.at.loop-i-preserved c).In-loop-i))) c.write_accent-o.ensures))
+    (c.loop-i.invariant.0, write_next _ c.loop-i.invariant.1 (inside (goal.at.loop-i-preserved c).In-loop-i) (wrote_as (sym (accent_piece_lem a.s.now a.a c.loop-i.i (inside (goal.at.loop-i-preserved c).In-loop-i))) c.write_accent-o.ensures))
 
 pub shape_of-out : goal.shape_of-out
 shape_of-out c = c.loop-i.invariant.1.size
 
 pub returns : goal.returns
-returns c = write-ended _ c.loop-i.invariant.1 (omega (arith, c.loop-i.invariant.0, c.loop-i-test.false))
+returns c = write_ended _ c.loop-i.invariant.1 (omega (arith, c.loop-i.invariant.0, c.loop-i-test.false))

@@ -1,7 +1,7 @@
 use borrow.Author.Rules.{rules}
 use Prim.Native.Nat.{◌<◌}
 use native.Mathlib.Omega.{arith}
-use Rattle.tonekit_sheet.specs.Gather.{write_begun, write-room, write-next, write-ended}
+use Rattle.tonekit_sheet.specs.Gather.{write_begun, write_room, write_next, write_ended}
 use Rattle.tonekit_sheet_write.proofs.Bytes.{component_length}
 use Rattle.tonekit_sheet_write.proofs.parts.write_components.Goals as goal
 use Rattle.tonekit_sheet_write.proofs.parts.write_components.Goals.{In-loop-j}
@@ -15,14 +15,14 @@ inside c = omega (arith, c.loop-j.invariant.0, c.loop-j-test.true)
 
 pub write_component-o-requires : goal.write_component-o-requires
 write_component-o-requires c =
-    (c.requires.0, inside (goal.at.write_component-o-requires c).In-loop-j, omega (arith, component_length c.args.s.now c.args.l c.loop-j.j, write-room _ c.loop-j.invariant.1 (inside (goal.at.write_component-o-requires c).In-loop-j) c.requires.1))
+    (c.requires.0, inside (goal.at.write_component-o-requires c).In-loop-j, omega (arith, component_length c.args.s.now c.args.l c.loop-j.j, write_room _ c.loop-j.invariant.1 (inside (goal.at.write_component-o-requires c).In-loop-j) c.requires.1))
 
 pub loop-j-preserved : goal.loop-j-preserved
 loop-j-preserved c =
-    (c.loop-j.invariant.0, write-next _ c.loop-j.invariant.1 (inside (goal.at.loop-j-preserved c).In-loop-j) c.write_component-o.ensures)
+    (c.loop-j.invariant.0, write_next _ c.loop-j.invariant.1 (inside (goal.at.loop-j-preserved c).In-loop-j) c.write_component-o.ensures)
 
 pub shape_of-out : goal.shape_of-out
 shape_of-out c = c.loop-j.invariant.1.size
 
 pub returns : goal.returns
-returns c = write-ended _ c.loop-j.invariant.1 (omega (arith, c.loop-j.invariant.0, c.loop-j-test.false))
+returns c = write_ended _ c.loop-j.invariant.1 (omega (arith, c.loop-j.invariant.0, c.loop-j-test.false))

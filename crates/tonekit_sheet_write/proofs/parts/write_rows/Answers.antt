@@ -1,6 +1,6 @@
 use Prim.Native.Nat.{◌<◌}
 use native.Mathlib.Omega.{arith}
-use Rattle.tonekit_sheet.specs.Gather.{write_begun, write-room, write-next, write-ended}
+use Rattle.tonekit_sheet.specs.Gather.{write_begun, write_room, write_next, write_ended}
 use Rattle.tonekit_sheet.specs.Sheet.{row_count}
 use Rattle.tonekit_sheet_write.proofs.parts.write_rows.Goals as goal
 use Rattle.tonekit_sheet_write.proofs.parts.write_rows.Goals.{In-loop-i}
@@ -17,14 +17,14 @@ inside c = omega (arith, c.loop-i.invariant.0, c.loop-i-test.true)
 
 pub write_row-o-requires : goal.write_row-o-requires
 write_row-o-requires c =
-    (c.requires.0, omega (arith, write-room _ c.loop-i.invariant.1 (inside (goal.at.write_row-o-requires c).In-loop-i) c.requires.1))
+    (c.requires.0, omega (arith, write_room _ c.loop-i.invariant.1 (inside (goal.at.write_row-o-requires c).In-loop-i) c.requires.1))
 
 pub loop-i-preserved : goal.loop-i-preserved
 loop-i-preserved c =
-    (c.loop-i.invariant.0, write-next _ c.loop-i.invariant.1 (inside (goal.at.loop-i-preserved c).In-loop-i) c.write_row-o.ensures)
+    (c.loop-i.invariant.0, write_next _ c.loop-i.invariant.1 (inside (goal.at.loop-i-preserved c).In-loop-i) c.write_row-o.ensures)
 
 pub shape_of-out : goal.shape_of-out
 shape_of-out c = c.loop-i.invariant.1.size
 
 pub returns : goal.returns
-returns c = write-ended _ c.loop-i.invariant.1 (omega (arith, c.loop-i.invariant.0, c.loop-i-test.false))
+returns c = write_ended _ c.loop-i.invariant.1 (omega (arith, c.loop-i.invariant.0, c.loop-i-test.false))
