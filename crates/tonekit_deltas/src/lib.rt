@@ -1,4 +1,6 @@
 // `deltas` of the Rust: the advice for a shape against its best component, at most two differences.
+#![tactic(auto)]
+
 ghost use Rattle.std.specs.Prelude.{◌≡◌, length};
 ghost use Rattle.tonekit_deltas.specs.Deltas.{no_deltas, above, kept, offer, offer_end, offer_turn, range_of, end_deltas, inner_deltas, deltas_of};
 
