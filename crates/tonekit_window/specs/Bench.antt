@@ -31,6 +31,7 @@ frames_8 = refl
 rising : List Float
 rising = of_int binary64 (pos 1) ∷ of_int binary64 (pos 2) ∷ of_int binary64 (pos 3) ∷ of_int binary64 (pos 4) ∷ []
 
+-- each computed to its value, and that compared with `of_int`'s: antt does not end comparing the two roundings with each other
 first_computed : contour_at rising 0 ≡ fin false 1 (pos 0)
 unfolding rising position reach half_width mean_over while step_of curve_at narrowed whole_part lesser greater add sub mul div of_int of_bits lt is_nan round
 first_computed = refl

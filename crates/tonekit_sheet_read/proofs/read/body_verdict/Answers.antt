@@ -27,7 +27,6 @@ pub returns-in-22 : goal.returns-in-22
 unfolding body_verdict
 returns-in-22 c = rw c.in-22.is c.component_verdict.ensures
 
-
 pub tone_verdict-requires : goal.tone_verdict-requires
 unfolding size_of
 tone_verdict-requires c = (c.requires.0, rw c.in-18.is at c.requires.1)
