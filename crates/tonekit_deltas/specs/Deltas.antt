@@ -80,6 +80,6 @@ inner_deltas ends x points t widen =
 
 -- `compute`: onset, offset, turning point and range, in this order; only the ends where the shape is too short
 unfoldable pub deltas_of : ToneShape → List Float → Tolerance → Float → Bool → Deltas
-deltas_of x points t widen endsOnly =
+deltas_of x points t widen ends_only =
     let ends = end_deltas x points t widen in
-    cond endsOnly ends (inner_deltas ends x points t widen)
+    cond ends_only ends (inner_deltas ends x points t widen)

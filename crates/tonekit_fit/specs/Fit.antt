@@ -2,7 +2,7 @@
 use Rattle.std.specs.Prelude.{ℕ, ◌+◌, ◌-◌, cond, List, [], ◌∷◌, ltb, length, get_or, set, replicate, Float}
 use Rattle.std.specs.Float.{nan, binary64}
 use Rattle.std.specs.Float.Ieee.{add, sub, mul, div, lt, of_bits}
-use Rattle.tonekit_core.specs.Loop.{Turn, next, stop, range, rangeTo}
+use Rattle.tonekit_core.specs.Loop.{Turn, next, stop, range, range_to}
 use Rattle.tonekit_float.specs.Magnitude.{magnitude}
 use Rattle.tonekit_float.specs.Magnitude.{total_le}
 use Rattle.tonekit_contour.specs.Position.{whole64}
@@ -130,7 +130,7 @@ column_turn col m =
     (next (below_cleared col (swap_rows col (pivot_of m col) m)))
 
 unfoldable pub lead_of : Grid → Float
-lead_of m = rangeTo column_turn first_unknown 0 3 m
+lead_of m = range_to column_turn first_unknown 0 3 m
 
 -- `quadratic_coefficient`: x is the fraction, measured from its mean
 unfoldable pub quadratic_coefficient : Part → ℕ → Float

@@ -3,7 +3,7 @@ use Rattle.std.specs.Prelude.{ℕ, ◌≡◌, refl, true, false, List, [], ◌�
 use Rattle.std.specs.Float.{nan, inf, fin, binary32}
 use Rattle.std.specs.Float.Ieee.{add, sub, mul, div, lt, le, eq, neg, of_bits, to_bits, of_int, round, is_nan}
 use Rattle.tonekit_core.specs.Calls.{refused}
-use Rattle.tonekit_core.specs.Loop.{range, rangeTo, while}
+use Rattle.tonekit_core.specs.Loop.{range, range_to, while}
 use Rattle.tonekit_core.specs.Words.{with_issue}
 use Rattle.tonekit_core.specs.declared.Refusal.TheVariants.{CutShort, Unvoiced}
 use Rattle.tonekit_float.specs.Magnitude.{magnitude, total_le}
@@ -83,7 +83,7 @@ level : shape_of (tone ++ (tone ++ tone)) (record { count = 3; first = 0; last =
       confidence = num 1;
       frames = 3;
     }
-unfolding shape_of drawn semitones holes_filled chao_curve mean_with list_of mean_of range_of confidence half_width reach curve_at step_of mean_over rounded position whole_part round_up narrowed lesser greater magnitude total_le range rangeTo while hz_to_st width_of st_to_chao log2_of line_slope point_added moments_of normal_equations first_unknown lead_of quadratic_coefficient greatest first_near last_near extremum stands chosen turning_point frame_at add sub mul div lt le eq neg of_int of_bits round is_nan
+unfolding shape_of drawn semitones holes_filled chao_curve mean_with list_of mean_of range_of confidence half_width reach curve_at step_of mean_over rounded position whole_part round_up narrowed lesser greater magnitude total_le range range_to while hz_to_st width_of st_to_chao log2_of line_slope point_added moments_of normal_equations first_unknown lead_of quadratic_coefficient greatest first_near last_near extremum stands chosen turning_point frame_at add sub mul div lt le eq neg of_int of_bits round is_nan
 level = refl
 
 -- "Fewer than 3 voiced frames: 11", at place 0; no bytes at all: 2 at 0
@@ -91,7 +91,7 @@ query2 : List ℕ
 query2 = 48 ∷ 1 ∷ 1 ∷ 0 ∷ 0 ∷ 0 ∷ 0 ∷ 0 ∷ 0 ∷ 2 ∷ 0 ∷ 0 ∷ 0 ∷ 0 ∷ 0 ∷ 0 ∷ 0 ∷ 0 ∷ 0 ∷ 192 ∷ 65 ∷ (replicate 23 0 ++ (2 ∷ 0 ∷ (tone ++ tone)))
 
 two_voiced : shape_outcome query2 ≡ refused Unvoiced 0
-unfolding query2 shape_outcome load_query read_query record_verdict variants_fine variant_fine frame_verdict fields_of extent_of range rangeTo frame_at of_bits lt
+unfolding query2 shape_outcome load_query read_query record_verdict variants_fine variant_fine frame_verdict fields_of extent_of range range_to frame_at of_bits lt
 two_voiced = refl
 
 no_query : shape_outcome [] ≡ refused CutShort 0

@@ -136,5 +136,5 @@ module _ (l : List Float) (a b : Float) (A : Frame a) (B : Frame b) where
 
 -- over the window about a point of a contour
 pub walk_ends : (l : List Float) (n k : ℕ) → n ≤ 1024 → k ≤ 9 → unswept (span_at n k).high (walk_of l (span_at n k).low (span_at n k).high) ≡ false
-walk_ends l n k n-le k-le =
-    ends l (span_at n k).low (span_at n k).high (frame n n-le (low_in n k n-le k-le)) (frame n n-le (high_in n k n-le k-le))
+walk_ends l n k n-le k_le =
+    ends l (span_at n k).low (span_at n k).high (frame n n-le (low_in n k n-le k_le)) (frame n n-le (high_in n k n-le k_le))

@@ -37,7 +37,7 @@ half_in n h =
     let p = in_finite {lo = zero_f} {hi = fin false 1 (pos 6)} {x = m} tt (share_in n h) in
     (greater_finite m half p tt, le_trans_float zero_f half (half_width n) tt (le_greater_right m half p tt))
 
-module _ (n k : ℕ) (n-le : n ≤ 1024) (k-le : k ≤ 9) where
+module _ (n k : ℕ) (n-le : n ≤ 1024) (k_le : k ≤ 9) where
   abbrev last : Float
   last = whole64 (n - 1)
 
@@ -48,7 +48,7 @@ module _ (n k : ℕ) (n-le : n ≤ 1024) (k-le : k ≤ 9) where
   w = reach n k
 
   x_in : In zero_f last x
-  x_in = position_in k (n - 1) k-le (omega arith)
+  x_in = position_in k (n - 1) k_le (omega arith)
 
   x_real : T (finite x)
   x_real = between_finite zero_f last x tt (last_real n n-le) x_in.low x_in.high
@@ -100,7 +100,7 @@ unfolding of_int
 frame n {z} n-le h = record { low = h.low; high = le_trans_float z (whole64 (n - 1)) (whole64 1023) h.high (whole_le binary64 (n - 1) 1023 (omega arith)) }
 
 pub position_frame : (n k : ℕ) → n ≤ 1024 → k ≤ 9 → Frame (position k (n - 1))
-position_frame n k n-le k-le = frame n n-le (position_in k (n - 1) k-le (omega arith))
+position_frame n k n-le k_le = frame n n-le (position_in k (n - 1) k_le (omega arith))
 
 -- ---- what an index asks: below 2 ^ 53
 pub frame_lt : (x : Float) → Frame x → T (lt x (fin false 1 (pos 53)))

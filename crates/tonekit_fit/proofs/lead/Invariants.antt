@@ -1,7 +1,7 @@
 use mathlib.Core.Path.{◌≡◌}
-use Rattle.tonekit_core.specs.Loop.{rangeTo}
+use Rattle.tonekit_core.specs.Loop.{range_to}
 use Rattle.tonekit_fit.specs.Fit.{column_turn, first_unknown, lead_of}
 use Rattle.tonekit_fit.proofs.lead.Given as goal
 
 abbrev pub invariant-loop-col : goal.invariant-loop-col
-invariant-loop-col l = rangeTo column_turn first_unknown l.col 3 l.m ≡ lead_of l.initial.m
+invariant-loop-col l = range_to column_turn first_unknown l.col 3 l.m ≡ lead_of l.initial.m
