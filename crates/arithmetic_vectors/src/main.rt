@@ -1,7 +1,11 @@
 // Replays the vectors of data/vectors.bin: for each operation, how many were run and how many
 // answers differ from the one recorded.
+#![tactic(auto)]
+
 ghost use Rattle.std.specs.Prelude.{◌≡◌, ◌+◌, ◌*◌, ◌/◌, ◌≤◌, ◌<◌, length, get_or};
 ghost use Rattle.arithmetic_vectors.specs.Replay.{u32_at, u64_at, answer, tally, replayed};
+
+use std::{fs, io};
 
 const RECORD: usize = 17;
 
@@ -92,43 +96,39 @@ fn replay(s: &[u8], op: u8) -> Count
 }
 
 // Writes to standard output, and tells on standard error where not all could be written.
-fn write_out(bytes: &[u8]) {
-    if !io::write_all(libc::STDOUT_FILENO, bytes) {
-        os::fail(b"arithmetic_vectors: not all bytes could be written");
-    }
+fn write_out(rt: &(impl Print + Eprint), bytes: &[u8]) {
+    tonekit_edge::write_out(rt, "arithmetic_vectors", bytes);
 }
 
 // Writes words and a number.
-fn say(words: &[u8], n: usize) {
-    let mut text = [0u8; 20];
-    let k = io::decimal(n as u64, &mut text);
-    write_out(words);
-    write_out(&text[..k]);
+fn say(rt: &(impl Print + Eprint), words: &[u8], n: usize) {
+    let mut text = itoa::Buffer::new();
+    write_out(rt, words);
+    write_out(rt, text.format(n).as_bytes());
 }
 
 // Writes the line of one operation.
-fn report(name: &[u8], s: &[u8], op: u8) {
+fn report(rt: &(impl Print + Eprint), name: &[u8], s: &[u8], op: u8) {
     let c = replay(s, op);
-    say(name, c.run);
-    say(b" differ ", c.differ);
-    write_out(b"\n");
+    say(rt, name, c.run);
+    say(rt, b" differ ", c.differ);
+    write_out(rt, b"\n");
 }
 
 // Replays the file, and says how much of it there is.
-fn main() {
-    let fd = os::open_read(b"vectors.bin");
-    if fd < 0 {
-        write_out(b"no vectors\n");
-        return;
-    }
+fn main(rt: HostRuntime) -> io::Result<()> {
+    let Ok(mut file) = fs::open(&rt, "vectors.bin") else {
+        write_out(&rt, b"no vectors\n");
+        return Ok(());
+    };
     let mut buf = [0u8; 131072];
-    let n = io::read_full(fd, &mut buf);
-    libc::close(fd);
-    say(b"bytes ", n);
-    write_out(b"\n");
-    report(b"narrow ", &buf[..n], 0);
-    report(b"root ", &buf[..n], 1);
-    report(b"ln ", &buf[..n], 2);
-    report(b"log2 ", &buf[..n], 3);
-    report(b"exp ", &buf[..n], 4);
+    let n = tonekit_edge::read_full(&mut file, &mut buf)?;
+    say(&rt, b"bytes ", n);
+    write_out(&rt, b"\n");
+    report(&rt, b"narrow ", &buf[..n], 0);
+    report(&rt, b"root ", &buf[..n], 1);
+    report(&rt, b"ln ", &buf[..n], 2);
+    report(&rt, b"log2 ", &buf[..n], 3);
+    report(&rt, b"exp ", &buf[..n], 4);
+    Ok(())
 }

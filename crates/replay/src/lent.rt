@@ -19,7 +19,7 @@ pub fn untouched(s: &[u8], from: usize) -> bool {
 
 // Whether so many bytes, and nothing else, were written to what was lent.
 pub fn wrote(lent: &[u8], n: usize, bytes: &[u8]) -> bool {
-    (n == bytes.len()) & check::same(front(lent, n), bytes) & untouched(lent, n)
+    (n == bytes.len()) & (front(lent, n) == bytes) & untouched(lent, n)
 }
 
 // Whether a call answered as recorded, and a refused one left what was lent.

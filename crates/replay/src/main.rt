@@ -1,5 +1,7 @@
 // Replays recorded calls: for each file of samples, how many were run, how many of them also by the function
 // behind a program, and how many answers differ from the recorded ones in number, place, length or bytes.
+#![tactic(auto)]
+
 mod calls;
 mod functions;
 mod lent;
@@ -7,7 +9,8 @@ mod programs;
 
 ghost use Rattle.std.specs.Prelude.{◌<◌, ◌≤◌};
 
-use libc::STDOUT_FILENO;
+use std::rt::Files;
+use std::{fs, io};
 use tonekit_bytes::{byte_at, u32_at};
 use tonekit_core::layout;
 
@@ -71,7 +74,7 @@ fn room_of(sample: &[u8], call: u8) -> usize {
 }
 
 // A sample's call, as recorded, where the length of its first input stands, and how long its inputs are.
-#[derive(Drop)]
+#[derive(Clone, Copy)]
 struct Sample {
     call: u8,
     front: usize,
@@ -138,7 +141,7 @@ fn agrees(s: &[u8], m: Sample) -> bool
 // A count with one more, where there is one.
 fn more(n: u64, one: bool) -> u64 {
     if one {
-        return std::num::wrapping_add_u64(n, 1);
+        return n.wrapping_add(1);
     }
     n
 }
@@ -175,45 +178,46 @@ fn replay(s: &[u8]) -> Count {
 }
 
 // Writes to standard output, and tells on standard error where not all could be written.
-fn write_out(bytes: &[u8]) {
-    if !io::write_all(STDOUT_FILENO, bytes) {
-        os::fail(b"replay: not all bytes could be written");
-    }
+fn write_out(rt: &(impl Print + Eprint), bytes: &[u8]) {
+    tonekit_edge::write_out(rt, "replay", bytes);
 }
 
 // Writes a word and a number.
-fn say(word: &[u8], n: u64) {
-    let mut text = [0u8; 20];
-    let k = io::decimal(n, &mut text);
-    write_out(word);
-    write_out(&text[..k]);
+fn say(rt: &(impl Print + Eprint), word: &[u8], n: u64) {
+    let mut text = itoa::Buffer::new();
+    write_out(rt, word);
+    write_out(rt, text.format(n).as_bytes());
 }
 
 // Opens a file of samples, replays it and writes a line.
-fn report(name: &[u8]) {
-    let fd = os::open_read(name);
+fn report<R: Files + Print + Eprint>(rt: &R, name: &str) -> io::Result<()> {
     let mut buf = [0u8; 300000];
-    let n = io::read_full(fd, &mut buf);
-    libc::close(fd);
+    let n = tonekit_edge::read_full(&mut fs::open(rt, name)?, &mut buf)?;
     let c = replay(&buf[..n]);
-    write_out(name);
-    say(b": bytes ", n as u64);
-    say(b", calls ", c.run);
-    say(b", by programs ", c.told);
-    say(b", differ ", c.differ);
-    write_out(b"\n");
+    write_out(rt, name.as_bytes());
+    say(rt, b": bytes ", n as u64);
+    say(rt, b", calls ", c.run);
+    say(rt, b", by programs ", c.told);
+    say(rt, b", differ ", c.differ);
+    write_out(rt, b"\n");
+    Ok(())
 }
 
 // Replays every file, and asks `check` by words that it does not know.
-fn main() {
-    report(b"checks.bin");
-    report(b"shapes.bin");
-    report(b"sheets.bin");
-    report(b"judgements.bin");
-    report(b"functions.bin");
-    report(b"cover.bin");
-    report(b"steps.bin");
-    say(b"words that check does not know: ", programs::UNKNOWN_WORDS);
-    say(b", differ ", programs::unknown_words_differ());
-    write_out(b"\n");
+fn main(rt: HostRuntime) -> io::Result<()> {
+    report(&rt, "checks.bin")?;
+    report(&rt, "shapes.bin")?;
+    report(&rt, "sheets.bin")?;
+    report(&rt, "judgements.bin")?;
+    report(&rt, "functions.bin")?;
+    report(&rt, "cover.bin")?;
+    report(&rt, "steps.bin")?;
+    say(
+        &rt,
+        b"words that check does not know: ",
+        programs::UNKNOWN_WORDS,
+    );
+    say(&rt, b", differ ", programs::unknown_words_differ());
+    write_out(&rt, b"\n");
+    Ok(())
 }

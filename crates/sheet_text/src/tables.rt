@@ -37,6 +37,7 @@ fn some_taken(s: &[u8], o: usize, rows: usize, x: u8, so: u8) -> bool
 
 // The preceding tone of row p where it takes list x so; the first is put behind the words for it.
 fn add_preceding(
+    rt: &(impl Print + Eprint),
     page: &mut [u8; 4096],
     n: usize,
     s: &[u8],
@@ -51,16 +52,17 @@ fn add_preceding(
     if taken(s, o, p, x) != so {
         return n;
     }
-    let n = add_either(page, n, some_taken(s, o, p, x, so), b", ", words);
+    let n = add_either(rt, page, n, some_taken(s, o, p, x, so), b", ", words);
     let preceding = byte_at(s, o, layout::SHEET_ROW_SIZE * p + layout::SHEET_ROW_PREV);
     if preceding == 0 {
-        return add(page, n, b"none");
+        return add(rt, page, n, b"none");
     }
-    add_whole(page, n, b"", preceding as u16)
+    add_whole(rt, page, n, b"", preceding as u16)
 }
 
 // The preceding tones of all rows that take list x so.
 fn add_so(
+    rt: &(impl Print + Eprint),
     page: &mut [u8; 4096],
     n: usize,
     s: &[u8],
@@ -74,20 +76,29 @@ fn add_so(
 {
     let mut at = n;
     for p in 0..rows {
-        at = add_preceding(page, at, s, o, p, x, so, words);
+        at = add_preceding(rt, page, at, s, o, p, x, so, words);
     }
     at
 }
 
 // The contexts that take list x at one place of a phrase and not at the other.
-fn add_by_place(page: &mut [u8; 4096], n: usize, s: &[u8], o: usize, rows: usize, x: u8) -> usize
+fn add_by_place(
+    rt: &(impl Print + Eprint),
+    page: &mut [u8; 4096],
+    n: usize,
+    s: &[u8],
+    o: usize,
+    rows: usize,
+    x: u8,
+) -> usize
     requires { rows ≤ 9 }
 {
     let both = some_taken(s, o, rows, x, 3);
     let inside = some_taken(s, o, rows, x, 1);
     let last = some_taken(s, o, rows, x, 2);
-    let n = add_either(page, n, both & (inside | last), b";", b"");
+    let n = add_either(rt, page, n, both & (inside | last), b";", b"");
     let n = add_so(
+        rt,
         page,
         n,
         s,
@@ -97,21 +108,39 @@ fn add_by_place(page: &mut [u8; 4096], n: usize, s: &[u8], o: usize, rows: usize
         1,
         b" not at the end of a phrase after ",
     );
-    let n = add_either(page, n, inside & last, b";", b"");
-    add_so(page, n, s, o, rows, x, 2, b" at the end of a phrase after ")
+    let n = add_either(rt, page, n, inside & last, b";", b"");
+    add_so(
+        rt,
+        page,
+        n,
+        s,
+        o,
+        rows,
+        x,
+        2,
+        b" at the end of a phrase after ",
+    )
 }
 
 // The contexts that take list x, folded together.
-fn add_contexts(page: &mut [u8; 4096], n: usize, s: &[u8], o: usize, rows: usize, x: u8) -> usize
+fn add_contexts(
+    rt: &(impl Print + Eprint),
+    page: &mut [u8; 4096],
+    n: usize,
+    s: &[u8],
+    o: usize,
+    rows: usize,
+    x: u8,
+) -> usize
     requires { rows ≤ 9 }
 {
     let by_place = some_taken(s, o, rows, x, 1) | some_taken(s, o, rows, x, 2);
     if !(some_taken(s, o, rows, x, 0) | by_place) {
-        return add(page, n, b" in every context\n");
+        return add(rt, page, n, b" in every context\n");
     }
-    let n = add_so(page, n, s, o, rows, x, 3, b" after ");
-    let n = add_by_place(page, n, s, o, rows, x);
-    add(page, n, b"\n")
+    let n = add_so(rt, page, n, s, o, rows, x, 3, b" after ");
+    let n = add_by_place(rt, page, n, s, o, rows, x);
+    add(rt, page, n, b"\n")
 }
 
 // What row p takes, at the end of a phrase or not.
@@ -137,6 +166,7 @@ fn named_before(s: &[u8], o: usize, p: usize, x: u8, last: bool) -> bool
 
 // The entry of what row p takes, where no context before names it.
 fn add_entry(
+    rt: &(impl Print + Eprint),
     page: &mut [u8; 4096],
     n: usize,
     s: &[u8],
@@ -152,43 +182,53 @@ fn add_entry(
         return n;
     }
     if x == 0 {
-        let n = add(page, n, b"  nothing:");
-        return add_contexts(page, n, s, o, rows, x);
+        let n = add(rt, page, n, b"  nothing:");
+        return add_contexts(rt, page, n, s, o, rows, x);
     }
-    let n = add_whole(page, n, b"  list ", x as u16);
-    let n = add(page, n, b":");
-    add_contexts(page, n, s, o, rows, x)
+    let n = add_whole(rt, page, n, b"  list ", x as u16);
+    let n = add(rt, page, n, b":");
+    add_contexts(rt, page, n, s, o, rows, x)
 }
 
 // The table of the accent and tone whose rows begin at o; nothing for a row further on.
-fn add_table(page: &mut [u8; 4096], n: usize, s: &[u8], o: usize, rows: usize) -> usize
+fn add_table(
+    rt: &(impl Print + Eprint),
+    page: &mut [u8; 4096],
+    n: usize,
+    s: &[u8],
+    o: usize,
+    rows: usize,
+) -> usize
     requires { rows ≤ 9 }
 {
     if byte_at(s, o, layout::SHEET_ROW_PREV) != 0 {
         return n;
     }
     let n = add_whole(
+        rt,
         page,
         n,
         b"\naccent ",
         byte_at(s, o, layout::SHEET_ROW_ACCENT) as u16,
     );
     let n = add_whole(
+        rt,
         page,
         n,
         b", tone ",
         byte_at(s, o, layout::SHEET_ROW_TONE) as u16,
     );
-    let mut at = add(page, n, b"\n");
+    let mut at = add(rt, page, n, b"\n");
     for p in 0..rows {
-        at = add_entry(page, at, s, o, rows, p, false);
-        at = add_entry(page, at, s, o, rows, p, true);
+        at = add_entry(rt, page, at, s, o, rows, p, false);
+        at = add_entry(rt, page, at, s, o, rows, p, true);
     }
     at
 }
 
 // The tables of the rows from o on, of which so many stand for one accent and tone.
 pub fn add_tables(
+    rt: &(impl Print + Eprint),
     page: &mut [u8; 4096],
     n: usize,
     s: &[u8],
@@ -199,12 +239,13 @@ pub fn add_tables(
     requires { (o ≤ sheet_accent_at 8 8) × (rows ≤ 576) × (each ≤ 9) }
 {
     let mut at = add(
+        rt,
         page,
         n,
         b"\ncontexts, by preceding tone (none: no tone precedes), at the end of a phrase or not:\n",
     );
     for r in 0..rows {
-        at = add_table(page, at, s, o + layout::SHEET_ROW_SIZE * r, each);
+        at = add_table(rt, page, at, s, o + layout::SHEET_ROW_SIZE * r, each);
     }
     at
 }

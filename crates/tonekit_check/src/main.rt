@@ -1,6 +1,9 @@
 // The program `check`. check pack | check query | check sheet: whether the bytes on standard input are one. Nothing is
 // written for input that loads, and 52, number, u32 place for input that does not.
-use libc::{STDERR_FILENO, STDIN_FILENO, STDOUT_FILENO};
+#![tactic(auto)]
+
+use std::env::Env;
+use std::io;
 use tonekit_core::layout;
 use tonekit_output::CheckAnswer;
 
@@ -14,27 +17,25 @@ fn knows(word: &[u8]) -> bool {
 }
 
 // Reads standard input and tells of it what the word asks.
-fn tell(word: &[u8]) {
-    let mut space = io::large_buffer();
-    let n = io::read_full(STDIN_FILENO, &mut space);
+fn tell(rt: &(impl Input + Print + Eprint), word: &[u8]) -> io::Result<()> {
+    let mut space = [0u8; 65536];
+    let n = tonekit_edge::read_full(&mut rt.reader(), &mut space)?;
     let mut out = [0u8; layout::REFUSAL_SIZE];
     if let CheckAnswer::Tells(m) = tonekit_output::check_output(word, &space[..n], &mut out) {
-        if !io::write_all(STDOUT_FILENO, tonekit_report::front(&out, m)) {
-            os::fail(b"check: not all bytes could be written");
-        }
+        tonekit_edge::write_out(rt, "check", tonekit_report::front(&out, m));
     }
+    Ok(())
 }
 
 // A word that is not known is told before anything is read.
-fn main() {
+fn main(rt: HostRuntime) -> io::Result<()> {
     let mut word = [0u8; 8];
-    let n = os::arg(1, &mut word);
-    if (os::arg_count() == 2) & knows(&word[..n]) {
-        tell(&word[..n]);
-        return;
+    let n = rt.arg(1, &mut word).unwrap_or(0);
+    if (tonekit_edge::arg_count(&rt) == 2) & knows(&word[..n]) {
+        return tell(&rt, &word[..n]);
     }
-    io::write_all(
-        STDERR_FILENO,
-        b"usage: check pack | check query | check sheet, with the bytes on standard input\n",
+    let _ = eprintln!(rt;
+        "usage: check pack | check query | check sheet, with the bytes on standard input"
     );
+    Ok(())
 }
