@@ -1,0 +1,9 @@
+use mathlib.Core.Path.{◌≡◌}
+use Prim.Native.Nat.{◌≤◌}
+use Rattle.tonekit_core.specs.Loop.{range}
+use Rattle.tonekit_target.specs.Target.{zero32, sum_turn}
+use Rattle.tonekit_target.proofs.main_weight.Given as goal
+
+abbrev pub invariant-loop-i : goal.invariant-loop-i
+invariant-loop-i l =
+    (l.i-end ≡ l.n) × (l.i ≤ l.i-end) × (range (sum_turn l.query) l.i l.i-end l.sum ≡ range (sum_turn l.query) 0 l.n zero32)

@@ -1,0 +1,18 @@
+-- `weights_fine` meets its contract: what is left of the loop, from here, gives what the whole gives.
+use mathlib.Core.Path.{refl}
+use borrow.Author.Rules.{rules}
+use Rattle.tonekit_core.specs.Loop.{again, ended}
+use Rattle.tonekit_target.specs.Target.{weights_fine}
+use Rattle.tonekit_target.proofs.weights_fine.Goals as goal
+
+pub loop-i-preserved : goal.loop-i-preserved
+loop-i-preserved c =
+    let l = c.loop-i.invariant in
+    (l.0, search rules, again _ l.2 (search rules) (rw (← c.variant_weight.ensures, ← c.weight_fine-ok.ensures)))
+
+pub returns : goal.returns
+returns c = ended _ c.loop-i.invariant.2 (search rules)
+
+pub loop-i-init : goal.loop-i-init
+unfolding weights_fine
+loop-i-init c = (refl, search rules, refl)
