@@ -1,4 +1,6 @@
 // The work of the programs `check`, `shape` and `sheet`: what each writes on standard output, by its input.
+#![tactic(auto)]
+
 ghost use Rattle.tonekit_report.specs.Report.{Told};
 ghost use Rattle.tonekit_shape.specs.Record.{shape_outcome};
 ghost use Rattle.tonekit_sheet_write.specs.Outcome.{sheet_outcome};

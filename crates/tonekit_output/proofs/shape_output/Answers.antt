@@ -1,0 +1,14 @@
+-- `shape_output` meets its contract. Assumes nothing.
+use mathlib.Core.Path.{◌≡◌}
+use lib.ListN.{length}
+use borrow.Author.Rules.{rules}
+use Rattle.tonekit_core.specs.Layout.{shape_size}
+use Rattle.tonekit_report.proofs.Told.{tells}
+use Rattle.tonekit_output.proofs.Fits.{shape_fits}
+use Rattle.tonekit_output.proofs.shape_output.Goals as goal
+
+pub returns : goal.returns
+returns c =
+    let held = c.args.out.now in
+    let room : length held ≡ shape_size = search rules in
+    tells shape_size _ held _ _ _ _ room (search rules) (shape_fits c.args.query.now) c.write_shape-a.ensures c.tell.ensures.0 c.tell.ensures.1
