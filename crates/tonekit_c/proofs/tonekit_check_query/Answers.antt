@@ -1,0 +1,5 @@
+-- `tonekit_check_query` meets its contract, call by call.
+use Rattle.tonekit_c.proofs.tonekit_check_query.Goals as goal
+
+pub returns : goal.returns
+returns c = rw (← c.check_query.ensures) c.hand_checked.ensures

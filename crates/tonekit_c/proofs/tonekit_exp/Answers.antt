@@ -1,0 +1,5 @@
+-- `tonekit_exp` meets its contract, call by call.
+use Rattle.tonekit_c.proofs.tonekit_exp.Goals as goal
+
+pub returns : goal.returns
+returns c = rw (← c.f64_of_bits.ensures, ← c.exp.ensures) c.bits_of_f64.ensures

@@ -1,0 +1,5 @@
+-- `tonekit_log2` meets its contract, call by call.
+use Rattle.tonekit_c.proofs.tonekit_log2.Goals as goal
+
+pub returns : goal.returns
+returns c = rw (← c.f64_of_bits.ensures, ← c.log2.ensures) c.bits_of_f64.ensures

@@ -1,0 +1,5 @@
+-- `tonekit_narrow` meets its contract, call by call.
+use Rattle.tonekit_c.proofs.tonekit_narrow.Goals as goal
+
+pub returns : goal.returns
+returns c = rw (← c.f64_of_bits.ensures, ← c.narrow.ensures) c.bits_of_f32.ensures

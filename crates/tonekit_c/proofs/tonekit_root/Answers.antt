@@ -1,0 +1,5 @@
+-- `tonekit_root` meets its contract, call by call.
+use Rattle.tonekit_c.proofs.tonekit_root.Goals as goal
+
+pub returns : goal.returns
+returns c = rw (← c.f64_of_bits.ensures, ← c.sqrt.ensures) c.bits_of_f64.ensures
