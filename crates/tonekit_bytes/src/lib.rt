@@ -1,5 +1,7 @@
 // Little-endian fields in lent bytes: read at any index, written at an index, and whole records
 // written to the front of a lent buffer.
+#![tactic(auto)]
+
 ghost use Rattle.std.specs.Prelude.{◌≡◌, [], ◌∷◌, ◌+◌, ◌-◌, ◌*◌, ◌≤◌, ◌<◌, length};
 ghost use Rattle.std.proofs.lemmas.List.Edits.{sets};
 ghost use Rattle.tonekit_core.specs.Calls.{Delivers, written};

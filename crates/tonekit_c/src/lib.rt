@@ -1,5 +1,7 @@
 // The calls, exported for C and Rust: slices go as a pointer and a length, an answer as a number (0
 // where nothing was refused) and, through `place`, the place of a refusal or the bytes written.
+#![tactic(auto)]
+
 ghost use Rattle.std.specs.Prelude.{◌≡◌, length};
 ghost use Rattle.std.specs.Float.{binary32, binary64};
 ghost use Rattle.std.specs.Float.Ieee.{of_bits, to_bits};

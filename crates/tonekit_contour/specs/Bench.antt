@@ -1,5 +1,5 @@
 -- Worked examples, computed: where a point of ten lies, and where a curve turns.
-use Rattle.std.specs.Prelude.{ℕ, ◌≡◌, refl, [], ◌∷◌, ◌++◌, replicate, Float}
+use Rattle.std.specs.Prelude.{◌≡◌, refl, [], ◌∷◌, ◌++◌, replicate, Float}
 use Rattle.std.specs.Float.{binary64}
 use Rattle.std.specs.Float.Ieee.{neg, add, sub, mul, div, lt, le, is_nan, round, of_int, of_bits}
 use Rattle.tonekit_core.specs.Loop.{range, turns, range_to, turns_to}

@@ -1,5 +1,5 @@
 -- `turning_point` and `extremum` of fit.rs and deltas.rs: the interior minimum or maximum that stands at least 0.5 beyond both ends, at a fraction in (0.1, 0.9).
-use Rattle.std.specs.Prelude.{ℕ, ◌+◌, ◌-◌, Bool, true, false, cond, ◌&&◌, List, pos, ltb, length, get_or, Float}
+use Rattle.std.specs.Prelude.{ℕ, ◌+◌, ◌-◌, Bool, true, cond, ◌&&◌, List, ltb, length, get_or, Float}
 use Rattle.std.specs.Float.{nan, inf, binary64}
 use Rattle.std.specs.Float.Ieee.{neg, sub, mul, div, lt, le, of_bits}
 use Rattle.tonekit_core.specs.Loop.{Turn, next, stop, range, range_to}

@@ -1,5 +1,7 @@
 // Contours of ten points: where a point lies, and where a curve turns (the rule that shapes and
 // deltas share).
+#![tactic(auto)]
+
 ghost use Rattle.std.specs.Prelude.{◌≡◌, ◌<◌, ◌≤◌, length};
 ghost use Rattle.tonekit_contour.specs.Position.{position};
 ghost use Rattle.tonekit_contour.specs.Turning.{greatest, near, first_near, last_near, extremum, stands, chosen, turning_point};

@@ -1,4 +1,6 @@
 // Document 01's limits, kinds and numbered words, and what a call answers. Every crate stands on it.
+#![tactic(auto)]
+
 ghost use Rattle.std.specs.Prelude.{◌≡◌};
 ghost use Rattle.tonekit_core.specs.Words.{refusal_number, issue_bit, has_issue, with_issue, delta_number, measured_number};
 

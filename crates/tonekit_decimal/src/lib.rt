@@ -1,6 +1,8 @@
 // The shortest decimal text of an f32 that reads back to its bits.
 // A large number is its 190 lowest decimal digits, the ones first; its unit is 10^-151, in which
 // every f32 and every midpoint between two of them is whole.
+#![tactic(auto)]
+
 ghost use Rattle.std.specs.Prelude.{◌≡◌, ◌++◌, ◌+◌, ◌-◌, ◌*◌, ◌≤◌, ◌<◌, length};
 ghost use Rattle.std.proofs.lemmas.List.Edits.{sets};
 ghost use Rattle.tonekit_decimal.specs.Digits.{digits, scaled, at_most, times_all, reads_in, choice_in, search_in};

@@ -7,7 +7,7 @@ use lib.Dec.{leb}
 use lib.ListN.{length, drop}
 use lib.Seq.{take-append_seam}
 use lib.Ieee.{Float}
-use Rattle.tonekit_core.specs.Calls.{Outcome, refused, written, answer_in, buffer_after, Delivers}
+use Rattle.tonekit_core.specs.Calls.{Outcome, refused, written, answer_in, buffer_after}
 use Rattle.tonekit_core.proofs.Calls.{Writes}
 use Rattle.tonekit_core.specs.declared.Answer.TheVariants.{Written, Refused}
 use Rattle.tonekit_core.specs.declared.Refusal.TheVariants.{ShortBuffer}

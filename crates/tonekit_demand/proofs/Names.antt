@@ -1,12 +1,10 @@
 -- A judgement names what the lookup carried for the component that won: `packs_name` and `sheets_name`, as specs/Names states them. Assumes nothing.
-use Prim.Native.Nat.{ℕ, ◌+◌, ◌*◌, ◌/◌, ◌%◌, ◌≤◌, ◌<◌}
+use Prim.Native.Nat.{ℕ, ◌/◌, ◌%◌, ◌≤◌, ◌<◌}
 use mathlib.Core.Path.{◌≡◌, refl, sym, ap, ◌∙◌}
-use mathlib.Core.Bool.{true, cond}
-use mathlib.Core.List.{List, []}
+use mathlib.Core.List.{List}
 use mathlib.Core.Option.{Option, none, some}
 use native.Mathlib.Nat.{not-suc-le-zero}
 use native.Mathlib.Omega.{arith}
-use lib.Dec.{eqb}
 use lib.ListN.{length, get_or, length-map}
 use lib.Ieee.{nan}
 use Rattle.tonekit_pack.specs.Pack as pack
@@ -20,19 +18,15 @@ use Rattle.tonekit_sheet_read.proofs.Single as sheet-single
 use Rattle.tonekit_expect.specs.Source.{Carried, Source, source_of_pack}
 use Rattle.tonekit_expect.specs.Source as source
 use Rattle.tonekit_expect.specs.declared.Context.{Context}
-use Rattle.tonekit_shape.specs.declared.ToneShape.{ToneShape}
 use Rattle.tonekit_score.specs.Score.{scoring_of, point_at}
-use Rattle.tonekit_score.specs.declared.Tolerance.{Tolerance}
-use Rattle.tonekit_score.specs.declared.Mixture.TheVariants.{Scored}
-use Rattle.tonekit_judge.specs.Judge.{Placed, usable, distance_at, with_best, part_of, judged_of, judgement_of}
-use Rattle.tonekit_judge.specs.declared.Targets.{Targets}
+use Rattle.tonekit_judge.specs.Judge.{distance_at, part_of}
 use Rattle.tonekit_judge.proofs.Winner.{winner_among, winner_named}
-use Rattle.tonekit_inventory.specs.Gather.{named_of, given_of, listings}
-use Rattle.tonekit_inventory.proofs.Listed.{Tens, Entered, components_at, listings_enter}
-use Rattle.tonekit_inventory.proofs.Alike.{Under, Alike, named_count, pack_alike}
+use Rattle.tonekit_inventory.specs.Gather.{given_of, listings}
+use Rattle.tonekit_inventory.proofs.Listed.{Entered, components_at, listings_enter}
+use Rattle.tonekit_inventory.proofs.Alike.{Alike, named_count, pack_alike}
 use Rattle.tonekit_sheet_inventory.proofs.Few.{tones_few}
 use Rattle.tonekit_sheet_inventory.proofs.Alike.{sheet_alike}
-use Rattle.tonekit_demand.specs.Names.{Carries, Names, target_mixture, NamesWinner, PacksName, SheetsName}
+use Rattle.tonekit_demand.specs.Names.{NamesWinner, PacksName, SheetsName}
 
 -- what is given where something was looked up
 given_alike : (o : Option (List Carried)) → ((cs : List Carried) → o ≡ some cs → Alike no_carried cs) → Alike no_carried (given_of o)

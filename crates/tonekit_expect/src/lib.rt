@@ -1,4 +1,6 @@
 // The lookup, as in the Rust's expect.rs: which curves a context takes, each drawn out to ten points.
+#![tactic(auto)]
+
 ghost use Rattle.std.specs.Prelude.{◌≡◌, ℕ, ◌+◌, ◌*◌, ◌≤◌, ◌<◌, false, cond, T, eqb, pos, get_or};
 ghost use Rattle.std.specs.Float.{fin, nan};
 ghost use Rattle.std.specs.Float.Ieee.{le, lt};

@@ -1,5 +1,7 @@
 // Floats of any bit pattern: bits, conversions, minimum and maximum, absolute value, whole parts and
 // the comparisons that Rust has as methods.
+#![tactic(auto)]
+
 ghost use Rattle.std.specs.Prelude.{◌≡◌, ◌+◌, ◌-◌, true, false, T, pos, from_bits, to_bits};
 ghost use Rattle.std.specs.Float.Ieee as Ieee;
 ghost use Rattle.std.specs.Float.{binary32, binary64, fin};

@@ -1,4 +1,6 @@
 // The input of the programs that judge: a u16 length, so many bytes of a pack or a sheet, a query.
+#![tactic(auto)]
+
 ghost use Rattle.std.specs.Prelude.{◌≡◌};
 ghost use Rattle.tonekit_input.specs.Input.{held_of, query_of};
 

@@ -2,17 +2,15 @@
 use Prim.Native.Nat.{ℕ, zero, suc, ◌+◌, ◌*◌, ◌≤◌, ◌<◌}
 use mathlib.Core.Path.{◌≡◌, refl, ap, ◌∙◌}
 use mathlib.Core.List.{List, [], ◌∷◌, map}
-use mathlib.Core.Option.{Option}
 use native.Mathlib.Omega.{arith}
 use lib.Ieee.{Float}
 use lib.ListN.{length, get_or, replicate}
-use lib.Seq.{sets, length-sets}
+use lib.Seq.{length-sets}
 use Rattle.tonekit_core.specs.Loop.{range, again, ended}
 use Rattle.tonekit_pack.proofs.InOrder.{set_bounded, zeros}
 use Rattle.tonekit_expect.specs.Source.{Tone, Carried, Source}
 use Rattle.tonekit_expect.specs.declared.Context.{Context}
 use Rattle.tonekit_score.specs.declared.Region.{Region}
-use Rattle.tonekit_judge.specs.Judge.{Listed}
 use Rattle.tonekit_judge.specs.declared.Inventory.{Inventory}
 use Rattle.tonekit_inventory.specs.declared.Named.{Named}
 use Rattle.tonekit_inventory.specs.Slots.{InSlots, Lists}

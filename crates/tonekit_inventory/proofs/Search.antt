@@ -21,7 +21,6 @@ use Rattle.tonekit_expect.specs.declared.Found.{Found}
 use Rattle.tonekit_expect.specs.declared.Found.TheVariants as found
 use Rattle.tonekit_expect.proofs.Walk.{index_found}
 use Rattle.tonekit_score.specs.declared.Tolerance.{Tolerance}
-use Rattle.tonekit_inventory.specs.declared.Graded.{Graded}
 use Rattle.tonekit_inventory.specs.Fields.{tolerance_at}
 use Rattle.tonekit_inventory.specs.Gather.{tolerance_of, graded_of}
 

@@ -1,5 +1,7 @@
 // What a station gathers for a context, all that a query is judged by: from a pack, and what a sheet
 // shares of it.
+#![tactic(auto)]
+
 ghost use Rattle.std.specs.Prelude.{◌≡◌, ◌||◌, [], ◌+◌, ◌≤◌, ◌<◌, eqb, length};
 ghost use Rattle.std.proofs.Math.Option.{none};
 ghost use Rattle.std.proofs.lemmas.List.Edits.{sets};

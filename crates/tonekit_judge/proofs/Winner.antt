@@ -5,7 +5,7 @@ use mathlib.Core.Bool.{Bool, true, false, cond, not, ◌||◌}
 use mathlib.Core.List.{List}
 use native.Mathlib.Omega.{arith}
 use lib.ListN.{get_or}
-use lib.Ieee.{Float, nan, binary32, binary64, add, mul, lt, le}
+use lib.Ieee.{Float, nan, binary64, add, lt, le}
 use Rattle.tonekit_core.proofs.LoopLaws.{range_keeps}
 use Rattle.tonekit_log.specs.Log.{ln_of}
 use Rattle.tonekit_score.specs.Score.{zero32, log_of, no_mixing, mixed, mix_turn, mixture_of, scoring_of}

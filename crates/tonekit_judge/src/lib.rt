@@ -1,5 +1,7 @@
 // `judge` of the Rust: a shape against the looked-up components of every tone, and the record of what
 // is found.
+#![tactic(auto)]
+
 ghost use Rattle.std.specs.Prelude.{◌≡◌, ◌&&◌, ◌+◌, ◌*◌, ◌≤◌, ◌<◌, length, get_or};
 ghost use Rattle.std.specs.Float.Ieee.Scale.{finite};
 ghost use Rattle.tonekit_judge.specs.Judge.{Counted, Sound, Placed, Filled, listing, cell, distance_at};

@@ -3,7 +3,7 @@ use Prim.Native.Nat.{ℕ}
 use mathlib.Core.Path.{◌≡◌, refl}
 use native.Mathlib.Omega.{arith}
 use Rattle.tonekit_core.specs.declared.Refusal.{Refusal}
-use Rattle.tonekit_pack.specs.declared.PackRead.TheVariants.{Good, Refused}
+use Rattle.tonekit_pack.specs.declared.PackRead.TheVariants.{Good}
 use Rattle.tonekit_pack.specs.declared.Loaded.{Loaded}
 use Rattle.tonekit_pack.specs.Pack.{Out, refused, start}
 use Rattle.tonekit_pack.specs.Held.{in_order, shown, answered, empty_pack, turned_back, Roomy, EmptyIfRefused}

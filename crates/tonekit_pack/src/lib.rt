@@ -1,4 +1,6 @@
 // The pack reader: which bytes are a pack, and the refusal and place of those that are not.
+#![tactic(auto)]
+
 ghost use Rattle.std.specs.Prelude.{◌≡◌};
 ghost use Rattle.tonekit_pack.specs.Pack.{read_pack, load_pack, check_pack};
 ghost use Rattle.tonekit_pack.specs.Held.{answered, turned_back, Roomy, EmptyIfRefused};

@@ -9,7 +9,6 @@ use lib.Dec.{eqb, leb, ltb}
 use borrow.Author.Tests.{lt-leb, le-ltb}
 use lib.ListN.{length, length-append, length-map}
 use lib.Seq.{get_or_at}
-use Rattle.tonekit_core.specs.declared.Verdict.TheVariants as verdict
 use Rattle.tonekit_bytes.specs.Fields.{byte_at}
 use Rattle.tonekit_pack.specs.Pack.{Pst, in_turn, due_after, size_of, holds, zero_or_held, number_at, last_rule, tone_verdict, accent_verdict, rule_verdict, part_verdict, body_verdict, record_verdict, part_fine, added, start}
 use Rattle.tonekit_core.proofs.Split.{split}

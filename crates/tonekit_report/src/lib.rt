@@ -1,4 +1,6 @@
 // What the programs write on standard output: bytes, or a refusal's record.
+#![tactic(auto)]
+
 ghost use Rattle.std.specs.Prelude.{◌≤◌, ◌≡◌, length, take};
 ghost use Rattle.tonekit_core.specs.Layout.{refusal_size};
 ghost use Rattle.tonekit_report.specs.Report.{refusal_bytes, told_count, told_buffer};

@@ -1,5 +1,5 @@
 -- What a station holds that was read from a sheet.
-use Rattle.std.specs.Prelude.{ℕ, zero, suc, ◌+◌, ◌-◌, ◌*◌, cond, List, [], ◌∷◌, ◌++◌, map, eqb, length, get_or}
+use Rattle.std.specs.Prelude.{ℕ, zero, suc, ◌+◌, ◌*◌, cond, List, [], ◌∷◌, ◌++◌, map, eqb, length, get_or}
 use Rattle.std.proofs.Math.Option.{Option, none, some}
 use Rattle.tonekit_core.specs.Layout.{f32_size, sheet_tone_prior, sheet_tone_region, sheet_tone_from, sheet_tone_to}
 use Rattle.tonekit_core.specs.Layout.{sheet_accent_contour, sheet_accent_onset, sheet_accent_offset, sheet_accent_turning, sheet_row_list, sheet_row_final_list}
@@ -8,7 +8,7 @@ use Rattle.tonekit_core.specs.Layout.{sheet_component_size, sheet_component_weig
 use Rattle.tonekit_bytes.specs.Fields.{byte_at, u16_at, u32_at}
 use Rattle.tonekit_pack.specs.Pack.{number_at}
 use Rattle.tonekit_expect.specs.Lookup.{index_of}
-use Rattle.tonekit_expect.specs.Source.{Settings, Tone, Accent, Carried, Source, settings_at}
+use Rattle.tonekit_expect.specs.Source.{Tone, Accent, Carried, Source, settings_at}
 use Rattle.tonekit_expect.specs.declared.Context.{Context}
 use Rattle.tonekit_expect.specs.declared.Found.{Found}
 use Rattle.tonekit_expect.specs.declared.Found.TheVariants as found

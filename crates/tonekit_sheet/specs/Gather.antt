@@ -1,5 +1,5 @@
 -- Bytes written one piece for each turn, and the laws by which a proof follows a loop that writes them. Assumes nothing.
-use Rattle.std.specs.Prelude.{◌≡◌, refl, List, [], ◌∷◌, ◌++◌}
+use Rattle.std.specs.Prelude.{◌≡◌, refl, List, [], ◌++◌}
 use Rattle.std.proofs.Common.{sym, ◌∙◌, ap}
 use Prim.Native.Nat.{ℕ, zero, suc, ◌+◌, ◌-◌, ◌*◌, ◌<◌, ◌≤◌}
 use Rattle.std.proofs.Math.Nat.{add_comm, mul-suc}

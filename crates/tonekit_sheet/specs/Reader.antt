@@ -9,7 +9,7 @@ use Rattle.tonekit_core.specs.Layout.{sheet_row_prev, sheet_row_list, sheet_row_
 use Rattle.tonekit_core.specs.Layout.{sheet_list_label, sheet_list_count, sheet_component_kind, sheet_component_size, sheet_component_weight}
 use Rattle.tonekit_core.specs.Layout.{sheet_component_points, sheet_end_kind, sheet_end_size, sheet_accent_at, sheet_row_at}
 use Rattle.tonekit_core.specs.declared.Refusal.{Refusal}
-use Rattle.tonekit_core.specs.declared.Refusal.TheVariants.{Misplaced, CutShort, Overrun, Crowded, OffScale, Doubled, Loose, Unordered}
+use Rattle.tonekit_core.specs.declared.Refusal.TheVariants.{Misplaced, CutShort, Overrun, Loose, Unordered}
 use Rattle.tonekit_core.specs.declared.Verdict.{Verdict}
 use Rattle.tonekit_core.specs.declared.Verdict.TheVariants as verdict
 use Rattle.tonekit_core.specs.declared.Checked.{Checked}

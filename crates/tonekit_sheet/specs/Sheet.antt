@@ -1,5 +1,5 @@
 -- Document 01's section Sheet: the bytes of the sheet of whatever a station holds.
-use Rattle.std.specs.Prelude.{ℕ, zero, suc, ◌+◌, ◌*◌, ◌/◌, ◌%◌, cond, List, [], ◌∷◌, ◌++◌, eqb, length, get_or}
+use Rattle.std.specs.Prelude.{ℕ, zero, suc, ◌+◌, ◌*◌, ◌/◌, ◌%◌, List, [], ◌∷◌, ◌++◌, length, get_or}
 use Rattle.std.proofs.Math.Option.{Option, none, some}
 use Rattle.tonekit_core.specs.Loop.{range}
 use Rattle.tonekit_core.specs.Layout.{sheet_settings_kind, sheet_tone_kind, sheet_accent_kind, sheet_row_kind}

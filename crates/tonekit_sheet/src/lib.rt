@@ -1,5 +1,7 @@
 // The sheet: document 01's definitions of its bytes and of its reader (specs), and what reader and
 // writer share.
+#![tactic(auto)]
+
 ghost use Rattle.std.specs.Prelude.{◌≡◌};
 ghost use Rattle.tonekit_sheet.specs.Reader.{size_of};
 ghost use Rattle.tonekit_sheet.specs.Marks.{mixed};

@@ -8,7 +8,7 @@ use native.Mathlib.Omega.{arith}
 use lib.Dec.{T, eqb, ltb}
 use lib.IntN.{pos}
 use lib.ListN.{length, get_or, length-append, length-map}
-use lib.Ieee.{Float, nan, inf, fin, binary32, le, fits, of_bits, to_bits}
+use lib.Ieee.{Float, nan, fin, binary32, le, fits, of_bits, to_bits}
 use lib.Ieee.Bits.{is_true, of_bits-to_bits, to_bits-lt, of_bits-fits, to_bits-of_bits, nan_bits_is, nan_bits_above}
 use lib.Ieee.Fits.{and_i, cond-fits, nan-fits}
 use borrow.Author.Tests.{ltb-true, le-ltb}

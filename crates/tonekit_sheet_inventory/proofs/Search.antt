@@ -10,7 +10,6 @@ use Rattle.tonekit_expect.specs.Lookup.{index_of}
 use Rattle.tonekit_expect.specs.Source.{accent_in}
 use Rattle.tonekit_expect.specs.declared.Found.TheVariants as found
 use Rattle.tonekit_score.specs.declared.Tolerance.{Tolerance}
-use Rattle.tonekit_inventory.specs.declared.Graded.{Graded}
 use Rattle.tonekit_inventory.specs.Fields.{tolerance_at}
 use Rattle.tonekit_inventory.specs.Gather.{tolerance_of, graded_of}
 use Rattle.tonekit_inventory.proofs.Search.{accent_found, accent_none}

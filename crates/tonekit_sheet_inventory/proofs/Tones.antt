@@ -5,7 +5,6 @@ use mathlib.Core.List.{List, []}
 use native.Mathlib.Omega.{arith}
 use lib.Ieee.{Float}
 use lib.ListN.{length, get_or, replicate, length-map}
-use lib.Seq.{sets}
 use Rattle.tonekit_core.specs.Layout.{sheet_tone_at}
 use Rattle.tonekit_bytes.specs.Fields.{byte_at, f32_at}
 use Rattle.tonekit_expect.specs.declared.Context.{Context}

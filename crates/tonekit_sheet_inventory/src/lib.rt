@@ -1,5 +1,7 @@
 // What a station gathers for a context from a sheet, as tonekit_inventory does from a pack; lists are
 // found by position.
+#![tactic(auto)]
+
 ghost use Rattle.std.specs.Prelude.{◌≡◌, map, ◌||◌, ◌+◌, ◌*◌, ◌≤◌, ◌<◌, eqb};
 ghost use Rattle.tonekit_core.specs.Layout.{own_number, sheet_tone_prior, sheet_tone_region, sheet_list_count};
 ghost use Rattle.tonekit_bytes.specs.Fields.{byte_at, f32_at};

@@ -9,7 +9,6 @@ use borrow.Author.Tests.{ne_eqb, ltb-false}
 use Rattle.tonekit_core.specs.Loop.{loop_to, loop_on, loop_again, loop_stop}
 use Rattle.tonekit_core.specs.declared.Refusal.{Refusal}
 use Rattle.tonekit_core.specs.declared.Refusal.TheVariants.{CutShort, Overrun, Loose, Unordered}
-use Rattle.tonekit_core.specs.declared.Verdict.TheVariants as verdict
 use Rattle.tonekit_bytes.specs.Fields.{byte_at}
 use Rattle.tonekit_core.proofs.Split.{split}
 use Rattle.tonekit_pack.proofs.Turns.{by_verdict}

@@ -1,5 +1,7 @@
 // The planner of a pack's sheet: the accents in ascending order, the context of each row, and which
 // list each context takes, numbered by first use along the rows.
+#![tactic(auto)]
+
 ghost use Rattle.std.specs.Prelude.{◌≡◌, ◌/◌, ◌%◌, ◌≤◌, ◌<◌, length, get_or};
 ghost use Rattle.std.proofs.Math.Option.{some};
 ghost use Rattle.tonekit_pack.specs.Held.{shown};

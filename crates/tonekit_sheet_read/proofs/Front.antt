@@ -22,7 +22,7 @@ use Rattle.tonekit_pack.proofs.Front.{region_same, tolerances_same, holds_same, 
 use Rattle.tonekit_sheet.specs.Sheet.{accent_place, tone_place, prev_place}
 use Rattle.tonekit_sheet.specs.Reader.{Sst, Out, loaded, refused, rows_due, due_next, size_of, tone_verdict, accent_verdict, row_verdict, list_verdict, point_fine, point_turn, points_fine, last_list, component_verdict, body_verdict, record_verdict, added, row_at, loose_turn, loose_row, accent_turn, accent_down, prev_due_lem, row_due, row_names, row_turn, row_wrong, names_turn, named, list_size, same_turn, same_lists, equal_turn, repeated, list_turn, list_wrong, or_else, refused_at, finished, start, read_sheet, singly, load_sheet, said, check_sheet}
 use Rattle.tonekit_sheet_read.proofs.Places.{rows_few, accent_inside, tone_inside, prev_inside}
-use Rattle.tonekit_sheet_read.proofs.Records.{Closed, rows, Due, due_is, settings, tone, accent, row, list, component, finish, sound}
+use Rattle.tonekit_sheet_read.proofs.Records.{Closed, Due, due_is, settings, tone, accent, row, list, component, finish, sound}
 use Rattle.tonekit_sheet_read.proofs.Reading.{after_list}
 use Rattle.tonekit_sheet_read.proofs.Turns.{run, run_refused, run_end, run_on, limit_idle, accepted, no_turns, not_loaded, same_loaded}
 use Rattle.tonekit_sheet_read.proofs.Kept.{ListRead, Kept, kept_start, no_due, keep}

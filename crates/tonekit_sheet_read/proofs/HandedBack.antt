@@ -5,7 +5,7 @@ use native.Mathlib.Omega.{arith}
 use Rattle.tonekit_core.specs.declared.Refusal.{Refusal}
 use Rattle.tonekit_pack.specs.Held.{in_order}
 use Rattle.tonekit_sheet.specs.Reader.{Out, refused, start}
-use Rattle.tonekit_sheet_read.specs.declared.SheetRead.TheVariants.{Good, Refused}
+use Rattle.tonekit_sheet_read.specs.declared.SheetRead.TheVariants.{Good}
 use Rattle.tonekit_sheet_read.specs.declared.Loaded.{Loaded}
 use Rattle.tonekit_sheet_read.specs.Held.{stepped, shown, answered, empty_sheet, turned_back, Roomy, EmptyIfRefused}
 

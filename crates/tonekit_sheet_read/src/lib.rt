@@ -1,4 +1,6 @@
 // The sheet reader: which bytes are a sheet, and the refusal and place of those that are not.
+#![tactic(auto)]
+
 ghost use Rattle.std.specs.Prelude.{◌≡◌, ◌≤◌};
 ghost use Rattle.tonekit_sheet.specs.Reader.{rows_due, finished, read_sheet, load_sheet, check_sheet};
 ghost use Rattle.tonekit_sheet_read.specs.Held.{shown, answered, turned_back, Roomy, EmptyIfRefused};

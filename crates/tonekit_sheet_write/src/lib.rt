@@ -1,4 +1,6 @@
 // The sheet of a pack: its needed length, its bytes, and the call that writes them to a lent buffer.
+#![tactic(auto)]
+
 ghost use Rattle.std.specs.Prelude.{◌≡◌, ◌+◌, ◌*◌, ◌≤◌, ◌<◌, length};
 ghost use Rattle.tonekit_core.specs.Calls.{Delivers, written};
 ghost use Rattle.tonekit_pack.specs.Held.{shown, Roomy};

@@ -1,5 +1,5 @@
 -- Document 01's Judgement, from whatever a station holds: what a query's bytes are turned into, a function of a source and of those bytes.
-use Rattle.std.specs.Prelude.{ℕ, Bool, cond, not, List, [], ◌∷◌, eqb, ltb, get_or}
+use Rattle.std.specs.Prelude.{ℕ, Bool, cond, not, List, eqb, ltb, get_or}
 use Rattle.tonekit_core.specs.Calls.{Outcome, refused, written}
 use Rattle.tonekit_core.specs.Loop.{Turn, next, stop, range_to}
 use Rattle.tonekit_core.specs.declared.Refusal.TheVariants as refusal

@@ -1,4 +1,6 @@
 // The calls that a station makes.
+#![tactic(auto)]
+
 ghost use Rattle.std.specs.Prelude.{◌≡◌, ◌≤◌};
 ghost use Rattle.tonekit_core.specs.Calls.{Delivers};
 ghost use Rattle.tonekit_judge.specs.Judge.{Sound, Placed, listing, judgement_of};

@@ -1,4 +1,6 @@
 // The work of the programs `station` and `station_sheet`: what each writes on standard output, by its input.
+#![tactic(auto)]
+
 ghost use Rattle.tonekit_report.specs.Report.{Told};
 ghost use Rattle.tonekit_station.specs.Judgement.{station_outcome, station_sheet_outcome};
 

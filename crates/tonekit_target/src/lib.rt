@@ -1,5 +1,7 @@
 // The tones that a query asks for, as `expect` of the Rust weighs them: the main tone and its
 // variants, by their places in the inventory.
+#![tactic(auto)]
+
 ghost use Rattle.std.specs.Prelude.{◌≡◌, true, ◌+◌, ◌≤◌, ◌<◌};
 ghost use Rattle.tonekit_judge.specs.Judge.{Placed};
 ghost use Rattle.tonekit_target.specs.Target.{weight_fine, weights_fine, main_weight, variants_fine, place_of, target_tone, target_weight, with_target, aim_of, targets_of};

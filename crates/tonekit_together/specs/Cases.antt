@@ -1,7 +1,6 @@
 -- Document 01's bench cases that are "proved together", each through a whole call, from the bytes of a pack and of a query to the record or the refusal.
 use Rattle.std.specs.Prelude.{ℕ, ◌≡◌, refl, List, [], ◌∷◌, ◌++◌, replicate}
 use Rattle.std.specs.Float.Ieee.{add, sub, mul, div, lt, le, eq, neg, of_bits, to_bits, of_int, round, is_nan}
-use Rattle.std.specs.Float.Ieee.Scale.{finite}
 use Rattle.tonekit_core.specs.Calls.{refused, written}
 use Rattle.tonekit_core.specs.declared.Refusal.TheVariants.{BadVariant}
 use Rattle.tonekit_core.specs.Loop.{turns, range, turns_to, range_to, loop_on, loop_to, while, while_if}
@@ -29,7 +28,7 @@ use Rattle.tonekit_root.specs.Root.{root_of}
 use Rattle.tonekit_log.specs.Exp.{exp_of}
 use Rattle.tonekit_score.specs.Score.{widen_for, scoring_of, clamp_log, add_to, value_of, excused, point_weight, squares_of, end_term, ends_of, distance_of, log_of, mixed, mix_turn, calibrate}
 use Rattle.tonekit_deltas.specs.Deltas.{kept, offer, offer_end, offer_turn, end_deltas, deltas_of}
-use Rattle.tonekit_judge.specs.Judge.{tone_mixing, loglik_at, logliks, ranked, ranking_of, heard_of, weighed, part_mixing, target_mixing, llr_of, plain_of, distance_from, advice_of, part_of, with_best, judged_of, usable, not_measured, judgement_of}
+use Rattle.tonekit_judge.specs.Judge.{tone_mixing, loglik_at, logliks, ranked, ranking_of, heard_of, weighed, part_mixing, target_mixing, llr_of, plain_of, distance_from, advice_of, part_of, with_best, judged_of, usable, judgement_of}
 use Rattle.tonekit_judge.specs.Record.{delta_count, kind_of, score_bytes, one_bytes, delta_bytes, judgement_bytes}
 use Rattle.tonekit_target.specs.Target as target
 use Rattle.tonekit_target.specs.Target.{targets_of, place_of, weights_fine, main_weight, with_target}

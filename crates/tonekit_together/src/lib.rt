@@ -1,1 +1,3 @@
+#![tactic(auto)]
+
 // Document 01's bench cases, "proved together", through whole calls: theorems alone (specs/Cases).

@@ -6,7 +6,6 @@ use native.Mathlib.Omega.{arith}
 use lib.ListN.{length, get_or}
 use mir.Syntax.{w16}
 use mir.Val.{Fits}
-use Rattle.tonekit_bytes.specs.Fields.{byte_at}
 use Rattle.tonekit_pack.specs.Held.{shown}
 use Rattle.tonekit_expect.specs.Lookup.{look_up}
 use Rattle.tonekit_inventory.specs.Gather.{in_context}

@@ -1,6 +1,6 @@
 -- `ranking_of` meets its contract: a turn of the loop is a turn of the ranking, and the index stays a tone's.
-use Rattle.std.proofs.Common.{◌+◌, refl, ◌∙◌, arith}
-use Rattle.tonekit_core.specs.Loop.{range, again, ended}
+use Rattle.std.proofs.Common.{refl, arith}
+use Rattle.tonekit_core.specs.Loop.{again, ended}
 use Rattle.tonekit_judge.specs.Judge.{rank_turn, ranking_of, ranked}
 use Rattle.tonekit_judge.specs.Terms.{ranking_with, score_at}
 use Rattle.tonekit_judge.proofs.Slots.{ranked_below}

@@ -1,9 +1,8 @@
 use Prim.Native.Nat.{ℕ, zero, suc, ◌+◌, ◌-◌}
 use mathlib.Core.Path.{◌≡◌, refl, sym, ◌∙◌}
-use mathlib.Core.Bool.{true, false}
+use mathlib.Core.Bool.{false}
 use mathlib.Core.List.{List}
 use borrow.Author.Rules.{rules}
-use borrow.Author.Tests.{not-true, not-false}
 use Rattle.tonekit_core.specs.Loop.{range, turns, again, ended}
 use Rattle.tonekit_query.specs.Query.{variant_turn, variants_fine}
 use Rattle.tonekit_query.proofs.variants_fine.Goals as goal

@@ -5,7 +5,6 @@ use borrow.Author.Tests.{not-true, not-false}
 use Rattle.tonekit_core.proofs.Calls.{delivers_refused, delivers_same}
 use Rattle.tonekit_query.specs.Query.{frames_of}
 use Rattle.tonekit_shape.specs.Extract.{extent_of}
-use Rattle.tonekit_station.specs.Judgement.{query_verdict}
 use Rattle.tonekit_station.proofs.Ways.{enough_voiced, turned_back_lem, target_loose, target_held}
 use Rattle.tonekit_station.proofs.judge_gathered.Goals as goal
 use Rattle.tonekit_station.proofs.judge_gathered.Goals.{After-voiced_frames-e}

@@ -1,5 +1,5 @@
 -- `knots` meets its contract: each number stored is a knot, and so are the zeros. Assumes nothing.
-use Rattle.std.proofs.Common.{◌≡◌, ℕ, ◌<◌, eqb, List, length, get_or, set, sym, refl, ◌∙◌, subst, arith, length-set, get_or-set_other, get_or-set_same, rules, eqb-true}
+use Rattle.std.proofs.Common.{ℕ, ◌<◌, eqb, List, get_or, set, sym, refl, ◌∙◌, subst, arith, length-set, get_or-set_other, get_or-set_same, rules, eqb-true}
 use borrow.Author.Tests.{eqb-false}
 use lib.Ieee.{Float, nan, binary32, of_bits, le}
 use lib.ListN.{get_or-replicate}

@@ -1,6 +1,5 @@
 -- `add` meets its contract, kind by kind: a store behind the entries read is one entry more. Assumes nothing.
 use mathlib.Core.Path.{refl}
-use borrow.Author.Rules.{rules}
 use borrow.Author.Tests.{eq-eqb, ne_eqb}
 use native.Mathlib.Omega.{arith}
 use lib.ListN.{length-set}

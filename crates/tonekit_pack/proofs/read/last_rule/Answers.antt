@@ -1,6 +1,5 @@
 -- `last_rule` meets its contract, with no rule and with some. Assumes nothing.
 use mathlib.Core.Path.{sym, ◌∙◌}
-use borrow.Author.Rules.{rules}
 use Rattle.tonekit_pack.proofs.InOrder.{last_none, last_read}
 use native.Mathlib.Omega.{arith}
 use Rattle.tonekit_pack.proofs.read.last_rule.Goals as goal

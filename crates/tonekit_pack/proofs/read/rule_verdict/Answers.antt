@@ -1,5 +1,4 @@
 -- `rule_verdict` meets its contract: each test is the definition's. Assumes nothing.
-use borrow.Author.Rules.{rules}
 use Rattle.tonekit_pack.proofs.InOrder.{order_length}
 use Rattle.tonekit_pack.specs.Pack.{rule_verdict}
 use Rattle.tonekit_pack.proofs.read.rule_verdict.Goals as goal

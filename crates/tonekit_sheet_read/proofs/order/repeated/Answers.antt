@@ -1,6 +1,5 @@
 -- `repeated` meets its contract: from each list on, those left give what all give, and one that is equal decides. Assumes nothing.
 use mathlib.Core.Path.{refl}
-use mathlib.Core.Bool.{false}
 use native.Mathlib.Omega.{arith}
 use Rattle.tonekit_core.specs.Loop.{again, ended}
 use Rattle.tonekit_sheet.specs.Reader.{repeated}

@@ -1,6 +1,5 @@
 -- `same_lists` meets its contract: from each byte on, those left give what all give, and one that differs decides. Assumes nothing.
 use mathlib.Core.Path.{refl}
-use mathlib.Core.Bool.{true}
 use borrow.Author.Tests.{eq-eqb, ne_eqb}
 use Rattle.tonekit_core.specs.Loop.{again, ended}
 use Rattle.tonekit_sheet.specs.Reader.{same_lists}
