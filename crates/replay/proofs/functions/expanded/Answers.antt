@@ -13,13 +13,6 @@ first l n e some few each =
       each = λ k h. let b : k < n = omega arith in subst Knot (sym (get_or-take n l k nan b)) (each k (omega arith));
     }
 
-pub slice_bounds-expand_knots-end : goal.slice_bounds-expand_knots-end
-slice_bounds-expand_knots-end c =
-    let n = length c.args.input.now / 4 in
-    let few : n ≤ 10 = search rules in
-    let ten : length c.knots-from.result ≡ 10 = search rules in
-    sym (length-take-le n c.knots-from.result (omega arith))
-
 pub expand_knots-points-requires : goal.expand_knots-points-requires
 expand_knots-points-requires c =
     let k = c.knots-from in

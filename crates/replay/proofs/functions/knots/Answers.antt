@@ -28,6 +28,3 @@ pub loop-i-preserved : goal.loop-i-preserved
 loop-i-preserved c =
     let l = c.loop-i in
     (l.invariant.0, search rules, ten_set l.out l.i _ (search rules) c.knot.ensures l.invariant.2)
-
-pub returns : goal.returns
-returns c = c.loop-i.invariant.2.1

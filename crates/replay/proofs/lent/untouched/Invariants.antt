@@ -1,8 +1,6 @@
+-- `untouched` ends: the bytes that are left fall.
 use Rattle.std.proofs.Common.{◌-◌, length}
 use Rattle.replay.proofs.lent.untouched.Given as goal
-
-abbrev pub invariant-loop-i : goal.invariant-loop-i
-invariant-loop-i l = Unit {0}
 
 abbrev pub decreases-loop-i : goal.decreases-loop-i
 decreases-loop-i l = length l.s - l.i
