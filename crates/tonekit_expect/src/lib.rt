@@ -323,6 +323,7 @@ fn segment(x: f64, last: usize) -> usize
 }
 
 // The point at t of the line from a to b.
+#[tactic(auto, unfolding(crate::specs::Knots::on_line))]
 fn on_line(a: f32, b: f32, t: f64) -> f32
     ensures { result ≡ on_line a b t }
 {

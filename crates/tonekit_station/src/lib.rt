@@ -43,6 +43,7 @@ fn tones_verdict(tones: usize, counts: [u8; 8]) -> Verdict
 
 // Refusals 11 to 15 but for targets: of so many voiced frames, whether accent and what stood before
 // are held, and the inventory that was gathered.
+#[tactic(auto, unfolding(crate::specs::Judgement::query_verdict))]
 fn query_verdict(
     voiced: usize,
     accent: bool,

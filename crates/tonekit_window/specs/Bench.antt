@@ -1,4 +1,5 @@
 -- Windows, computed; the patterns are those of a run in another language.
+use Rattle.std.proofs.Common.{sym, ◌∙◌}
 use Rattle.std.specs.Prelude.{◌≡◌, refl, false, List, [], ◌∷◌, pos, Float}
 use Rattle.std.specs.Float.{fin, binary64}
 use Rattle.std.specs.Float.Ieee.{of_bits, add, sub, mul, div, of_int, lt, is_nan, round}
@@ -31,27 +32,24 @@ frames_8 = refl
 rising : List Float
 rising = of_int binary64 (pos 1) ∷ of_int binary64 (pos 2) ∷ of_int binary64 (pos 3) ∷ of_int binary64 (pos 4) ∷ []
 
--- each computed to its value, and that compared with `of_int`'s: antt does not end comparing the two roundings with each other
-first_computed : contour_at rising 0 ≡ fin false 1 (pos 0)
-unfolding rising position reach half_width mean_over while step_of curve_at narrowed whole_part lesser greater add sub mul div of_int of_bits lt is_nan round
-first_computed = refl
-
+-- both sides are computed to their value: antt does not end comparing the two roundings with each other
 first_point : contour_at rising 0 ≡ of_int binary64 (pos 1)
-unfolding of_int round
-first_point = first_computed
-
-third_computed : contour_at rising 3 ≡ fin false 1 (pos 1)
 unfolding rising position reach half_width mean_over while step_of curve_at narrowed whole_part lesser greater add sub mul div of_int of_bits lt is_nan round
-third_computed = refl
+first_point =
+    let here : contour_at rising 0 ≡ fin false 1 (pos 0) = refl in
+    let there : of_int binary64 (pos 1) ≡ fin false 1 (pos 0) = refl in
+    here ∙ sym there
 
 third_point : contour_at rising 3 ≡ of_int binary64 (pos 2)
-unfolding of_int round
-third_point = third_computed
-
-last_computed : contour_at rising 9 ≡ fin false 1 (pos 2)
 unfolding rising position reach half_width mean_over while step_of curve_at narrowed whole_part lesser greater add sub mul div of_int of_bits lt is_nan round
-last_computed = refl
+third_point =
+    let here : contour_at rising 3 ≡ fin false 1 (pos 1) = refl in
+    let there : of_int binary64 (pos 2) ≡ fin false 1 (pos 1) = refl in
+    here ∙ sym there
 
 last_point : contour_at rising 9 ≡ of_int binary64 (pos 4)
-unfolding of_int round
-last_point = last_computed
+unfolding rising position reach half_width mean_over while step_of curve_at narrowed whole_part lesser greater add sub mul div of_int of_bits lt is_nan round
+last_point =
+    let here : contour_at rising 9 ≡ fin false 1 (pos 2) = refl in
+    let there : of_int binary64 (pos 4) ≡ fin false 1 (pos 2) = refl in
+    here ∙ sym there

@@ -26,17 +26,3 @@ returns-in-Refused c =
     let a = c.args in
     let e = sym c.tones_verdict.ensures ∙ c.in-Refused.is in
     rw (le-ltb a.voiced 3 c.if-voiced-lt3.false, c.if-not-accent.false, c.if-not-prev.false, e)
-
-pub returns-then-variants_fine : goal.returns-then-variants_fine
-unfolding query_verdict
-returns-then-variants_fine c =
-    let a = c.args in
-    let e = sym c.tones_verdict.ensures ∙ c.in_default.is in
-    rw (le-ltb a.voiced 3 c.if-voiced-lt3.false, c.if-not-accent.false, c.if-not-prev.false, e, ← c.variants_fine.ensures, c.if-variants_fine.true)
-
-pub returns : goal.returns
-unfolding query_verdict
-returns c =
-    let a = c.args in
-    let e = sym c.tones_verdict.ensures ∙ c.in_default.is in
-    rw (le-ltb a.voiced 3 c.if-voiced-lt3.false, c.if-not-accent.false, c.if-not-prev.false, e, ← c.variants_fine.ensures, c.if-variants_fine.false)
