@@ -16,7 +16,7 @@ use Rattle.tonekit_score.specs.declared.Mixture.TheVariants.{Scored}
 use Rattle.tonekit_judge.specs.Judge.{Listed, Placed, usable, distance_at, target_mixing, judgement_of}
 use Rattle.tonekit_judge.specs.declared.Targets.{Targets}
 use Rattle.tonekit_judge.specs.declared.ToneJudgement.{ToneJudgement}
-use Rattle.tonekit_inventory.specs.Gather.{f32, no_tone_lem, in_context, listings}
+use Rattle.tonekit_inventory.specs.Gather.{f32, no_tone, in_context, listings}
 
 -- a slot of what is gathered for a context, and the component that the lookup gave: the tone's, at its place, with its weight and its ten points
 pub record Carries (src : Source) (c : Context) (slot : ℕ) (won : Carried) : Type 0 where
@@ -25,7 +25,7 @@ pub record Carries (src : Source) (c : Context) (slot : ℕ) (won : Carried) : T
   pub at : slot ≡ 4 * tone + component
   pub listed : tone < length src.tones
   pub given : List Carried
-  pub looked : src.look (in_context c (get_or src.tones tone no_tone_lem).number) ≡ some given
+  pub looked : src.look (in_context c (get_or src.tones tone no_tone).number) ≡ some given
   pub has : component < length given
   pub is : get_or given component no_carried ≡ won
   pub weight : get_or (listings src c).weights slot nan ≡ f32 won.weight

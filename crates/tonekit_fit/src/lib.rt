@@ -79,7 +79,7 @@ fn seconds(j: usize) -> f64
 fn sum_points(frames: &[u8], first: usize, chao: &[f64]) -> Sums
     requires { (first ≤ 1024) × (length chao.now ≤ 1024) }
     ensures { result ≡ point_sums
-        (record { frames = frames.entry.now; first = first; chao = chao.now }) }
+        (record { frames = frames.now; first = first; chao = chao.now }) }
 {
     let mut x = 0.0;
     let mut y = 0.0;
@@ -97,7 +97,7 @@ fn sum_points(frames: &[u8], first: usize, chao: &[f64]) -> Sums
 fn sum_products(frames: &[u8], first: usize, chao: &[f64], mx: f64, my: f64) -> Sums
     requires { (first ≤ 1024) × (length chao.now ≤ 1024) }
     ensures { result ≡ product_sums
-        (record { frames = frames.entry.now; first = first; chao = chao.now }) mx my }
+        (record { frames = frames.now; first = first; chao = chao.now }) mx my }
 {
     let mut x = 0.0;
     let mut y = 0.0;
@@ -115,7 +115,7 @@ fn sum_products(frames: &[u8], first: usize, chao: &[f64], mx: f64, my: f64) -> 
 // `count`; 0 where the times do not vary.
 pub fn line_slope(frames: &[u8], first: usize, count: usize, chao: &[f64]) -> f64
     requires { (first ≤ 1024) × (length chao.now ≤ 1024) }
-    ensures { result ≡ line_slope (record { frames = frames.entry.now; first = first; chao = chao.now })
+    ensures { result ≡ line_slope (record { frames = frames.now; first = first; chao = chao.now })
         count }
 {
     let n = tonekit_float::f64_of(count);
@@ -130,7 +130,7 @@ pub fn line_slope(frames: &[u8], first: usize, count: usize, chao: &[f64]) -> f6
 // The sum of the voiced frames' fractions of the part; last is one less than its frames.
 fn sum_fractions(frames: &[u8], first: usize, chao: &[f64], last: f64) -> f64
     requires { (first ≤ 1024) × (length chao.now ≤ 1024) }
-    ensures { result ≡ voiced_sum (record { frames = frames.entry.now; first = first; chao = chao.now })
+    ensures { result ≡ voiced_sum (record { frames = frames.now; first = first; chao = chao.now })
         (fraction last) }
 {
     let mut t = 0.0;
@@ -162,7 +162,7 @@ fn point_added(m: Moments, x: f64, y: f64) -> Moments
 // The sums over the voiced frames.
 fn moments_of(frames: &[u8], first: usize, chao: &[f64], last: f64, mx: f64) -> Moments
     requires { (first ≤ 1024) × (length chao.now ≤ 1024) }
-    ensures { result ≡ moments_of (record { frames = frames.entry.now; first = first; chao = chao.now })
+    ensures { result ≡ moments_of (record { frames = frames.now; first = first; chao = chao.now })
         last mx }
 {
     let mut m = Moments {
@@ -276,7 +276,7 @@ pub fn lead(start: [[f64; 4]; 3]) -> f64
 pub fn quadratic_coefficient(frames: &[u8], first: usize, count: usize, chao: &[f64]) -> f64
     requires { (first ≤ 1024) × (length chao.now ≤ 1024) × (1 ≤ length chao.now) }
     ensures { result ≡ quadratic_coefficient
-        (record { frames = frames.entry.now; first = first; chao = chao.now }) count }
+        (record { frames = frames.now; first = first; chao = chao.now }) count }
 {
     let last = tonekit_float::f64_of(chao.len() - 1);
     let mx = sum_fractions(frames, first, chao, last) / tonekit_float::f64_of(count);

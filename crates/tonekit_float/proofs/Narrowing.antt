@@ -9,7 +9,7 @@ use lib.Ieee.Scale.{round_same}
 use Rattle.tonekit_float.specs.Narrow.{narrowed}
 use Rattle.tonekit_float.proofs.Order.{yes, no}
 use Rattle.tonekit_float.proofs.Monotone.{zero_f, round_neg}
-use Rattle.tonekit_float.proofs.Units.{units_of_lem, units_value, zero_exp, to_bits_is}
+use Rattle.tonekit_float.proofs.Units.{units_of, units_value, zero_exp, to_bits_is}
 use Rattle.tonekit_float.proofs.NarrowRound.{L, cut, limit, field_is, power_value, same, beyond}
 
 -- halfway past the largest f32, by its pattern
@@ -24,7 +24,7 @@ narrow_fits (inf s) = inf-fits binary32 s
 narrow_fits (fin s m e) = round-fits binary32 s (m * up e) (down e)
 
 abbrev X : Float → ℕ
-X x = units_of_lem binary64 x
+X x = units_of binary64 x
 
 narrowed_is : (m : ℕ) (e : ℤ) → T (fits binary64 (fin false m e)) → narrowed (fin false m e) ≡ round binary32 false (X (fin false m e)) L
 unfolding narrowed

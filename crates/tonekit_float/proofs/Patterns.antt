@@ -6,15 +6,15 @@ use lib.Ieee.{Float, nan, inf, fin, up, down, binary64, size, of_bits, to_bits, 
 use lib.Ieee.Digits.{size-le}
 use lib.Ieee.Fits.{down_pos, up_pos}
 use lib.Ieee.Exact.{HasValue, odd_sign}
-use Rattle.tonekit_float.proofs.Units.{units_of_lem, units_value, to_bits_is, size_shift, size_gt}
+use Rattle.tonekit_float.proofs.Units.{units_of, units_value, to_bits_is, size_shift, size_gt}
 use Rattle.tonekit_float.proofs.NarrowRound.{L, fields, field_is}
 use Rattle.tonekit_float.proofs.Exact.{held}
 
 pub L-pos : 0 < L
 L-pos = pow_pos 1074
 
-abbrev pub units_in_lem : Float → ℕ
-units_in_lem x = units_of_lem binary64 x
+abbrev pub units_in : Float → ℕ
+units_in x = units_of binary64 x
 
 -- a value by another fraction that is equal
 pub rescale : (x : Float) (s : Bool) (w l a den : ℕ) → 0 < l → a * l ≡ w * den → HasValue x s w l → HasValue x s a den
@@ -78,27 +78,27 @@ same_value nan A B v w = absurd v
 same_value (inf s) A B v w = absurd v
 same_value (fin s m e) A B v w = eq_of_mul-eq-mul_right (down e) (down_pos e) A B (sym v.1 ∙ w.1)
 
-pub units_are : (m : ℕ) (e : ℤ) (X : ℕ) → T (fits binary64 (fin false m e)) → HasValue (fin false m e) false X L → units_in_lem (fin false m e) ≡ X
-units_are m e X p v = same_value (fin false m e) (units_in_lem (fin false m e)) X (units_value binary64 false m e p) v
+pub units_are : (m : ℕ) (e : ℤ) (X : ℕ) → T (fits binary64 (fin false m e)) → HasValue (fin false m e) false X L → units_in (fin false m e) ≡ X
+units_are m e X p v = same_value (fin false m e) (units_in (fin false m e)) X (units_value binary64 false m e p) v
 
-pub units_lt : (m : ℕ) (e : ℤ) → T (fits binary64 (fin false (suc m) e)) → units_in_lem (fin false (suc m) e) < 2 ^ 2098
+pub units_lt : (m : ℕ) (e : ℤ) → T (fits binary64 (fin false (suc m) e)) → units_in (fin false (suc m) e) < 2 ^ 2098
 units_lt m e p =
     lt_of_mul-lt-mul_right (down e)
     (lt_of_le_of_lt (le_of_eq (sym (units_value binary64 false (suc m) e p).1))
     (lt_of_lt_of_le (mul-lt-mul_of_pos_right (held binary64 false (suc m) e p).small (pow_pos 1074)) (le_of_eq (mul_right_comm (2 ^ 1024) (down e) L))))
 
-pub units_pos : (m : ℕ) (e : ℤ) → T (fits binary64 (fin false (suc m) e)) → 0 < units_in_lem (fin false (suc m) e)
+pub units_pos : (m : ℕ) (e : ℤ) → T (fits binary64 (fin false (suc m) e)) → 0 < units_in (fin false (suc m) e)
 units_pos m e p =
     lt_of_mul-lt-mul_right (down e)
     (lt_of_le_of_lt (le_of_eq (zero-mul (down e)))
     (lt_of_lt_of_le (mul-pos (mul-pos (zero-lt-suc m) (up_pos e)) (pow_pos 1074)) (le_of_eq (units_value binary64 false (suc m) e p).1)))
 
 -- ---- the exponent's field
-pub field_of : (m : ℕ) (e : ℤ) → to_bits binary64 (fin false m e) / 2 ^ 52 ≡ size (units_in_lem (fin false m e)) - 52
-field_of m e = ap (λ (b : ℕ). b / 2 ^ 52) (to_bits_is binary64 false m e) ∙ field_is (units_in_lem (fin false m e))
+pub field_of : (m : ℕ) (e : ℤ) → to_bits binary64 (fin false m e) / 2 ^ 52 ≡ size (units_in (fin false m e)) - 52
+field_of m e = ap (λ (b : ℕ). b / 2 ^ 52) (to_bits_is binary64 false m e) ∙ field_is (units_in (fin false m e))
 
 pub field_lt : (m : ℕ) (e : ℤ) → T (fits binary64 (fin false (suc m) e)) → to_bits binary64 (fin false (suc m) e) / 2 ^ 52 < 2047
-field_lt m e p = let z = size-le (units_in_lem (fin false (suc m) e)) 2098 (units_lt m e p) in lt_of_le_of_lt (le_of_eq (field_of (suc m) e)) (omega arith)
+field_lt m e p = let z = size-le (units_in (fin false (suc m) e)) 2098 (units_lt m e p) in lt_of_le_of_lt (le_of_eq (field_of (suc m) e)) (omega arith)
 
 pub pattern_lt : (b : ℕ) → b / 4503599627370496 < 2047 → b < 9223372036854775808
 pattern_lt b h = omega arith

@@ -8,7 +8,7 @@ use lib.Ieee.Fits.{two, down_pos, kept-lt}
 use lib.Ieee.Nearest.{div_mono}
 use Rattle.tonekit_float.specs.Magnitude.{total_le, clear}
 use Rattle.tonekit_float.proofs.Order.{yes, no, le→under, le_total, le_trans_float}
-use Rattle.tonekit_float.proofs.Units.{units_of_lem, bits_of, to_bits_is}
+use Rattle.tonekit_float.proofs.Units.{units_of, bits_of, to_bits_is}
 use Rattle.tonekit_float.proofs.Magnitude.{clear_lt}
 
 -- of a NaN every comparison is false
@@ -57,7 +57,7 @@ bits_mono f n o h = go (leb l k) (leb→le l k) (nleb→lt l k)
     go true i j = same (le_antisymm k_le (i tt))
     go false i j = more (j tt)
 
-units_mono : (f : Format) (m n : ℕ) (e d : ℤ) → m * up e * down d ≤ n * up d * down e → units_of_lem f (fin false m e) ≤ units_of_lem f (fin false n d)
+units_mono : (f : Format) (m n : ℕ) (e d : ℤ) → m * up e * down d ≤ n * up d * down e → units_of f (fin false m e) ≤ units_of f (fin false n d)
 units_mono f m n e d h =
     let L = 2 ^ low f in
     div_mono (m * up e * L) (down e) (n * up d * L) (down d) (down_pos e) (down_pos d)
@@ -101,7 +101,7 @@ upward f (fin false m e) (fin true n g) p q c d h = absurd d
 upward f (fin false m e) (fin false n g) p q c d h =
     let u = le→under (fin false m e) (fin false n g) tt tt h in
     le_trans (le_of_eq (to_bits_is f false m e))
-    (le_trans (bits_mono f (units_of_lem f (fin false m e)) (units_of_lem f (fin false n g)) (units_mono f m n e g (omega arith))) (le_of_eq (sym (to_bits_is f false n g))))
+    (le_trans (bits_mono f (units_of f (fin false m e)) (units_of f (fin false n g)) (units_mono f m n e g (omega arith))) (le_of_eq (sym (to_bits_is f false n g))))
 
 -- ---- the laws
 pub total : (a b : Float) → T (total_le a b) ⊎ T (total_le b a)

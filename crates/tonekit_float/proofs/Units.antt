@@ -12,10 +12,10 @@ use lib.Ieee.Nearest.{closest, closest_same, div_same}
 use lib.Ieee.Scale.{grid, round_same}
 
 -- ---- the number of units
-abbrev pub units_of_lem : Format → Float → ℕ
-units_of_lem f nan = 0
-units_of_lem f (inf s) = 0
-units_of_lem f (fin s m e) = m * up e * 2 ^ low f / down e
+abbrev pub units_of : Format → Float → ℕ
+units_of f nan = 0
+units_of f (inf s) = 0
+units_of f (fin s m e) = m * up e * 2 ^ low f / down e
 
 pub pow_le_back : (i j : ℕ) → 2 ^ i ≤ 2 ^ j → i ≤ j
 pow_le_back i j h = le_of_suc-le-suc (lt_of_not-le (λ (g : suc j ≤ i). not-le_of_lt (pow-lt g) h))
@@ -53,14 +53,14 @@ down_le f s (suc m) e h =
     let D = ltb (suc m * up e) (2 ^ suc (emax f) * down e) in
     leb→le (down e) (2 ^ low f) (and_r (A && B) C (and_l (A && B && C) D h))
 
-pub units_value : (f : Format) (s : Bool) (m : ℕ) (e : ℤ) → T (fits f (fin s m e)) → HasValue (fin s m e) s (units_of_lem f (fin s m e)) (2 ^ low f)
+pub units_value : (f : Format) (s : Bool) (m : ℕ) (e : ℤ) → T (fits f (fin s m e)) → HasValue (fin s m e) s (units_of f (fin s m e)) (2 ^ low f)
 units_value f s m e h = (refl, sym (exact_div (m * up e) (low f) e (down_le f s m e h)))
 
 -- ---- a value is one float
 abbrev pub bits_of : Format → Bool → ℕ → ℕ
 bits_of f s n = cond s (top f) 0 + (size n - prec f) * hid f + n / 2 ^ (size n - prec f)
 
-pub to_bits_is : (f : Format) (s : Bool) (m : ℕ) (e : ℤ) → to_bits f (fin s m e) ≡ bits_of f s (units_of_lem f (fin s m e))
+pub to_bits_is : (f : Format) (s : Bool) (m : ℕ) (e : ℤ) → to_bits f (fin s m e) ≡ bits_of f s (units_of f (fin s m e))
 unfolding to_bits
 to_bits_is f s m e = refl
 
@@ -81,7 +81,7 @@ unique f (fin t m e) (fin u n g) s a c C p q v w =
     sym (of_bits-to_bits f (fin t m e) p)
     ∙ ap (λ (b : ℕ). of_bits f b)
     (to_bits_is f t m e
-    ∙ ap (λ (b : Bool). bits_of f b (units_of_lem f (fin t m e))) (v.0 ∙ sym w.0)
+    ∙ ap (λ (b : Bool). bits_of f b (units_of f (fin t m e))) (v.0 ∙ sym w.0)
     ∙ ap (λ (k : ℕ). bits_of f u k) (same_units f m e n g a c C v.1 w.1)
     ∙ sym (to_bits_is f u n g))
     ∙ of_bits-to_bits f (fin u n g) q

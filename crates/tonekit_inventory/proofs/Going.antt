@@ -14,7 +14,7 @@ use Rattle.tonekit_score.specs.declared.Region.{Region}
 use Rattle.tonekit_judge.specs.declared.Inventory.{Inventory}
 use Rattle.tonekit_inventory.specs.declared.Named.{Named}
 use Rattle.tonekit_inventory.specs.Slots.{InSlots, Lists}
-use Rattle.tonekit_inventory.specs.Gather.{region_of, named_of, with_tone, weights_of, points_of, slotted, no_tone_lem, given_of, in_context, list_tone, listings, f32, no_inventory}
+use Rattle.tonekit_inventory.specs.Gather.{region_of, named_of, with_tone, weights_of, points_of, slotted, no_tone, given_of, in_context, list_tone, listings, f32, no_inventory}
 
 -- ---- a listing's name is that of its first component
 pub first_named : (cs : List Carried) (d : Carried) → 1 ≤ length cs
@@ -72,7 +72,7 @@ module _ (src : Source) (n : ℕ) (c : Context) where
     }
 
     -- tone t, and what its lookup gives
-    module _ (h : t < n) (tone : Tone) (tone_is : get_or src.tones t no_tone_lem ≡ tone) where
+    module _ (h : t < n) (tone : Tone) (tone_is : get_or src.tones t no_tone ≡ tone) where
       with_tones : (number : ℕ) (prior : Float) (r : Region) (name : Named) → (with_tone t number prior r name i).tones ≡ i.tones
       unfolding with_tone
       with_tones number prior r name = refl

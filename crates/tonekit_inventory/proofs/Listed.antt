@@ -12,7 +12,7 @@ use Rattle.tonekit_core.proofs.LoopLaws.{range_keeps}
 use Rattle.tonekit_expect.specs.Source.{Tone, Carried, Source}
 use Rattle.tonekit_expect.specs.declared.Context.{Context}
 use Rattle.tonekit_judge.specs.Judge.{Listed}
-use Rattle.tonekit_inventory.specs.Gather.{named_of, with_tone, weights_of, points_of, slotted, no_tone_lem, given_of, in_context, list_tone, listings, nothing_yet, no_inventory, f32}
+use Rattle.tonekit_inventory.specs.Gather.{named_of, with_tone, weights_of, points_of, slotted, no_tone, given_of, in_context, list_tone, listings, nothing_yet, no_inventory, f32}
 use Rattle.tonekit_inventory.proofs.Going.{map_at}
 use Rattle.tonekit_inventory.proofs.Slots.{weights_length}
 
@@ -137,7 +137,7 @@ module _ (d : Carried) (t : ℕ) (tone : Tone) (cs : List Carried) (l : Listed) 
 -- a source whose tones have four components at most, of ten points each, in this context
 module _ (d : Carried) (src : Source) (c : Context) where
   abbrev pub components_at : ℕ → List Carried
-  components_at t = given_of (src.look (in_context c (get_or src.tones t no_tone_lem).number))
+  components_at t = given_of (src.look (in_context c (get_or src.tones t no_tone).number))
 
   module _ (tones_few : length src.tones ≤ 8) (few : (t : ℕ) → t < length src.tones → length (components_at t) ≤ 4)
       (tens : (t : ℕ) → t < length src.tones → Tens d (components_at t)) where

@@ -20,7 +20,7 @@ use Rattle.tonekit_judge.specs.declared.Inventory.{Inventory}
 use Rattle.tonekit_inventory.specs.declared.Named.{Named}
 use Rattle.tonekit_inventory.specs.Fields.{region_at}
 use Rattle.tonekit_inventory.specs.Slots.{InSlots, Looked, Lists, name_of}
-use Rattle.tonekit_inventory.specs.Gather.{region_of, named_of, with_tone, weights_of, points_of, no_tone_lem, given_of, in_context, f32, no_inventory}
+use Rattle.tonekit_inventory.specs.Gather.{region_of, named_of, with_tone, weights_of, points_of, no_tone, given_of, in_context, f32, no_inventory}
 use Rattle.tonekit_inventory.proofs.Going.{first_named, map_at, going_starts, going_ends, going_on}
 use Rattle.tonekit_inventory.proofs.Going as going
 
@@ -73,10 +73,10 @@ module _ (s : List ℕ) (p : Pack) (c : Context) where
     abbrev at : ℕ
     at = get_or p.toneat t 0
 
-    tone_is : get_or (source_of_pack s (shown p)).tones t no_tone_lem ≡ tone_at s at
+    tone_is : get_or (source_of_pack s (shown p)).tones t no_tone ≡ tone_at s at
     unfolding source_of_pack
     tone_is =
-        map_at (tone_at s) (in_order p.toneat p.tones) t 0 no_tone_lem (rw order_length h)
+        map_at (tone_at s) (in_order p.toneat p.tones) t 0 no_tone (rw order_length h)
         ∙ ap (tone_at s) (order_get p.toneat p.tones t h)
 
     looks : (here : Context) → given_of ((source_of_pack s (shown p)).look here) ≡ given_of (given s (look_up s (shown p) here))

@@ -81,8 +81,8 @@ abbrev pub Blank : List Float → List Float → Type 0
 Blank weights points = (weights ≡ replicate 32 (f32 0)) × (points ≡ replicate 320 (f32 0))
 
 -- past the end of the tones, where nothing is read
-abbrev pub no_tone_lem : Tone
-no_tone_lem = record { number = 0; prior = 0; flag = 0; from = 0; to = 0 }
+abbrev pub no_tone : Tone
+no_tone = record { number = 0; prior = 0; flag = 0; from = 0; to = 0 }
 
 -- the components that a lookup gives; none where it gives nothing
 abbrev pub given_of : Option (List Carried) → List Carried
@@ -95,7 +95,7 @@ in_context c tone = record { accent = c.accent; tone = tone; prev = c.prev; last
 -- tone t with its listing in this context, of which the tone is not read
 abbrev pub list_tone : Source → Context → ℕ → Listed → Listed
 list_tone src c t l =
-    let tone = get_or src.tones t no_tone_lem in
+    let tone = get_or src.tones t no_tone in
     slotted t tone (given_of (src.look (in_context c tone.number))) l
 
 -- for each tone of the source in order its listing in this context, or that it has none: a count of 0

@@ -12,11 +12,11 @@ unfoldable pub kind_of : Delta → ℕ
 kind_of d = cond d.some (delta_number d.kind) 0
 
 -- how many there are
-abbrev pub one_if_lem : Bool → ℕ
-one_if_lem b = cond b 1 0
+abbrev pub one_if : Bool → ℕ
+one_if b = cond b 1 0
 
 unfoldable pub delta_count : Deltas → ℕ
-delta_count ds = one_if_lem ds.first.some + one_if_lem ds.second.some
+delta_count ds = one_if ds.first.some + one_if ds.second.some
 
 -- kind, expected, tone count
 abbrev pub head_bytes : ℕ → ℕ → List ℕ

@@ -15,7 +15,7 @@ use Rattle.tonekit_float.proofs.Monotone.{zero_f, mul_le_left, mul_comm_float, d
 use Rattle.tonekit_float.proofs.Bounds.{in_finite, in_wider, in_cut, in_add, in_sub, in_mul, in_scale, finite4, about0}
 use Rattle.tonekit_float.proofs.Exact.{rounds_under, rounds_over, whole, whole_le}
 use Rattle.tonekit_float.proofs.Size.{within_lit, in_within}
-use Rattle.tonekit_float.proofs.Patterns.{units_in_lem, units_pos, units_lt}
+use Rattle.tonekit_float.proofs.Patterns.{units_in, units_pos, units_lt}
 use Rattle.tonekit_float.proofs.Signs as signs
 use Rattle.tonekit_log.specs.declared.Parts.{Parts}
 use Rattle.tonekit_log.specs.Constants.{LN2, LOG2E, ROOT2, half, one, two}
@@ -362,7 +362,7 @@ by_parts f k each x p g h =
     let a = signs.above x g h in
     let q = subst (λ (y : Float). T (fits binary64 y)) a.is p in
     subst (λ (y : Float). Within k (log_by f y)) (sym a.is)
-    (subst (Within k) (sym (number_is f a.m a.e)) (each _ (parts_in (units_in_lem (fin false (suc a.m) a.e)) (units_pos a.m a.e q) (units_lt a.m a.e q))))
+    (subst (Within k) (sym (number_is f a.m a.e)) (each _ (parts_in (units_in (fin false (suc a.m) a.e)) (units_pos a.m a.e q) (units_lt a.m a.e q))))
 
 pub ln_within : (x : Float) → T (fits binary64 x) → T (lt zero_f x) → T (lt x (inf false)) → Within 746 (ln_of x)
 ln_within x p g h = subst (Within 746) (sym (ln_is x)) (by_parts ln_at 746 ln_at_in x p g h)

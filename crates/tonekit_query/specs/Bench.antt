@@ -17,8 +17,8 @@ abbrev unused : List ℕ
 unused = replicate 20 0
 
 -- a first variant of tone 0 and weight −0
-abbrev minus_zero_lem : List ℕ
-minus_zero_lem = 0 ∷ 0 ∷ 0 ∷ 0 ∷ 128 ∷ replicate 15 0
+abbrev minus_zero : List ℕ
+minus_zero = 0 ∷ 0 ∷ 0 ∷ 0 ∷ 128 ∷ replicate 15 0
 
 abbrev plain : ℕ → List ℕ
 plain count = fixed 0 0 0 unused count 0
@@ -33,7 +33,7 @@ a110 = 0 ∷ 0 ∷ 220 ∷ 66 ∷ []
 abbrev voiced : List ℕ
 voiced = frame 50 1 a110
 
-loads : (check_query (plain 1 ++ voiced) ≡ Loads) × (check_query (plain 0) ≡ Loads) × (check_query (fixed 1 3 1 minus_zero_lem 0 0) ≡ Loads)
+loads : (check_query (plain 1 ++ voiced) ≡ Loads) × (check_query (plain 0) ≡ Loads) × (check_query (fixed 1 3 1 minus_zero 0 0) ≡ Loads)
 unfolding check_query load_query read_query record_verdict variants_fine variant_fine frame_verdict fields_of turns range turns_to range_to
 loads = (refl, refl, refl)
 
@@ -67,7 +67,7 @@ crowded = (refl, refl, refl)
 -- 10: final 2; issue bit 10; an unused variant that is not zero bytes; a frame's flag 2
 bad : (check_query (fixed 2 0 0 unused 0 0) ≡ Refused BadQuery 0)
     × (check_query (fixed 0 4 0 unused 0 0) ≡ Refused BadQuery 0)
-    × (check_query (fixed 0 0 0 minus_zero_lem 0 0) ≡ Refused BadQuery 0)
+    × (check_query (fixed 0 0 0 minus_zero 0 0) ≡ Refused BadQuery 0)
     × (check_query (plain 2 ++ (voiced ++ frame 50 2 a110)) ≡ Refused BadQuery 56)
 unfolding check_query load_query read_query record_verdict variants_fine variant_fine frame_verdict fields_of turns range turns_to range_to
 bad = (refl, refl, refl, refl)

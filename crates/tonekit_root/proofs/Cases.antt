@@ -12,20 +12,20 @@ use lib.Ieee.Exact.{HasValue}
 use Rattle.tonekit_float.proofs.Units.{units_value}
 use Rattle.tonekit_float.proofs.NarrowRound.{L}
 use Rattle.tonekit_float.proofs.Monotone.{zero_f}
-use Rattle.tonekit_float.proofs.Patterns.{units_in_lem, units_pos, field_lt, same_value, pattern_lt, normal_value, subnormal_value}
+use Rattle.tonekit_float.proofs.Patterns.{units_in, units_pos, field_lt, same_value, pattern_lt, normal_value, subnormal_value}
 use Rattle.tonekit_float.proofs.Signs as signs
 use Rattle.tonekit_root.specs.Root.{Near, root_units, root_of}
 
 -- ---- a float above 0 and below infinity
 pub record Above (x : Float) : Type 0 where
   pub number : T (not (is_nan x))
-  pub is : root_of x ≡ root_units (units_in_lem x)
-  pub some : 0 < units_in_lem x
-  pub value : HasValue x false (units_in_lem x) L
+  pub is : root_of x ≡ root_units (units_in x)
+  pub some : 0 < units_in x
+  pub value : HasValue x false (units_in x) L
   pub field : to_bits binary64 x / 2 ^ 52 < 2047
   pub back : of_bits binary64 (to_bits binary64 x) ≡ x
 
-root_is : (m : ℕ) (e : ℤ) → root_of (fin false (suc m) e) ≡ root_units (units_in_lem (fin false (suc m) e))
+root_is : (m : ℕ) (e : ℤ) → root_of (fin false (suc m) e) ≡ root_units (units_in (fin false (suc m) e))
 unfolding root_of
 root_is m e = refl
 
@@ -45,16 +45,16 @@ above x p g h =
     let a = signs.above x g h in
     subst Above (sym a.is) (at_number a.m a.e (subst (λ (y : Float). T (fits binary64 y)) a.is p))
 
-pub at_subnormal : (x : Float) → Above x → to_bits binary64 x / 2 ^ 52 ≡ 0 → units_in_lem x ≡ to_bits binary64 x % 2 ^ 52
+pub at_subnormal : (x : Float) → Above x → to_bits binary64 x / 2 ^ 52 ≡ 0 → units_in x ≡ to_bits binary64 x % 2 ^ 52
 at_subnormal x a e =
-    same_value x (units_in_lem x) (to_bits binary64 x % 2 ^ 52) a.value
+    same_value x (units_in x) (to_bits binary64 x % 2 ^ 52) a.value
     (subst (λ (y : Float). HasValue y false (to_bits binary64 x % 2 ^ 52) L) a.back (subnormal_value (to_bits binary64 x) (pattern_lt (to_bits binary64 x) a.field) e))
 
-pub at_normal : (x : Float) (g : ℕ) → Above x → to_bits binary64 x / 2 ^ 52 ≡ suc g → units_in_lem x ≡ (2 ^ 52 + to_bits binary64 x % 2 ^ 52) * 2 ^ g
+pub at_normal : (x : Float) (g : ℕ) → Above x → to_bits binary64 x / 2 ^ 52 ≡ suc g → units_in x ≡ (2 ^ 52 + to_bits binary64 x % 2 ^ 52) * 2 ^ g
 at_normal x g a e =
     let b = to_bits binary64 x in
     let l = a.field in
-    same_value x (units_in_lem x) ((2 ^ 52 + b % 2 ^ 52) * 2 ^ g) a.value
+    same_value x (units_in x) ((2 ^ 52 + b % 2 ^ 52) * 2 ^ g) a.value
     (subst (λ (y : Float). HasValue y false ((2 ^ 52 + b % 2 ^ 52) * 2 ^ g) L) a.back (normal_value b g (pattern_lt b l) e (omega arith)))
 
 pub near_pos : (n q : ℕ) → 0 < n → Near n q → 0 < q

@@ -15,7 +15,7 @@ use lib.Ieee.Scale.{finite}
 use Rattle.tonekit_float.proofs.NarrowRound.{L}
 use Rattle.tonekit_float.proofs.Order.{le→under}
 use Rattle.tonekit_float.proofs.Monotone.{zero_f, zero_is}
-use Rattle.tonekit_float.proofs.Patterns.{units_in_lem, units_are, units_lt}
+use Rattle.tonekit_float.proofs.Patterns.{units_in, units_are, units_lt}
 use Rattle.tonekit_float.proofs.Signs as signs
 use Rattle.tonekit_root.specs.Root.{Nearest, nearest_root, root_units, root_of}
 use Rattle.tonekit_root.proofs.Cases as cases
@@ -35,7 +35,7 @@ value_positive (fin true m e) n p v = absurd (true≢false v.0)
 value_positive (fin false zero e) n p v = absurd (lt_irrefl 0 (lt_of_lt_of_le (mul-pos p (down_pos e)) (le_of_eq (sym v.1 ∙ ap (λ (z : ℕ). z * L) (zero-mul (up e)) ∙ zero-mul L))))
 value_positive (fin false (suc m) e) n p v = signs.above_zero m e
 
-units_of : (r : Float) (n : ℕ) → T (fits binary64 r) → HasValue r false n L → units_in_lem r ≡ n
+units_of : (r : Float) (n : ℕ) → T (fits binary64 r) → HasValue r false n L → units_in r ≡ n
 units_of nan n p v = absurd v
 units_of (inf s) n p v = absurd v
 units_of (fin true m e) n p v = absurd (true≢false v.0)
@@ -54,20 +54,20 @@ root_fits (fin s zero e) h = h
 root_fits (fin true (suc m) e) h = nan-fits binary64
 root_fits (fin false (suc m) e) h = rounded_fits _
 
-known : (x : Float) → T (fits binary64 x) → T (lt zero_f x) → T (lt x (inf false)) → rooted.Rooted (units_in_lem x) (root_of x)
+known : (x : Float) → T (fits binary64 x) → T (lt zero_f x) → T (lt x (inf false)) → rooted.Rooted (units_in x) (root_of x)
 known x p g h =
     let a = signs.above x g h in
     let c = cases.above x p g h in
     let f = subst (λ (y : Float). T (finite y)) (sym a.is) tt in
-    let top : units_in_lem x < 2 ^ 2098 = subst (λ (y : Float). units_in_lem y < 2 ^ 2098) (sym a.is) (units_lt a.m a.e (subst (λ (y : Float). T (fits binary64 y)) a.is p)) in
-    subst (λ (r : Float). rooted.Rooted (units_in_lem x) r) (sym c.is) (rooted.rooted (units_in_lem x) (scaled x p f) c.some top)
+    let top : units_in x < 2 ^ 2098 = subst (λ (y : Float). units_in y < 2 ^ 2098) (sym a.is) (units_lt a.m a.e (subst (λ (y : Float). T (fits binary64 y)) a.is p)) in
+    subst (λ (r : Float). rooted.Rooted (units_in x) r) (sym c.is) (rooted.rooted (units_in x) (scaled x p f) c.some top)
 
 -- ---- the f64 nearest to the root
 -- x by its units, the root that is given, and any f64 y by its size: none is nearer to the root of x
-pub root_nearest : (x y : Float) → T (fits binary64 x) → T (lt zero_f x) → T (lt x (inf false)) → T (fits binary64 y) → T (finite y) → Nearest (units_in_lem x) (units_in_lem (root_of x)) (units_in_lem y)
+pub root_nearest : (x y : Float) → T (fits binary64 x) → T (lt zero_f x) → T (lt x (inf false)) → T (fits binary64 y) → T (finite y) → Nearest (units_in x) (units_in (root_of x)) (units_in y)
 root_nearest x y p g h q f =
     let a = known x p g h in
-    subst (λ (R : ℕ). Nearest (units_in_lem x) R (units_in_lem y)) (sym (units_of (root_of x) _ (root_fits x p) a.value)) (rooted.nearest (units_in_lem x) (units_in_lem y) (root_of x) a (scaled y q f))
+    subst (λ (R : ℕ). Nearest (units_in x) R (units_in y)) (sym (units_of (root_of x) _ (root_fits x p) a.value)) (rooted.nearest (units_in x) (units_in y) (root_of x) a (scaled y q f))
 
 -- of a number above 0 it is a number above 0
 pub root_finite : (x : Float) → T (fits binary64 x) → T (lt zero_f x) → T (lt x (inf false)) → T (finite (root_of x))

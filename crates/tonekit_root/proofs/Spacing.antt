@@ -9,7 +9,7 @@ use lib.Pow.{pow-add, pow_pos, pow_mono, pow-lt}
 use lib.Ieee.{Float, nan, inf, fin, binary64, fits}
 use lib.Ieee.Scale.{finite}
 use Rattle.tonekit_float.proofs.Exact.{held}
-use Rattle.tonekit_float.proofs.Patterns.{units_in_lem}
+use Rattle.tonekit_float.proofs.Patterns.{units_in}
 
 -- m times 2 ^ j units, with 53 digits in m
 pub record Scaled (X : ℕ) : Type 0 where
@@ -21,7 +21,7 @@ pub record Scaled (X : ℕ) : Type 0 where
 pow_le_back : (i j : ℕ) → 2 ^ i ≤ 2 ^ j → i ≤ j
 pow_le_back i j h = le_of_suc-le-suc (lt_of_not-le (λ (g : suc j ≤ i). not-le_of_lt (pow-lt g) h))
 
-pub scaled : (x : Float) → T (fits binary64 x) → T (finite x) → Scaled (units_in_lem x)
+pub scaled : (x : Float) → T (fits binary64 x) → T (finite x) → Scaled (units_in x)
 scaled nan h f = absurd f
 scaled (inf s) h f = absurd f
 scaled (fin s m (pos k)) h f = record {

@@ -9,7 +9,7 @@ use Rattle.tonekit_expect.specs.Source.{Settings, Tone, Accent, Carried, Source,
 use Rattle.tonekit_expect.specs.declared.Context.{Context}
 use Rattle.tonekit_sheet.specs.Agree.{Held}
 use Rattle.tonekit_sheet.specs.Reader.{point_fine}
-use Rattle.tonekit_sheet.specs.Sheet.{no_tone_lem, no_accent_lem, no_carried, view_of, lists_of}
+use Rattle.tonekit_sheet.specs.Sheet.{no_tone, no_accent, no_carried, view_of, lists_of}
 
 abbrev pub Bits : ℕ → Type 0
 Bits n = n < 4294967296
@@ -82,12 +82,12 @@ pub record Fit (src : Source) : Type 0 where
   pub settings : SettingsFit src.settings
   pub some_tones : 1 ≤ length src.tones
   pub few_tones : length src.tones ≤ 8
-  pub tones : (i : ℕ) → i < length src.tones → ToneFit (get_or src.tones i no_tone_lem)
-  pub tones_once : (i j : ℕ) → i < length src.tones → j < length src.tones → (get_or src.tones i no_tone_lem).number ≡ (get_or src.tones j no_tone_lem).number → i ≡ j
+  pub tones : (i : ℕ) → i < length src.tones → ToneFit (get_or src.tones i no_tone)
+  pub tones_once : (i j : ℕ) → i < length src.tones → j < length src.tones → (get_or src.tones i no_tone).number ≡ (get_or src.tones j no_tone).number → i ≡ j
   pub some_accents : 1 ≤ length src.accents
   pub few_accents : length src.accents ≤ 8
-  pub accents : (i : ℕ) → i < length src.accents → AccentFit (get_or src.accents i no_accent_lem)
-  pub accents_once : (i j : ℕ) → i < length src.accents → j < length src.accents → (get_or src.accents i no_accent_lem).number ≡ (get_or src.accents j no_accent_lem).number → i ≡ j
+  pub accents : (i : ℕ) → i < length src.accents → AccentFit (get_or src.accents i no_accent)
+  pub accents_once : (i j : ℕ) → i < length src.accents → j < length src.accents → (get_or src.accents i no_accent).number ≡ (get_or src.accents j no_accent).number → i ≡ j
   pub lists : (c : Context) (cs : List Carried) → Held src c → src.look c ≡ some cs → ListFit src cs
   pub few_lists : length (lists_of (view_of src)) ≤ 128
   pub few_components : components_in (lists_of (view_of src)) ≤ 192

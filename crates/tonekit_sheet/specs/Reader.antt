@@ -195,16 +195,16 @@ unfoldable pub accent_down : List ℕ → Sst → Found
 accent_down s st = range_to (accent_turn s st) (λ n. found.Nothing) 0 (length st.accents) 0
 
 -- row r is the one due at its place
-abbrev pub prev_due_lem : List ℕ → Sst → ℕ → ℕ
-prev_due_lem s st zero = 0
-prev_due_lem s st (suc p) = number_at s (get_or st.tones p 0)
+abbrev pub prev_due : List ℕ → Sst → ℕ → ℕ
+prev_due s st zero = 0
+prev_due s st (suc p) = number_at s (get_or st.tones p 0)
 
 unfoldable pub row_due : List ℕ → Sst → ℕ → Bool
 row_due s st r =
     let t = length st.tones in
     eqb (byte_at s (row_at st r + sheet_row_accent)) (number_at s (get_or st.accents (accent_place t r) 0))
     && (eqb (byte_at s (row_at st r + sheet_row_tone)) (number_at s (get_or st.tones (tone_place t r) 0))
-    && eqb (byte_at s (row_at st r + sheet_row_prev)) (prev_due_lem s st (prev_place t r)))
+    && eqb (byte_at s (row_at st r + sheet_row_prev)) (prev_due s st (prev_place t r)))
 
 -- the greatest of the list numbers named so far
 abbrev pub most : ℕ → ℕ → ℕ

@@ -23,11 +23,11 @@ unfoldable pub ascending : List Accent → List Accent
 ascending accents = asc_from 255 1 accents
 
 -- past the end, where nothing is read
-abbrev pub no_tone_lem : Tone
-no_tone_lem = record { number = 0; prior = 0; flag = 0; from = 0; to = 0 }
+abbrev pub no_tone : Tone
+no_tone = record { number = 0; prior = 0; flag = 0; from = 0; to = 0 }
 
-abbrev pub no_accent_lem : Accent
-no_accent_lem = record { number = 0; contour = 0; onset = 0; offset = 0; turning = 0 }
+abbrev pub no_accent : Accent
+no_accent = record { number = 0; contour = 0; onset = 0; offset = 0; turning = 0 }
 
 -- "Rows run by accent as above, tone in pack order, prev 0 then tones in pack order": with t tones there are t + 1 rows for each accent and tone
 abbrev pub row_count : ℕ → ℕ → ℕ
@@ -44,13 +44,13 @@ prev_place tones r = r % (tones + 1)
 
 abbrev pub prev_number : List Tone → ℕ → ℕ
 prev_number tones zero = 0
-prev_number tones (suc p) = (get_or tones p no_tone_lem).number
+prev_number tones (suc p) = (get_or tones p no_tone).number
 
 -- the context of row r, at the end of a phrase (1) or not (0); accents stand in ascending order here
 unfoldable pub row_context : List Tone → List Accent → ℕ → ℕ → Context
 row_context tones accents r last = record {
-  accent = (get_or accents (accent_place (length tones) r) no_accent_lem).number;
-  tone = (get_or tones (tone_place (length tones) r) no_tone_lem).number;
+  accent = (get_or accents (accent_place (length tones) r) no_accent).number;
+  tone = (get_or tones (tone_place (length tones) r) no_tone).number;
   prev = prev_number tones (prev_place (length tones) r);
   last = last;
 }
@@ -120,10 +120,10 @@ list_bytes n cs = head_bytes n (get_or cs 0 no_carried) (length cs) ++ component
 
 -- the pieces of a sheet
 abbrev pub tone_piece : View → ℕ → List ℕ
-tone_piece v i = tone_bytes (get_or v.tones i no_tone_lem)
+tone_piece v i = tone_bytes (get_or v.tones i no_tone)
 
 abbrev pub accent_piece : View → ℕ → List ℕ
-accent_piece v i = accent_bytes (get_or v.accents i no_accent_lem)
+accent_piece v i = accent_bytes (get_or v.accents i no_accent)
 
 abbrev pub row_piece : View → List (List Carried) → ℕ → List ℕ
 row_piece v lists r = row_bytes (row_context v.tones v.accents r 0) (number_in lists (v.row r 0)) (number_in lists (v.row r 1))

@@ -14,7 +14,7 @@ use Rattle.tonekit_judge.specs.declared.Inventory.{Inventory}
 use Rattle.tonekit_inventory.specs.Fields.{region_at}
 use Rattle.tonekit_inventory.specs.declared.Named.{Named}
 use Rattle.tonekit_inventory.specs.Slots.{InSlots, Lists}
-use Rattle.tonekit_inventory.specs.Gather.{region_of, named_of, with_tone, weights_of, points_of, no_tone_lem, given_of, in_context, f32, no_inventory}
+use Rattle.tonekit_inventory.specs.Gather.{region_of, named_of, with_tone, weights_of, points_of, no_tone, given_of, in_context, f32, no_inventory}
 use Rattle.tonekit_inventory.proofs.Going.{map_at, going_starts, going_ends, going_on}
 use Rattle.tonekit_inventory.proofs.Going as going
 use Rattle.tonekit_sheet.specs.FromSheet.{tone_at, carried_from, look_sheet, source_of_sheet}
@@ -57,10 +57,10 @@ module _ (s : List ℕ) (st : Sheet) (c : Context) where
   unfolding source_of_sheet
   tones_many = length-map (stepped 9 15 st.tones) (tone_at s) ∙ stepped_length 9 15 st.tones
 
-  tone_is : (t : ℕ) → t < st.tones → get_or (source_of_sheet s (shown st)).tones t no_tone_lem ≡ tone_at s (9 + 15 * t)
+  tone_is : (t : ℕ) → t < st.tones → get_or (source_of_sheet s (shown st)).tones t no_tone ≡ tone_at s (9 + 15 * t)
   unfolding source_of_sheet
   tone_is t h =
-      map_at (tone_at s) (stepped 9 15 st.tones) t 0 no_tone_lem (rw (stepped_length 9 15 st.tones) h)
+      map_at (tone_at s) (stepped 9 15 st.tones) t 0 no_tone (rw (stepped_length 9 15 st.tones) h)
       ∙ ap (tone_at s) (stepped_get 9 15 st.tones t h)
 
   look_is : (here : Context) → (source_of_sheet s (shown st)).look here ≡ look_sheet s (shown st) here

@@ -9,11 +9,11 @@ use lib.ListN.{length, get_or}
 use borrow.Author.Tests.{eq-eqb, ne_eqb, eqb-true, eqb-false}
 use Rattle.tonekit_core.proofs.Split.{split}
 use Rattle.tonekit_expect.specs.Source.{Accent, accent_in}
-use Rattle.tonekit_sheet.specs.Sheet.{or_skip, asc_from, ascending, no_accent_lem}
+use Rattle.tonekit_sheet.specs.Sheet.{or_skip, asc_from, ascending, no_accent}
 use Rattle.tonekit_sheet_laws.proofs.Ascending.{accent_none}
 
 abbrev pub number_of : List Accent → ℕ → ℕ
-number_of l i = (get_or l i no_accent_lem).number
+number_of l i = (get_or l i no_accent).number
 
 in_skip : (a : Accent) (l : List Accent) (n : ℕ) → (a.number ≡ n → ⊥) → accent_in (a ∷ l) n ≡ accent_in l n
 unfolding accent_in

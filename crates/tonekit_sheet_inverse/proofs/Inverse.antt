@@ -11,7 +11,7 @@ use Rattle.tonekit_expect.specs.Source.{Tone, Accent, settings_at}
 use Rattle.tonekit_sheet.specs.Agree.{Bytes}
 use Rattle.tonekit_sheet.specs.Gather.{gather}
 use Rattle.tonekit_sheet.specs.Number.{number_in}
-use Rattle.tonekit_sheet.specs.Sheet.{ascending, no_tone_lem, no_accent_lem, row_context, View, view_of, rows_of, lists_of, tone_bytes, accent_bytes, list_bytes, tone_piece, accent_piece, row_piece, list_piece, bytes_with, bytes_of, sheet}
+use Rattle.tonekit_sheet.specs.Sheet.{ascending, no_tone, no_accent, row_context, View, view_of, rows_of, lists_of, tone_bytes, accent_bytes, list_bytes, tone_piece, accent_piece, row_piece, list_piece, bytes_with, bytes_of, sheet}
 use Rattle.tonekit_sheet.specs.Reader.{Sst, loaded, rows_from, row_at, list_size, load_sheet}
 use Rattle.tonekit_sheet.specs.FromSheet.{tone_at, accent_at, look_sheet, source_of_sheet}
 use Rattle.tonekit_sheet_inverse.specs.Place.{list_place, lists_from}
@@ -36,7 +36,7 @@ view_at s st = record { settings = settings_at s 0; tones = tones_of s st; accen
 module _ (s : List ℕ) (b : Bytes s) (st : Sst) (e : ℕ) (l : Loads s st e) (o : Ordered s st) where
   -- ---- the view
   accent_number : (i : ℕ) → i < length st.accents → number_of (accents_of s st) i ≡ accent_number_of s st i
-  accent_number i h = ap (λ (a : Accent). a.number) (map_get (accent_at s) st.accents i no_accent_lem h)
+  accent_number i h = ap (λ (a : Accent). a.number) (map_get (accent_at s) st.accents i no_accent h)
 
   accents_stand : ascending (accents_of s st) ≡ accents_of s st
   accents_stand =
@@ -73,7 +73,7 @@ module _ (s : List ℕ) (b : Bytes s) (st : Sst) (e : ℕ) (l : Loads s st e) (o
       (gather_spans s (tone_piece (view_at s st)) (λ i. 9 + 15 * i) (length st.tones)
       (λ i h. let t = l.tones i h in
       let x : Spans s (get_or st.tones i 0) (9 + 15 * (i + 1)) (tone_bytes (tone_at s (get_or st.tones i 0))) = tone_spans s b (get_or st.tones i 0) (9 + 15 * (i + 1)) (omega (arith, t.place)) t.kind in
-      rw (map_get (tone_at s) st.tones i no_tone_lem h, ← t.place) x)
+      rw (map_get (tone_at s) st.tones i no_tone h, ← t.place) x)
       9 (9 + 15 * length st.tones) refl refl)
 
   accents_span : Spans s (9 + 15 * length st.tones) (rows_from st) (gather (accent_piece (view_at s st)) 0 (length (accents_of s st)))
@@ -84,7 +84,7 @@ module _ (s : List ℕ) (b : Bytes s) (st : Sst) (e : ℕ) (l : Loads s st e) (o
       (λ i h. let a = l.accents i h in
       let x : Spans s (get_or st.accents i 0) (9 + 15 * t + 18 * (i + 1)) (accent_bytes (accent_at s (get_or st.accents i 0))) =
       accent_spans s b (get_or st.accents i 0) (9 + 15 * t + 18 * (i + 1)) (omega (arith, a.place)) a.kind in
-      rw (map_get (accent_at s) st.accents i no_accent_lem h, ← a.place) x)
+      rw (map_get (accent_at s) st.accents i no_accent h, ← a.place) x)
       (9 + 15 * t) (rows_from st) (omega arith) refl)
 
   row_span : (r : ℕ) → r < st.rows → Spans s (row_at st r) (row_at st (r + 1)) (row_piece (view_at s st) (contents s st (length st.lists)) r)

@@ -15,8 +15,8 @@ use Rattle.tonekit_expect.specs.Lookup.{index_turn, index_of}
 use Rattle.tonekit_expect.specs.Source.{Tone}
 use Rattle.tonekit_expect.specs.declared.Context.{Context}
 use Rattle.tonekit_expect.specs.declared.Found.TheVariants as found
-use Rattle.tonekit_sheet.specs.Sheet.{no_tone_lem, no_accent_lem, accent_place, tone_place, prev_place, prev_number, row_context}
-use Rattle.tonekit_sheet.specs.Reader.{Sst, rows_due, row_at, prev_due_lem}
+use Rattle.tonekit_sheet.specs.Sheet.{no_tone, no_accent, accent_place, tone_place, prev_place, prev_number, row_context}
+use Rattle.tonekit_sheet.specs.Reader.{Sst, rows_due, row_at, prev_due}
 use Rattle.tonekit_sheet.specs.FromSheet.{tone_at, accent_at, list_numbered, prev_found, look_sheet}
 use Rattle.tonekit_sheet_laws.proofs.RowPlaces.{Places, some_tone, row_places}
 use Rattle.tonekit_sheet_inverse.proofs.Loads.{Loads}
@@ -48,7 +48,7 @@ abbrev pub context_at : List ℕ → Sst → ℕ → ℕ → Context
 context_at s st r last = record {
   accent = accent_number_of s st (accent_place (length st.tones) r);
   tone = number_at s (get_or st.tones (tone_place (length st.tones) r) 0);
-  prev = prev_due_lem s st (prev_place (length st.tones) r);
+  prev = prev_due s st (prev_place (length st.tones) r);
   last = last;
 }
 
@@ -59,16 +59,16 @@ module _ (s : List ℕ) (st : Sst) (e : ℕ) (l : Loads s st e) (o : Ordered s s
   tone_at_lem : (i : ℕ) → i < length st.tones → index_of s st.tones (number_at s (get_or st.tones i 0)) ≡ found.At i
   tone_at_lem i b = index_at s st.tones (number_at s (get_or st.tones i 0)) i b refl (λ j c q. l.tones_once j i c b q)
 
-  prev_at : (p : ℕ) → p ≤ length st.tones → prev_found s st (prev_due_lem s st p) ≡ found.At p
+  prev_at : (p : ℕ) → p ≤ length st.tones → prev_found s st (prev_due s st p) ≡ found.At p
   prev_at zero b = refl
   prev_at (suc p) b =
       let n = number_at s (get_or st.tones p 0) in
       let z : n ≡ 0 → ⊥ = λ q. omega (arith, (l.tones p (omega arith)).least) in
       rw (ne_eqb n 0 z, tone_at_lem p (omega arith), add-one)
 
-  prev_number_lem : (p : ℕ) → p ≤ length st.tones → prev_number (map (tone_at s) st.tones) p ≡ prev_due_lem s st p
+  prev_number_lem : (p : ℕ) → p ≤ length st.tones → prev_number (map (tone_at s) st.tones) p ≡ prev_due s st p
   prev_number_lem zero b = refl
-  prev_number_lem (suc p) b = ap (λ (t : Tone). t.number) (map_get (tone_at s) st.tones p no_tone_lem (omega arith))
+  prev_number_lem (suc p) b = ap (λ (t : Tone). t.number) (map_get (tone_at s) st.tones p no_tone (omega arith))
 
   places : (r : ℕ) → r < st.rows → Places (length st.accents) (length st.tones) r
   places r b =
@@ -79,7 +79,7 @@ module _ (s : List ℕ) (st : Sst) (e : ℕ) (l : Loads s st e) (o : Ordered s s
   unfolding row_context
   row_context_lem r last b =
       let p = places r b in
-      rw (length-map st.tones (tone_at s), map_get (accent_at s) st.accents (accent_place (length st.tones) r) no_accent_lem p.accent, map_get (tone_at s) st.tones (tone_place (length st.tones) r) no_tone_lem p.tone, prev_number_lem (prev_place (length st.tones) r) p.prev)
+      rw (length-map st.tones (tone_at s), map_get (accent_at s) st.accents (accent_place (length st.tones) r) no_accent p.accent, map_get (tone_at s) st.tones (tone_place (length st.tones) r) no_tone p.tone, prev_number_lem (prev_place (length st.tones) r) p.prev)
 
   look_placed_lem : (r last : ℕ) → r < st.rows → look_sheet s st (context_at s st r last) ≡ list_numbered s st (byte_at s (row_at st r + cond (eqb last 0) 4 5))
   unfolding look_sheet

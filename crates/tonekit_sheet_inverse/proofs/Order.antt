@@ -15,7 +15,7 @@ use Rattle.tonekit_core.proofs.Split.{either, both}
 use Rattle.tonekit_pack.proofs.Numbers.{zero_or_at}
 use Rattle.tonekit_expect.specs.declared.Found.TheVariants as found
 use Rattle.tonekit_sheet.specs.Sheet.{accent_place, tone_place, prev_place}
-use Rattle.tonekit_sheet.specs.Reader.{Sst, row_at, loose_row, accent_down, prev_due_lem, row_due, most, row_names, row_wrong, named, same_lists, repeated, list_wrong}
+use Rattle.tonekit_sheet.specs.Reader.{Sst, row_at, loose_row, accent_down, prev_due, row_due, most, row_names, row_wrong, named, same_lists, repeated, list_wrong}
 use Rattle.tonekit_sheet_laws.proofs.Loops.{range_last}
 use Rattle.tonekit_sheet_inverse.proofs.Tests.{none_failed, range_some, range_no}
 use Rattle.tonekit_sheet_inverse.proofs.Turns.{Finished}
@@ -41,7 +41,7 @@ module _ (s : List ℕ) (st : Sst) where
   pub record RowRight (r : ℕ) : Type 0 where
     pub accent : byte_at s (row_at st r + 1) ≡ accent_number_of (accent_place (length st.tones) r)
     pub tone : byte_at s (row_at st r + 2) ≡ number_at s (get_or st.tones (tone_place (length st.tones) r) 0)
-    pub prev : byte_at s (row_at st r + 3) ≡ prev_due_lem s st (prev_place (length st.tones) r)
+    pub prev : byte_at s (row_at st r + 3) ≡ prev_due s st (prev_place (length st.tones) r)
     pub first_next : first_list r ≤ greatest r + 1
     pub final_next : final_list r ≤ most (greatest r) (first_list r) + 1
     pub first_held : first_list r ≤ length st.lists
@@ -141,7 +141,7 @@ module _ (s : List ℕ) (st : Sst) where
         record {
           accent = eqb-true (byte_at s (row_at st r + 1)) (accent_number_of s st (accent_place (length st.tones) r)) a.0;
           tone = eqb-true (byte_at s (row_at st r + 2)) (number_at s (get_or st.tones (tone_place (length st.tones) r) 0)) b.0;
-          prev = eqb-true (byte_at s (row_at st r + 3)) (prev_due_lem s st (prev_place (length st.tones) r)) b.1;
+          prev = eqb-true (byte_at s (row_at st r + 3)) (prev_due s st (prev_place (length st.tones) r)) b.1;
           first_next = leb-true (first_list s st r) (greatest s st r + 1) n.0;
           final_next = leb-true (final_list s st r) (most (greatest s st r) (first_list s st r) + 1) n.1;
           first_held = at_most_lem (first_list s st r) l.0;

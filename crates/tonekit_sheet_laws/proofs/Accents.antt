@@ -10,7 +10,7 @@ use borrow.Author.Tests.{ne_eqb, lt-leb}
 use Rattle.tonekit_pack.specs.Ranges.{tolerances_fine}
 use Rattle.tonekit_pack.specs.Pack.{number_at, holds}
 use Rattle.tonekit_expect.specs.Source.{Accent, Source}
-use Rattle.tonekit_sheet.specs.Sheet.{View, no_accent_lem, lists_of}
+use Rattle.tonekit_sheet.specs.Sheet.{View, no_accent, lists_of}
 use Rattle.tonekit_sheet.specs.Reader.{Sst, Out, size_of, due_next, accent_fine, accent_verdict, body_verdict, added}
 use Rattle.tonekit_sheet.specs.Fit.{AccentFit}
 use Rattle.tonekit_sheet_laws.specs.Place.{up_to, accent_at, read_to, last_of}
@@ -33,10 +33,10 @@ accent_fine_lem : (s : List ℕ) (o : ℕ) (a : Accent) → AccentThere s o a �
 accent_fine_lem s o a w f = rw (w.number, ne_eqb a.number 0 (λ e. omega (arith, f.least))) (tolerances_there s o a w f)
 
 module _ (s : List ℕ) (d : Out) (src : Source) (v : View) (fit : ViewFit src v) (laid : Laid s v (lists_of v)) where
-  pub accent_read : (i : ℕ) → i < length v.accents → AccentThere s (accent_at v i) (get_or v.accents i no_accent_lem)
+  pub accent_read : (i : ℕ) → i < length v.accents → AccentThere s (accent_at v i) (get_or v.accents i no_accent)
   accent_read i h =
       let f = fit.accents i h in
-      accent_there s (accent_at v i) (get_or v.accents i no_accent_lem) f.contour_bits f.onset_bits f.offset_bits f.turning_bits (laid.accent i h)
+      accent_there s (accent_at v i) (get_or v.accents i no_accent) f.contour_bits f.onset_bits f.offset_bits f.turning_bits (laid.accent i h)
 
   -- after all tones and i accents
   abbrev after : ℕ → Sst
@@ -65,7 +65,7 @@ module _ (s : List ℕ) (d : Out) (src : Source) (v : View) (fit : ViewFit src v
         body =
             all_pass (leb 8 (length (up_to (accent_at v) i))) (accent_fine s (accent_at v i)) (not (holds s (up_to (accent_at v) i) (number_at s (accent_at v i)))) true
             (lt-leb 8 (length (up_to (accent_at v) i)) (omega (arith, up_to_length (accent_at v) i, fit.few_accents)))
-            (accent_fine_lem s (accent_at v i) (get_or v.accents i no_accent_lem) w (fit.accents i h)) (accent_new i h) refl;
+            (accent_fine_lem s (accent_at v i) (get_or v.accents i no_accent) w (fit.accents i h)) (accent_new i h) refl;
       }
 
   accent_on : (i : ℕ) → i < length v.accents → Reach s d (accent_at v i) (after i) (accent_at v (suc i)) (after (suc i))

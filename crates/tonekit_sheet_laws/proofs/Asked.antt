@@ -10,19 +10,19 @@ use lib.ListN.{length, get_or}
 use borrow.Author.Tests.{eq-eqb, eqb-true}
 use Rattle.tonekit_core.proofs.Split.{split, absurd_bool}
 use Rattle.tonekit_expect.specs.Source.{Tone, Source, tone_in}
-use Rattle.tonekit_sheet.specs.Sheet.{no_tone_lem, no_accent_lem, row_count, accent_place, tone_place, prev_place, prev_number, row_context, ascending, view_of, rows_of}
+use Rattle.tonekit_sheet.specs.Sheet.{no_tone, no_accent, row_count, accent_place, tone_place, prev_place, prev_number, row_context, ascending, view_of, rows_of}
 use Rattle.tonekit_sheet.specs.Agree.{Held}
 use Rattle.tonekit_sheet_laws.proofs.Ascending.{ascending_held}
 use Rattle.tonekit_sheet_laws.proofs.RowPlaces.{row_places}
 
-pub tone_found : (tones : List Tone) (i : ℕ) → i < length tones → tone_in tones (get_or tones i no_tone_lem).number ≡ true
+pub tone_found : (tones : List Tone) (i : ℕ) → i < length tones → tone_in tones (get_or tones i no_tone).number ≡ true
 unfolding tone_in
 tone_found [] i h = absurd (omega arith)
 tone_found (t ∷ tones) zero h = rw (eq-eqb t.number t.number refl)
-tone_found (t ∷ tones) (suc i) h = split (eqb t.number (get_or tones i no_tone_lem).number) (λ e. rw e) (λ e. rw e (tone_found tones i (omega arith)))
+tone_found (t ∷ tones) (suc i) h = split (eqb t.number (get_or tones i no_tone).number) (λ e. rw e) (λ e. rw e (tone_found tones i (omega arith)))
 
 -- a held tone is one of them
-pub tone_at_lem : (tones : List Tone) (n : ℕ) → tone_in tones n ≡ true → (i : ℕ) × (i < length tones) × ((get_or tones i no_tone_lem).number ≡ n)
+pub tone_at_lem : (tones : List Tone) (n : ℕ) → tone_in tones n ≡ true → (i : ℕ) × (i < length tones) × ((get_or tones i no_tone).number ≡ n)
 unfolding tone_in
 tone_at_lem [] n h = absurd_bool h
 tone_at_lem (t ∷ tones) n h =
@@ -47,7 +47,7 @@ module _ (src : Source) (some_tones : 1 ≤ length src.tones) where
       let t = length src.tones in
       let p = row_places (length (ascending src.accents)) t r some_tones h in
       record {
-        accent = (get_or (ascending src.accents) (accent_place t r) no_accent_lem, ascending_held src.accents (accent_place t r) p.accent);
+        accent = (get_or (ascending src.accents) (accent_place t r) no_accent, ascending_held src.accents (accent_place t r) p.accent);
         tone = tone_found src.tones (tone_place t r) p.tone;
         prev = prev_held src.tones (prev_place t r) p.prev;
         final = f;

@@ -11,7 +11,7 @@ use lib.Seq.{ext_get_or}
 use Rattle.tonekit_expect.specs.Source.{Accent, Source, settings_at, accent_in, tone_in}
 use Rattle.tonekit_expect.specs.Lookup.{index_of}
 use Rattle.tonekit_expect.specs.declared.Context.{Context}
-use Rattle.tonekit_sheet.specs.Sheet.{View, no_tone_lem, no_accent_lem, prev_number, row_context, ascending, view_of, rows_of, lists_of, sheet}
+use Rattle.tonekit_sheet.specs.Sheet.{View, no_tone, no_accent, prev_number, row_context, ascending, view_of, rows_of, lists_of, sheet}
 use Rattle.tonekit_sheet.specs.Reader.{Sst, Out, refused}
 use Rattle.tonekit_sheet.specs.FromSheet.{tone_at as tone_is_read, accent_at as accent_is_read, prev_found, look_sheet, source_of_sheet}
 use Rattle.tonekit_sheet.specs.Agree.{Held}
@@ -50,13 +50,13 @@ module _ (s : List ℕ) (d : Out) (src : Source) (v : View) (fit : ViewFit src v
 
   tones_same : map (tone_is_read s) (up_to tone_at (length v.tones)) ≡ v.tones
   tones_same =
-      all_read (tone_is_read s) tone_at v.tones no_tone_lem
+      all_read (tone_is_read s) tone_at v.tones no_tone
       (λ k h. let w = tone_read s d src v fit laid k h in
       λ i. record { number = w.number i; prior = w.prior i; flag = w.flag i; from = w.from i; to = w.to i })
 
   accents_same : map (accent_is_read s) (up_to (accent_at v) (length v.accents)) ≡ v.accents
   accents_same =
-      all_read (accent_is_read s) (accent_at v) v.accents no_accent_lem
+      all_read (accent_is_read s) (accent_at v) v.accents no_accent
       (λ k h. let w = accent_read s d src v fit laid k h in
       λ i. record { number = w.number i; contour = w.contour i; onset = w.onset i; offset = w.offset i; turning = w.turning i })
 
@@ -67,8 +67,8 @@ module _ (s : List ℕ) (d : Out) (src : Source) (v : View) (fit : ViewFit src v
     context : row_context v.tones v.accents row c.last ≡ c
 
   looked : (last total : ℕ) (c : Context)
-      → FoundAt (index_of s (up_to (accent_at v) (length v.accents)) c.accent) (length v.accents) (λ i. (get_or v.accents i no_accent_lem).number) c.accent
-      → FoundAt (index_of s (up_to tone_at (length v.tones)) c.tone) (length v.tones) (λ i. (get_or v.tones i no_tone_lem).number) c.tone
+      → FoundAt (index_of s (up_to (accent_at v) (length v.accents)) c.accent) (length v.accents) (λ i. (get_or v.accents i no_accent).number) c.accent
+      → FoundAt (index_of s (up_to tone_at (length v.tones)) c.tone) (length v.tones) (λ i. (get_or v.tones i no_tone).number) c.tone
       → FoundAt (prev_found s (read_to v (lists_of v) last (length v.tones) (length v.accents) (rows_of v) (length (lists_of v)) 0 total) c.prev) (suc (length v.tones)) (prev_number v.tones) c.prev
       → c.last ≤ 1 → Looked (read_to v (lists_of v) last (length v.tones) (length v.accents) (rows_of v) (length (lists_of v)) 0 total) c
   unfolding look_sheet row_context
@@ -80,8 +80,8 @@ module _ (s : List ℕ) (d : Out) (src : Source) (v : View) (fit : ViewFit src v
         row = place m n a.at t.at p.at a.there t.there lp;
         look = rw (a.is, t.is, p.is) (look_back s d src v fit laid last total c a.at t.at p.at a.there t.there lp f);
         context = λ i. record {
-          accent = (ap (λ (k : ℕ). (get_or v.accents k no_accent_lem).number) (accent_back m n a.at t.at p.at a.there t.there lp) ∙ a.same) i;
-          tone = (ap (λ (k : ℕ). (get_or v.tones k no_tone_lem).number) (tone_back m n a.at t.at p.at a.there t.there lp) ∙ t.same) i;
+          accent = (ap (λ (k : ℕ). (get_or v.accents k no_accent).number) (accent_back m n a.at t.at p.at a.there t.there lp) ∙ a.same) i;
+          tone = (ap (λ (k : ℕ). (get_or v.tones k no_tone).number) (tone_back m n a.at t.at p.at a.there t.there lp) ∙ t.same) i;
           prev = (ap (prev_number v.tones) (prev_back m n a.at t.at p.at a.there t.there lp) ∙ p.same) i;
           last = c.last;
         };
@@ -111,13 +111,13 @@ module _ (src : Source) (fit : Fit src) where
   accents_back n = ap (λ (l : List Accent). accent_in l n) in_order_back ∙ held_in_order src fit n
 
   -- the places of a held context's numbers
-  accent_of_lem : (n : ℕ) (a : Accent) → accent_in src.accents n ≡ some a → (m : ℕ) × (m < length (view_of src).accents) × ((get_or (view_of src).accents m no_accent_lem).number ≡ n)
+  accent_of_lem : (n : ℕ) (a : Accent) → accent_in src.accents n ≡ some a → (m : ℕ) × (m < length (view_of src).accents) × ((get_or (view_of src).accents m no_accent).number ≡ n)
   unfolding view_of
   accent_of_lem n a h =
       let r = accent_at_lem (ascending src.accents) n a (held_in_order src fit n ∙ h) in
       (r.place, r.there, ap (λ (x : Accent). x.number) r.same ∙ r.number)
 
-  tone_of : (n : ℕ) → tone_in src.tones n ≡ true → (m : ℕ) × (m < length (view_of src).tones) × ((get_or (view_of src).tones m no_tone_lem).number ≡ n)
+  tone_of : (n : ℕ) → tone_in src.tones n ≡ true → (m : ℕ) × (m < length (view_of src).tones) × ((get_or (view_of src).tones m no_tone).number ≡ n)
   unfolding view_of
   tone_of n h = tone_at_lem src.tones n h
 

@@ -12,7 +12,7 @@ use Rattle.tonekit_pack.specs.Ranges.{above_zero, a_share, weight_fine}
 use Rattle.tonekit_expect.specs.Source.{Carried, Source, accent_in}
 use Rattle.tonekit_sheet.specs.Number.{same_numbers, same_carried, same, seen_in, place_in, noted, number_in}
 use Rattle.tonekit_sheet.specs.Gather.{pieces, gather}
-use Rattle.tonekit_sheet.specs.Sheet.{asc_from, ascending, no_tone_lem, no_accent_lem, no_carried, row_context, view_of, lists_of, bits_bytes, components_bytes, bytes_with, bytes_of, sheet}
+use Rattle.tonekit_sheet.specs.Sheet.{asc_from, ascending, no_tone, no_accent, no_carried, row_context, view_of, lists_of, bits_bytes, components_bytes, bytes_with, bytes_of, sheet}
 use Rattle.tonekit_sheet.specs.Reader.{point_fine}
 use Rattle.tonekit_sheet.specs.Fit.{f32, SettingsFit, ToneFit, AccentFit, CarriedFit, ListFit, components_in, Fit}
 
@@ -83,12 +83,12 @@ flat_list = record {
   unit = λ n. refl;
 }
 
-tone_fits : (i : ℕ) → i < 1 → ToneFit (get_or small.tones i no_tone_lem)
+tone_fits : (i : ℕ) → i < 1 → ToneFit (get_or small.tones i no_tone)
 unfolding a_share of_bits lt le
 tone_fits zero h = record { least = omega arith; byte = omega arith; prior_bits = omega arith; prior = refl; from_bits = omega arith; to_bits = omega arith; region = refl }
 tone_fits (suc i) h = absurd (omega arith)
 
-accent_fits : (i : ℕ) → i < 1 → AccentFit (get_or small.accents i no_accent_lem)
+accent_fits : (i : ℕ) → i < 1 → AccentFit (get_or small.accents i no_accent)
 unfolding above_zero of_bits lt
 accent_fits zero h = record {
   least = omega arith;

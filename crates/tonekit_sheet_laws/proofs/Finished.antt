@@ -15,8 +15,8 @@ use Rattle.tonekit_core.proofs.Split.{split}
 use Rattle.tonekit_expect.specs.Source.{Carried, Source}
 use Rattle.tonekit_expect.specs.declared.Found.TheVariants as found
 use Rattle.tonekit_sheet.specs.Number.{number_in}
-use Rattle.tonekit_sheet.specs.Sheet.{View, no_tone_lem, no_accent_lem, accent_place, tone_place, prev_place, prev_number, rows_of, lists_of}
-use Rattle.tonekit_sheet.specs.Reader.{Sst, Out, loaded, loose_turn, loose_row, accent_turn, accent_down, prev_due_lem, row_due, row_names, row_turn, row_wrong, named, list_size, same_lists, repeated, list_turn, list_wrong, finished}
+use Rattle.tonekit_sheet.specs.Sheet.{View, no_tone, no_accent, accent_place, tone_place, prev_place, prev_number, rows_of, lists_of}
+use Rattle.tonekit_sheet.specs.Reader.{Sst, Out, loaded, loose_turn, loose_row, accent_turn, accent_down, prev_due, row_due, row_names, row_turn, row_wrong, named, list_size, same_lists, repeated, list_turn, list_wrong, finished}
 use Rattle.tonekit_sheet.specs.Reader.{row_at as row_in}
 use Rattle.tonekit_sheet.specs.FromSheet.{carried_from}
 use Rattle.tonekit_sheet_laws.specs.Place.{up_to, tone_at, accent_at, row_at, list_at, read_to}
@@ -71,14 +71,14 @@ module _ (s : List ℕ) (d : Out) (src : Source) (v : View) (fit : ViewFit src v
       ))
 
   -- ---- accents ascend
-  accent_number : (i : ℕ) → i < length v.accents → number_at s (get_or (up_to (accent_at v) (length v.accents)) i 0) ≡ (get_or v.accents i no_accent_lem).number
+  accent_number : (i : ℕ) → i < length v.accents → number_at s (get_or (up_to (accent_at v) (length v.accents)) i 0) ≡ (get_or v.accents i no_accent).number
   accent_number i h = ap (number_at s) (up_to_get (accent_at v) (length v.accents) i h) ∙ (accent_read s d src v fit laid i h).number
 
   abbrev before : ℕ → ℕ
   before zero = 0
-  before (suc i) = (get_or v.accents i no_accent_lem).number
+  before (suc i) = (get_or v.accents i no_accent).number
 
-  above : (i : ℕ) → i < length v.accents → before i < (get_or v.accents i no_accent_lem).number
+  above : (i : ℕ) → i < length v.accents → before i < (get_or v.accents i no_accent).number
   above zero h = (fit.accents 0 h).least
   above (suc i) h = fit.rising i (suc i) (omega arith) h
 
@@ -87,13 +87,13 @@ module _ (s : List ℕ) (d : Out) (src : Source) (v : View) (fit : ViewFit src v
   none_down =
       rw (up_to_length (accent_at v) (length v.accents))
       (to_through (accent_turn s st) (λ n. found.Nothing) before (length v.accents)
-      (λ i h. rw (accent_number i h, lt-ltb (before i) (get_or v.accents i no_accent_lem).number (above i h), add-one)))
+      (λ i h. rw (accent_number i h, lt-ltb (before i) (get_or v.accents i no_accent).number (above i h), add-one)))
 
   -- ---- each row is the one due, and its numbers are in order
-  tone_number : (i : ℕ) → i < length v.tones → number_at s (get_or (up_to tone_at (length v.tones)) i 0) ≡ (get_or v.tones i no_tone_lem).number
+  tone_number : (i : ℕ) → i < length v.tones → number_at s (get_or (up_to tone_at (length v.tones)) i 0) ≡ (get_or v.tones i no_tone).number
   tone_number i h = ap (number_at s) (up_to_get tone_at (length v.tones) i h) ∙ (tone_read s d src v fit laid i h).number
 
-  prev_number_lem : (p : ℕ) → p ≤ length v.tones → prev_due_lem s st p ≡ prev_number v.tones p
+  prev_number_lem : (p : ℕ) → p ≤ length v.tones → prev_due s st p ≡ prev_number v.tones p
   prev_number_lem zero h = refl
   prev_number_lem (suc p) h = tone_number p h
 

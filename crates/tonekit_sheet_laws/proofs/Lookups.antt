@@ -19,7 +19,7 @@ use Rattle.tonekit_expect.specs.declared.Context.{Context}
 use Rattle.tonekit_expect.specs.declared.Found.{Found}
 use Rattle.tonekit_expect.specs.declared.Found.TheVariants as found
 use Rattle.tonekit_sheet.specs.Number.{place_in, number_in}
-use Rattle.tonekit_sheet.specs.Sheet.{View, no_tone_lem, no_accent_lem, prev_number, rows_of, lists_of}
+use Rattle.tonekit_sheet.specs.Sheet.{View, no_tone, no_accent, prev_number, rows_of, lists_of}
 use Rattle.tonekit_sheet.specs.Reader.{Sst, Out}
 use Rattle.tonekit_sheet.specs.Reader.{row_at as row_in}
 use Rattle.tonekit_sheet.specs.FromSheet.{list_numbered, row_place, final_place, prev_found, look_placed}
@@ -68,8 +68,8 @@ module _ (s : List ℕ) (d : Out) (src : Source) (v : View) (fit : ViewFit src v
   st = read_to v lists last (length v.tones) (length v.accents) (rows_of v) (length lists) 0 total
 
   -- ---- accents and tones, found by number
-  pub accent_place_lem : (n m : ℕ) → m < length v.accents → (get_or v.accents m no_accent_lem).number ≡ n
-      → FoundAt (index_of s (up_to (accent_at v) (length v.accents)) n) (length v.accents) (λ i. (get_or v.accents i no_accent_lem).number) n
+  pub accent_place_lem : (n m : ℕ) → m < length v.accents → (get_or v.accents m no_accent).number ≡ n
+      → FoundAt (index_of s (up_to (accent_at v) (length v.accents)) n) (length v.accents) (λ i. (get_or v.accents i no_accent).number) n
   accent_place_lem n m h e =
       let a = length v.accents in
       let os = up_to (accent_at v) a in
@@ -78,8 +78,8 @@ module _ (s : List ℕ) (d : Out) (src : Source) (v : View) (fit : ViewFit src v
       let l : f.0 < a = omega (arith, g.inside, up_to_length (accent_at v) a) in
       record { at = f.0; is = f.1; there = l; same = sym (accent_read s d src v fit laid f.0 l).number ∙ ap (number_at s) (sym (up_to_get (accent_at v) a f.0 l)) ∙ g.number }
 
-  pub tone_place_lem : (n m : ℕ) → m < length v.tones → (get_or v.tones m no_tone_lem).number ≡ n
-      → FoundAt (index_of s (up_to tone_at (length v.tones)) n) (length v.tones) (λ i. (get_or v.tones i no_tone_lem).number) n
+  pub tone_place_lem : (n m : ℕ) → m < length v.tones → (get_or v.tones m no_tone).number ≡ n
+      → FoundAt (index_of s (up_to tone_at (length v.tones)) n) (length v.tones) (λ i. (get_or v.tones i no_tone).number) n
   tone_place_lem n m h e =
       let t = length v.tones in
       let os = up_to tone_at t in
@@ -92,7 +92,7 @@ module _ (s : List ℕ) (d : Out) (src : Source) (v : View) (fit : ViewFit src v
   pub prev_none : (n : ℕ) → n ≡ 0 → FoundAt (prev_found s st n) (suc (length v.tones)) (prev_number v.tones) n
   prev_none n e = record { at = 0; is = rw (eq-eqb n 0 e); there = omega arith; same = sym e }
 
-  pub prev_tone : (n m : ℕ) → m < length v.tones → (get_or v.tones m no_tone_lem).number ≡ n → FoundAt (prev_found s st n) (suc (length v.tones)) (prev_number v.tones) n
+  pub prev_tone : (n m : ℕ) → m < length v.tones → (get_or v.tones m no_tone).number ≡ n → FoundAt (prev_found s st n) (suc (length v.tones)) (prev_number v.tones) n
   prev_tone n m h e =
       let f = tone_place_lem n m h e in
       let least = (fit.tones m h).least in

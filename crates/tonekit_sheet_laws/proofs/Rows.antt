@@ -12,7 +12,7 @@ use Rattle.tonekit_pack.specs.Pack.{zero_or_held}
 use Rattle.tonekit_expect.specs.Source.{Source}
 use Rattle.tonekit_expect.specs.declared.Context.{Context}
 use Rattle.tonekit_sheet.specs.Number.{number_in}
-use Rattle.tonekit_sheet.specs.Sheet.{View, no_tone_lem, no_accent_lem, accent_place, tone_place, prev_place, prev_number, row_context, rows_of, lists_of}
+use Rattle.tonekit_sheet.specs.Sheet.{View, no_tone, no_accent, accent_place, tone_place, prev_place, prev_number, row_context, rows_of, lists_of}
 use Rattle.tonekit_sheet.specs.Reader.{Sst, Out, size_of, due_next, rows_due, row_fine, row_held, row_verdict, body_verdict, added}
 use Rattle.tonekit_sheet_laws.specs.Place.{up_to, tone_at, accent_at, row_at, read_to, last_of}
 use Rattle.tonekit_sheet_laws.proofs.Placed.{up_to_length, holds_one, zero_or_one, zero_or_zero}
@@ -36,11 +36,11 @@ module _ (s : List ℕ) (d : Out) (src : Source) (v : View) (fit : ViewFit src v
   places r h = row_places (length v.accents) (length v.tones) r fit.some_tones h
 
   -- what a row has at its place
-  pub asks_accent : (r : ℕ) → (asks r).accent ≡ (get_or v.accents (accent_place (length v.tones) r) no_accent_lem).number
+  pub asks_accent : (r : ℕ) → (asks r).accent ≡ (get_or v.accents (accent_place (length v.tones) r) no_accent).number
   unfolding row_context
   asks_accent r = refl
 
-  pub asks_tone : (r : ℕ) → (asks r).tone ≡ (get_or v.tones (tone_place (length v.tones) r) no_tone_lem).number
+  pub asks_tone : (r : ℕ) → (asks r).tone ≡ (get_or v.tones (tone_place (length v.tones) r) no_tone).number
   unfolding row_context
   asks_tone r = refl
 

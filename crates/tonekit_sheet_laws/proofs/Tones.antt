@@ -10,7 +10,7 @@ use borrow.Author.Tests.{ne_eqb, lt-leb}
 use Rattle.tonekit_pack.specs.Ranges.{region_fine}
 use Rattle.tonekit_pack.specs.Pack.{number_at, holds, settings_verdict}
 use Rattle.tonekit_expect.specs.Source.{Tone, Source}
-use Rattle.tonekit_sheet.specs.Sheet.{View, no_tone_lem, lists_of}
+use Rattle.tonekit_sheet.specs.Sheet.{View, no_tone, lists_of}
 use Rattle.tonekit_sheet.specs.Reader.{Sst, Out, size_of, due_next, tone_fine, tone_verdict, body_verdict, added, start}
 use Rattle.tonekit_sheet.specs.Fit.{ToneFit, region_fits}
 use Rattle.tonekit_sheet_laws.specs.Place.{up_to, tone_at, read_to, last_of}
@@ -36,10 +36,10 @@ module _ (s : List ℕ) (d : Out) (src : Source) (v : View) (fit : ViewFit src v
   pub settings_read : SettingsThere s 0 v.settings
   settings_read = settings_there s 0 v.settings fit.settings.temperature_bits fit.settings.threshold_bits laid.settings
 
-  pub tone_read : (i : ℕ) → i < length v.tones → ToneThere s (tone_at i) (get_or v.tones i no_tone_lem)
+  pub tone_read : (i : ℕ) → i < length v.tones → ToneThere s (tone_at i) (get_or v.tones i no_tone)
   tone_read i h =
       let f = fit.tones i h in
-      tone_there s (tone_at i) (get_or v.tones i no_tone_lem) f.prior_bits f.from_bits f.to_bits (laid.tone i h)
+      tone_there s (tone_at i) (get_or v.tones i no_tone) f.prior_bits f.from_bits f.to_bits (laid.tone i h)
 
   -- before any record, and after i tones
   abbrev after : ℕ → Sst
@@ -85,7 +85,7 @@ module _ (s : List ℕ) (d : Out) (src : Source) (v : View) (fit : ViewFit src v
         body =
             all_pass (leb 8 (length (up_to tone_at i))) (tone_fine s (tone_at i)) (not (holds s (up_to tone_at i) (number_at s (tone_at i)))) true
             (lt-leb 8 (length (up_to tone_at i)) (omega (arith, up_to_length tone_at i, fit.few_tones)))
-            (tone_fine_lem s (tone_at i) (get_or v.tones i no_tone_lem) w (fit.tones i h)) (tone_new i h) refl;
+            (tone_fine_lem s (tone_at i) (get_or v.tones i no_tone) w (fit.tones i h)) (tone_new i h) refl;
       }
 
   tone_on : (i : ℕ) → i < length v.tones → Reach s d (tone_at i) (after i) (tone_at (suc i)) (after (suc i))

@@ -20,7 +20,7 @@ use Rattle.tonekit_core.proofs.Split.{split}
 use Rattle.tonekit_pack.proofs.Turns.{by_verdict}
 use Rattle.tonekit_pack.proofs.Front.{region_same, tolerances_same, holds_same, zero_or_same}
 use Rattle.tonekit_sheet.specs.Sheet.{accent_place, tone_place, prev_place}
-use Rattle.tonekit_sheet.specs.Reader.{Sst, Out, loaded, refused, rows_due, due_next, size_of, tone_verdict, accent_verdict, row_verdict, list_verdict, point_fine, point_turn, points_fine, last_list, component_verdict, body_verdict, record_verdict, added, row_at, loose_turn, loose_row, accent_turn, accent_down, prev_due_lem, row_due, row_names, row_turn, row_wrong, names_turn, named, list_size, same_turn, same_lists, equal_turn, repeated, list_turn, list_wrong, or_else, refused_at, finished, start, read_sheet, singly, load_sheet, said, check_sheet}
+use Rattle.tonekit_sheet.specs.Reader.{Sst, Out, loaded, refused, rows_due, due_next, size_of, tone_verdict, accent_verdict, row_verdict, list_verdict, point_fine, point_turn, points_fine, last_list, component_verdict, body_verdict, record_verdict, added, row_at, loose_turn, loose_row, accent_turn, accent_down, prev_due, row_due, row_names, row_turn, row_wrong, names_turn, named, list_size, same_turn, same_lists, equal_turn, repeated, list_turn, list_wrong, or_else, refused_at, finished, start, read_sheet, singly, load_sheet, said, check_sheet}
 use Rattle.tonekit_sheet_read.proofs.Places.{rows_few, accent_inside, tone_inside, prev_inside}
 use Rattle.tonekit_sheet_read.proofs.Records.{Closed, Due, due_is, settings, tone, accent, row, list, component, finish, sound}
 use Rattle.tonekit_sheet_read.proofs.Reading.{after_list}
@@ -116,7 +116,7 @@ module _ (n : ℕ) (t s : List ℕ) (a : Agree n t s) (at : ℕ) (st : Sst) (p :
   unfolding accent_down
   down_same = to_same (accent_turn t st) (accent_turn s st) (λ u. found.Nothing) (length st.accents) 0 (λ i b l. rw (accent_number i l))
 
-  prev_same : (q : ℕ) → q ≤ length st.tones → prev_due_lem t st q ≡ prev_due_lem s st q
+  prev_same : (q : ℕ) → q ≤ length st.tones → prev_due t st q ≡ prev_due s st q
   prev_same zero l = refl
   prev_same (suc q) l = tone_number q (omega arith)
 

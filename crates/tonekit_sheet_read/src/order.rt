@@ -3,7 +3,7 @@ ghost use Rattle.std.specs.Prelude.{◌≡◌, ◌<◌, ◌≤◌, false, ltb};
 ghost use Rattle.tonekit_core.specs.Loop.{range};
 ghost use Rattle.tonekit_pack.specs.Pack.{zero_or_held};
 ghost use Rattle.tonekit_pack.specs.Held.{in_order};
-ghost use Rattle.tonekit_sheet.specs.Reader.{rows_due, row_at, loose_row, accent_down, prev_due_lem, row_due, most, row_names, row_wrong, names_turn, named, same_lists, repeated, list_wrong};
+ghost use Rattle.tonekit_sheet.specs.Reader.{rows_due, row_at, loose_row, accent_down, prev_due, row_due, most, row_names, row_wrong, names_turn, named, same_lists, repeated, list_wrong};
 ghost use Rattle.tonekit_sheet_read.specs.Held.{shown, Roomy};
 ghost use Rattle.tonekit_sheet_read.specs.Marks.{mark_at, Marked};
 
@@ -96,7 +96,7 @@ pub fn accent_down(s: &[u8], st: Sheet) -> Found
 // The number before a row's tone that is due at a place of prev: none, then the tones.
 fn prev_due(s: &[u8], st: Sheet, p: usize) -> u8
     requires { Roomy st × (p ≤ st.tones) }
-    ensures { result ≡ prev_due_lem s.now (shown st) p }
+    ensures { result ≡ prev_due s.now (shown st) p }
 {
     if p == 0 {
         return 0;

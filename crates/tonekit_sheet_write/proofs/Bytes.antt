@@ -22,7 +22,7 @@ use Rattle.tonekit_expect.specs.declared.Look.{Look}
 use Rattle.tonekit_expect.proofs.Carried.{named, components_length, components_at}
 use Rattle.tonekit_sheet.specs.Gather.{pieces, gather, gather_length, Wrote}
 use Rattle.tonekit_sheet.specs.Number.{number_in}
-use Rattle.tonekit_sheet.specs.Sheet.{no_tone_lem, no_accent_lem, no_carried, tone_bytes, accent_bytes, row_bytes, row_context, bits_bytes, component_bytes, components_bytes, list_bytes, tone_piece, row_piece}
+use Rattle.tonekit_sheet.specs.Sheet.{no_tone, no_accent, no_carried, tone_bytes, accent_bytes, row_bytes, row_context, bits_bytes, component_bytes, components_bytes, list_bytes, tone_piece, row_piece}
 use Rattle.tonekit_sheet_plan.specs.declared.Sorted.{Sorted}
 use Rattle.tonekit_sheet_plan.specs.Rows.{pack_view, tones_of, accents_of, Ordered}
 use Rattle.tonekit_sheet_plan.specs.Listings.{carried_by, Kept}
@@ -41,11 +41,11 @@ wrote_part bs l ys at r h p e = record { place = p; same = part_put bs l ys at h
 -- ---- tones and accents, by their offsets
 pub tone_piece_lem : (s : List ℕ) (p : Pack) (i : ℕ) → i < p.tones → tone_piece (pack_view s (shown p)) i ≡ tone_bytes (tone_at s (get_or p.toneat i 0))
 tone_piece_lem s p i h =
-    rw (view_tones s (shown p), map_get (tone_at s) (in_order p.toneat p.tones) i no_tone_lem (rw (order_length p.toneat p.tones) h), order_get p.toneat p.tones i h)
+    rw (view_tones s (shown p), map_get (tone_at s) (in_order p.toneat p.tones) i no_tone (rw (order_length p.toneat p.tones) h), order_get p.toneat p.tones i h)
 
 pub accent_piece_lem : (s : List ℕ) (a : Sorted) (i : ℕ) → i < a.count → sorted_piece s a i ≡ accent_bytes (accent_at s (get_or a.at i 0))
 accent_piece_lem s a i h =
-    rw (map_get (accent_at s) (in_order a.at a.count) i no_accent_lem (rw (order_length a.at a.count) h), order_get a.at a.count i h)
+    rw (map_get (accent_at s) (in_order a.at a.count) i no_accent (rw (order_length a.at a.count) h), order_get a.at a.count i h)
 
 -- ---- components
 pub bits_floats : (xs : List Float) → f32s_bytes xs ≡ bits_bytes (map (to_bits binary32) xs)

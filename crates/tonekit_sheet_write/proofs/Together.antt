@@ -10,7 +10,7 @@ use Rattle.tonekit_pack.specs.declared.Pack.{Pack}
 use Rattle.tonekit_pack.proofs.InOrder.{order_length}
 use Rattle.tonekit_expect.specs.Source.{Accent, settings_at, tone_at, accent_at, source_of_pack}
 use Rattle.tonekit_sheet.specs.Gather.{gather, gather_length, gather_more, gather_none, Wrote, joined, room_first, room_then}
-use Rattle.tonekit_sheet.specs.Sheet.{view_of, no_accent_lem, settings_bytes, accent_bytes, tone_piece, accent_piece, row_count, rows_of, lists_of, bytes_with, bytes_of, sheet}
+use Rattle.tonekit_sheet.specs.Sheet.{view_of, no_accent, settings_bytes, accent_bytes, tone_piece, accent_piece, row_count, rows_of, lists_of, bytes_with, bytes_of, sheet}
 use Rattle.tonekit_sheet_plan.specs.declared.Sorted.{Sorted}
 use Rattle.tonekit_sheet_plan.specs.Rows.{pack_view, Ordered}
 use Rattle.tonekit_sheet_plan.specs.Plans.{planned}
@@ -51,7 +51,7 @@ module _ (s : List ℕ) (p : Pack) (a : Sorted) (lists : List ℕ) (n : ℕ) whe
 
     accents_are : gather (accent_piece (pack_view s (shown p))) 0 (length (pack_view s (shown p)).accents) ≡ C
     accents_are =
-        ap (λ (xs : List Accent). gather (λ i. accent_bytes (get_or xs i no_accent_lem)) 0 (length xs)) (view_sorted s (shown p) a o)
+        ap (λ (xs : List Accent). gather (λ i. accent_bytes (get_or xs i no_accent)) 0 (length xs)) (view_sorted s (shown p) a o)
         ∙ ap (gather (sorted_piece s a) 0) (length-map (in_order a.at a.count) (accent_at s) ∙ order_length a.at a.count)
 
     rows_are : rows_of (pack_view s (shown p)) ≡ row_count a.count p.tones

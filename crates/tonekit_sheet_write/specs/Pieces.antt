@@ -8,7 +8,7 @@ use Rattle.tonekit_pack.specs.declared.Pack.{Pack}
 use Rattle.tonekit_expect.specs.Lookup.{component_of}
 use Rattle.tonekit_expect.specs.Source.{carried}
 use Rattle.tonekit_expect.specs.declared.Listing.{Listing}
-use Rattle.tonekit_sheet.specs.Sheet.{no_accent_lem, accent_bytes, component_bytes, tone_piece, row_piece, list_piece, row_count, bytes_with}
+use Rattle.tonekit_sheet.specs.Sheet.{no_accent, accent_bytes, component_bytes, tone_piece, row_piece, list_piece, row_count, bytes_with}
 use Rattle.tonekit_sheet.specs.Gather.{gather}
 use Rattle.tonekit_sheet_plan.specs.declared.Sorted.{Sorted}
 use Rattle.tonekit_sheet_plan.specs.declared.Counts.{Counts}
@@ -42,7 +42,7 @@ component_piece s l j = component_bytes (carried (component_of s l j))
 
 -- accent i of those that are sorted
 abbrev pub sorted_piece : List ℕ → Sorted → ℕ → List ℕ
-sorted_piece s a i = accent_bytes (get_or (accents_of s a) i no_accent_lem)
+sorted_piece s a i = accent_bytes (get_or (accents_of s a) i no_accent)
 
 -- row r and list i, by the lists that are planned
 abbrev pub planned_row : List ℕ → Pack → List ℕ → ℕ → ℕ → List ℕ

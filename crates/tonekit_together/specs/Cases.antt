@@ -87,20 +87,20 @@ abbrev zeros : ℕ → List ℕ
 zeros n = replicate n 0
 
 -- ---- "Variants 0.5 and 0.5+2^−20 pass; 0.5 and 0.5+2^−19 give 15."
-abbrev two_tones_lem : List ℕ
-two_tones_lem = settings ++ (tone 1 one three ++ (tone 2 one four ++ (accent half ++ (6 ∷ []))))
+abbrev two_tones : List ℕ
+two_tones = settings ++ (tone 1 one three ++ (tone 2 one four ++ (accent half ++ (6 ∷ []))))
 
 -- tone 1 at a half, tone 2 at a half and so many times 2^−24, in the register 0 to 24
 abbrev weighing : ℕ → List ℕ
 weighing n = query 1 nought (0 ∷ 0 ∷ 0xc0 ∷ 0x41 ∷ []) ((2 ∷ 1 ∷ half) ++ ((2 ∷ n ∷ 0 ∷ 0 ∷ 0x3f ∷ []) ++ zeros 10)) ++ frames
 
-pub slack_passes : judge_outcome two_tones_lem (weighing 16)
+pub slack_passes : judge_outcome two_tones (weighing 16)
     ≡ written ((0x31 ∷ 1 ∷ 2 ∷ 0x92 ∷ 0x15 ∷ 0x05 ∷ 0x40 ∷ 0x3f ∷ 0xb2 ∷ 0xa2 ∷ 0x3d ∷ []) ++ (zeros 24
     ++ ((0x15 ∷ 0x72 ∷ 0x31 ∷ 0xbf ∷ 1 ∷ 0 ∷ 0 ∷ 0 ∷ 0 ∷ 1 ∷ 1 ∷ 0 ∷ 0 ∷ 0 ∷ 1 ∷ []) ++ (zeros 11 ++ (1 ∷ 8 ∷ 0 ∷ [])))))
 unfolding judge_outcome judgement judge_gathered query_verdict tones_verdict accent_in tone_in load_pack read_pack loop_to loop_on reader.record_verdict body_verdict settings_verdict tone_verdict accent_verdict rule_verdict part_verdict due_after size_of holds zero_or_held added above_zero a_share knot_fine weight_fine slot_fine knots_fine region_fine tolerances_fine range turns of_bits le lt load_query read_query record_verdict frame_verdict fields_of variant_fine variants_fine range_to turns_to frame_at extent_of gathered listings source_of_pack look_up find_rule climb_turn best_rule index_of components carried component_of knots_at first_points point_at slotted with_tone no_inventory weights_of points_of target.variants_fine weights_fine target.weight_fine main_weight targets_of place_of with_target greater judgement_bytes judgement_of usable shape_of list_of drawn chao_curve holes_filled semitones hz_to_st width_of st_to_chao log2_of half_width reach curve_at step_of mean_over rounded position whole_part round_up while while_if narrowed score_bytes one_bytes delta_bytes delta_count kind_of f32s_bytes round neg to_bits add sub mul div eq is_nan of_int lesser united with_issue scoring_of widen_for clamp_log add_to value_of excused point_weight squares_of end_term ends_of distance_of log_of mixed mix_turn calibrate kept offer offer_end offer_turn end_deltas deltas_of root_of exp_of ln_of tone_mixing loglik_at logliks ranked ranking_of heard_of weighed part_mixing target_mixing llr_of plain_of distance_from advice_of part_of with_best judged_of magnitude
 slack_passes = refl
 
-pub slack_past : judge_outcome two_tones_lem (weighing 32) ≡ refused BadVariant 0
+pub slack_past : judge_outcome two_tones (weighing 32) ≡ refused BadVariant 0
 unfolding judge_outcome judgement judge_gathered query_verdict tones_verdict accent_in tone_in load_pack read_pack loop_to loop_on reader.record_verdict body_verdict settings_verdict tone_verdict accent_verdict rule_verdict part_verdict due_after size_of holds zero_or_held added above_zero a_share knot_fine weight_fine slot_fine knots_fine region_fine tolerances_fine range turns of_bits le lt load_query read_query record_verdict frame_verdict fields_of variant_fine variants_fine range_to turns_to frame_at extent_of gathered listings source_of_pack look_up find_rule climb_turn best_rule index_of components carried component_of knots_at first_points point_at slotted with_tone no_inventory weights_of points_of target.variants_fine weights_fine target.weight_fine main_weight targets_of place_of with_target greater judgement_bytes judgement_of usable shape_of list_of drawn chao_curve holes_filled semitones hz_to_st width_of st_to_chao log2_of half_width reach curve_at step_of mean_over rounded position whole_part round_up while while_if narrowed score_bytes one_bytes delta_bytes delta_count kind_of f32s_bytes round neg to_bits add sub mul div eq is_nan of_int lesser united with_issue scoring_of widen_for clamp_log add_to value_of excused point_weight squares_of end_term ends_of distance_of log_of mixed mix_turn calibrate kept offer offer_end offer_turn end_deltas deltas_of root_of exp_of ln_of tone_mixing loglik_at logliks ranked ranking_of heard_of weighed part_mixing target_mixing llr_of plain_of distance_from advice_of part_of with_best judged_of magnitude
 slack_past = refl
 

@@ -8,7 +8,7 @@ use lib.Dec.{T}
 use lib.Ieee.{binary64, fits, to_bits}
 use Rattle.tonekit_root.proofs.Exact.{root_normal, root_subnormal, even_power, odd_power}
 use Rattle.tonekit_root.proofs.Cases.{Above, above, at_subnormal, at_normal, near_pos}
-use Rattle.tonekit_float.proofs.Patterns.{units_in_lem}
+use Rattle.tonekit_float.proofs.Patterns.{units_in}
 use Rattle.tonekit_root.proofs.root_above.Goals as goal
 use Rattle.tonekit_root.proofs.root_above.Goals.{Start}
 
@@ -18,7 +18,7 @@ held c = subst T (sym c.well_formed.0.1) tt
 known : (c : Start) → Above c.args.x
 known c = above c.args.x (held c) c.requires.low c.requires.high
 
-normal : (c : Start) → (to_bits binary64 c.args.x / 2 ^ 52 ≡ 0 → ⊥) → units_in_lem c.args.x ≡ (to_bits binary64 c.args.x % 2 ^ 52 + 2 ^ 52) * 2 ^ (to_bits binary64 c.args.x / 2 ^ 52 - 1)
+normal : (c : Start) → (to_bits binary64 c.args.x / 2 ^ 52 ≡ 0 → ⊥) → units_in c.args.x ≡ (to_bits binary64 c.args.x % 2 ^ 52 + 2 ^ 52) * 2 ^ (to_bits binary64 c.args.x / 2 ^ 52 - 1)
 normal c h =
     let b = to_bits binary64 c.args.x in
     at_normal c.args.x (b / 2 ^ 52 - 1) (known c) (next (b / 2 ^ 52) h) ∙ ap (λ (n : ℕ). n * 2 ^ (b / 2 ^ 52 - 1)) (add_comm (2 ^ 52) (b % 2 ^ 52))
@@ -92,7 +92,7 @@ returns-then-field-eq0 c =
     let r = c.raised-s in
     let e = r.ensures in
     c.times.ensures
-    ∙ root_subnormal (units_in_lem x) r.result.a r.result.n d.result k.some
+    ∙ root_subnormal (units_in x) r.result.a r.result.n d.result k.some
     (e.0 ∙ ap (λ (n : ℕ). n * 4 ^ r.result.n) (sym (at_subnormal x k c.if-field-eq0.true))) e.3 e.1 e.2 d.ensures.0
     ∙ sym k.is
 
@@ -103,7 +103,7 @@ returns-then-g-eq0 c =
     let g = to_bits binary64 x / 2 ^ 52 - 1 in
     let d = c.digits_root-then-g-eq0 in
     c.times-then-g-eq0.ensures
-    ∙ root_normal (units_in_lem x) (to_bits binary64 x % 2 ^ 52 + 2 ^ 52) (g / 2) d.result
+    ∙ root_normal (units_in x) (to_bits binary64 x % 2 ^ 52 + 2 ^ 52) (g / 2) d.result
     (normal (goal.at.returns-then-g-eq0 c).Start c.if-field-eq0.false ∙ even_power (to_bits binary64 x % 2 ^ 52 + 2 ^ 52) g c.if-g-eq0.true) (omega arith) (omega arith) d.ensures.0
     ∙ sym k.is
 
@@ -114,6 +114,6 @@ returns-else-g-eq0 c =
     let g = to_bits binary64 x / 2 ^ 52 - 1 in
     let d = c.digits_root-else-g-eq0 in
     c.times-else-g-eq0.ensures
-    ∙ root_normal (units_in_lem x) (2 * (to_bits binary64 x % 2 ^ 52 + 2 ^ 52)) (g / 2) d.result
+    ∙ root_normal (units_in x) (2 * (to_bits binary64 x % 2 ^ 52 + 2 ^ 52)) (g / 2) d.result
     (normal (goal.at.returns-else-g-eq0 c).Start c.if-field-eq0.false ∙ odd_power (to_bits binary64 x % 2 ^ 52 + 2 ^ 52) g c.if-g-eq0.false) (omega arith) (omega arith) d.ensures.0
     ∙ sym k.is
