@@ -1,6 +1,6 @@
 /* tonekit for stations: the proved calls, for C and C++.
  *
- * Link libtonekit_c.a, which `rt staticlib tonekit_c` writes for x86-64; docs/CONTROLLER.md says how the same library is built
+ * Link libtonekit_c.a, which `tools/library` writes for x86-64; docs/CONTROLLER.md says how the same library is built
  * for Cortex-M, and what it takes of flash, stack and time. Nothing is allocated and nothing is kept between calls, so calls may
  * run side by side; inputs are only read. A call returns TONEKIT_ACCEPTED, 0, or the number of a refusal (TONEKIT_MISPLACED ..),
  * and stores through its last argument the bytes written (0 for a check), or the place of the refusal: the offset of the record

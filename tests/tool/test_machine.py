@@ -153,7 +153,7 @@ def test_no_answer_without_a_check():
 def test_programs_are_found():
     """By the variable, beside the tool, and in the checkout, by either name."""
     plain = {name: value for name, value in ENVIRONMENT.items() if name != 'TONEKIT_PROGRAMS'}
-    for place, check in (('programs', 'check'), ('target/programs', 'check'), ('target/bin', 'tonekit_check'),
+    for place, check in (('programs', 'check'), ('target/programs', 'check'), ('crates/tonekit_check/out', 'tonekit_check'),
                          ('tools/tonekit_tool/programs', 'check')):
         with folder() as at:
             shutil.copytree(os.path.join(harness.ROOT, 'tools', 'tonekit_tool'), os.path.join(at, 'tools', 'tonekit_tool'))

@@ -12,28 +12,28 @@ BUILT = {'check': 'tonekit_check'}
 SECONDS = 60
 
 
-def folders():
-    """Where programs are looked for: the folder that TONEKIT_PROGRAMS names and no other; else beside the tool, then in the
-    checkout."""
+def folders(name):
+    """Where a program is looked for: the folder that TONEKIT_PROGRAMS names and no other; else beside the tool, then in the
+    checkout, last where the toolchain leaves it."""
     named = os.environ.get('TONEKIT_PROGRAMS')
     if named:
         return [named]
     here = os.path.dirname(os.path.abspath(__file__))
     root = os.path.dirname(os.path.dirname(here))
-    return [os.path.join(here, 'programs'), os.path.join(root, 'programs'),
-            os.path.join(root, 'target', 'programs'), os.path.join(root, 'target', 'bin')]
+    return [os.path.join(here, 'programs'), os.path.join(root, 'programs'), os.path.join(root, 'target', 'programs'),
+            os.path.join(root, 'crates', BUILT.get(name, name), 'out')]
 
 
 @functools.lru_cache(maxsize=None)
 def find(name):
     """The path of a program."""
-    for folder in folders():
+    for folder in folders(name):
         for built in (name, BUILT.get(name, name)):
             path = os.path.join(folder, built)
             if os.path.isfile(path):
                 return path
-    raise NoProgram(f'the program {name} is not there; looked in {", ".join(folders())}. tools/programs builds the programs, and '
-                 'TONEKIT_PROGRAMS names their folder')
+    raise NoProgram(f'the program {name} is not there; looked in {", ".join(folders(name))}. tools/programs builds the programs, '
+                    'and TONEKIT_PROGRAMS names their folder')
 
 
 def run(name, data, *words):
