@@ -2,75 +2,84 @@
 // answers differ from the one recorded.
 #![tactic(auto)]
 
-ghost use Rattle.std.specs.Prelude.{◌≡◌, ◌+◌, ◌*◌, ◌/◌, ◌≤◌, ◌<◌, length, get_or};
-ghost use Rattle.arithmetic_vectors.specs.Replay.{u32_at, u64_at, answer, tally, replayed};
+ghost use Rattle.std.specs.Prelude.{◌≡◌, ◌+◌, ◌*◌, ◌/◌, ◌≤◌, ◌<◌, ◌^◌, length, get_or};
+ghost use Rattle.arithmetic_vectors.specs.Replay.{operation_number, u64_at, answer, tally, replayed};
 
 use std::{fs, io};
+use tonekit_bytes::u32_in;
+use tonekit_float::AnyFloat;
 
-const RECORD: usize = 17;
+// A vector's bytes: the operation, the bits of its input, the bits of its answer.
+const VECTOR: usize = 17;
+
+// What a vector is of.
+#[derive(Clone, Copy, Debug, PartialEq, Eq)]
+enum Operation {
+    Narrow,
+    Root,
+    Ln,
+    Log2,
+    Exp,
+}
+
+// Its number in a vector.
+impl From<Operation> for u8 {
+    ghost from_gives = { λ op n. n ≡ operation_number op };
+
+    fn from(op: Operation) -> u8 {
+        match op {
+            Operation::Narrow => 0,
+            Operation::Root => 1,
+            Operation::Ln => 2,
+            Operation::Log2 => 3,
+            Operation::Exp => 4,
+        }
+    }
+}
 
 // How many vectors of an operation were run, and how many differ.
-#[derive(Drop)]
+#[derive(Clone, Copy, Debug, PartialEq, Eq)]
 struct Count {
     run: usize,
     differ: usize,
 }
 
-// A byte at a wider type.
-fn wide(x: u8) -> u64
-    ensures { (result ≡ x) × (result < 256) }
-{
-    x as u64
-}
-
-// The number of four bytes from `at`, the least significant first.
-fn u32_at(s: &[u8], at: usize) -> u64
-    requires { at + 4 ≤ length s.now }
-    ensures { (result ≡ u32_at s.now at) × (result < 4294967296) }
-{
-    wide(s[at]) + 256 * wide(s[at + 1]) + 65536 * wide(s[at + 2]) + 16777216 * wide(s[at + 3])
-}
-
 // The number of eight bytes from `at`, the least significant first.
+// Stays: the one in replay reads zeros past the end, and here the caller knows that there are eight.
 fn u64_at(s: &[u8], at: usize) -> u64
     requires { at + 8 ≤ length s.now }
     ensures { result ≡ u64_at s.now at }
 {
-    u32_at(s, at) + 4294967296 * u32_at(s, at + 4)
+    u64::from(u32_in(s, at)) + 4294967296 * u64::from(u32_in(s, at + 4))
 }
 
-// The bits that an operation gives for the f64 with the bits b: narrowing 0, root 1, ln 2, log2 3,
-// exp 4. Of a number that names none it is 0.
-fn answer(op: u8, b: u64) -> u64
+// The bits that an operation gives for the f64 with the bits b.
+#[tactic(auto, unfolding(crate::specs::Replay::answer))]
+fn answer(op: Operation, b: u64) -> u64
     ensures { result ≡ answer op b }
 {
-    let x = tonekit_float::f64_of_bits(b);
-    if op == 0 {
-        tonekit_float::bits_of_f32(tonekit_float::narrow(x)) as u64
-    } else if op == 1 {
-        tonekit_float::bits_of_f64(tonekit_root::sqrt(x))
-    } else if op == 2 {
-        tonekit_float::bits_of_f64(tonekit_log::ln(x))
-    } else if op == 3 {
-        tonekit_float::bits_of_f64(tonekit_log::log2(x))
-    } else if op == 4 {
-        tonekit_float::bits_of_f64(tonekit_log::exp(x))
-    } else {
-        0
+    let x = f64::of_bits(b);
+    // Stays: the operation is data, a number in each vector, so a match tells what it does.
+    match op {
+        Operation::Narrow => u64::from(tonekit_float::narrow(x).bits()),
+        Operation::Root => tonekit_root::sqrt(x).bits(),
+        Operation::Ln => tonekit_log::ln(x).bits(),
+        Operation::Log2 => tonekit_log::log2(x).bits(),
+        Operation::Exp => tonekit_log::exp(x).bits(),
     }
 }
 
-// The count with record i added, if it is of the operation.
-fn tally(s: &[u8], op: u8, i: usize, c: Count) -> Count
-    requires i_in_bounds { 17 * i + 17 ≤ length s.now }
-    requires run_le_i { (c.run ≤ i) × (c.differ ≤ i) }
-    ensures { (result ≡ tally s.now op i c) × (result.run ≤ i + 1) × (result.differ ≤ i + 1) }
+// The count with a vector added, if it is of the operation.
+#[tactic(auto, unfolding(crate::specs::Replay::tally))]
+fn tally(vector: &[u8; VECTOR], op: Operation, c: Count) -> Count
+    requires { (c.run < 2 ^ 63) × (c.differ < 2 ^ 63) }
+    ensures value { result ≡ tally op c vector.now }
+    ensures more { (result.run ≤ c.run + 1) × (result.differ ≤ c.differ + 1) }
 {
-    let at = RECORD * i;
-    if s[at] != op {
+    if vector[0] != u8::from(op) {
         return c;
     }
-    if answer(op, u64_at(s, at + 1)) == u64_at(s, at + 9) {
+    if answer(op, u64_at(vector, 1)) == u64_at(vector, 9) {
         Count {
             run: c.run + 1,
             differ: c.differ,
@@ -83,52 +92,41 @@ fn tally(s: &[u8], op: u8, i: usize, c: Count) -> Count
     }
 }
 
-// The count over all whole records of s.
-fn replay(s: &[u8], op: u8) -> Count
+// The count over all whole vectors of s.
+fn replay(s: &[u8], op: Operation) -> Count
     ensures { result ≡ replayed s.now op }
 {
     let mut c = Count { run: 0, differ: 0 };
-    let n = s.len() / RECORD;
-    for i in 0..n {
-        c = tally(s, op, i, c);
+    let (vectors, _) = s.as_chunks::<VECTOR>();
+    for vector in vectors {
+        c = tally(vector, op, c);
     }
     c
 }
 
-// Writes to standard output, and tells on standard error where not all could be written.
-fn write_out(rt: &(impl Print + Eprint), bytes: &[u8]) {
-    tonekit_edge::write_out(rt, "arithmetic_vectors", bytes);
-}
-
-// Writes words and a number.
-fn say(rt: &(impl Print + Eprint), words: &[u8], n: usize) {
-    let mut text = itoa::Buffer::new();
-    write_out(rt, words);
-    write_out(rt, text.format(n).as_bytes());
-}
-
-// Writes the line of one operation.
-fn report(rt: &(impl Print + Eprint), name: &[u8], s: &[u8], op: u8) {
-    let c = replay(s, op);
-    say(rt, name, c.run);
-    say(rt, b" differ ", c.differ);
-    write_out(rt, b"\n");
+// Replays the vectors of one operation, and writes its line.
+fn report(rt: &(impl Print + Eprint), name: &str, s: &[u8], op: Operation) {
+    let Count { run, differ } = replay(s, op);
+    tonekit_edge::say(
+        rt,
+        "arithmetic_vectors",
+        format_args!("{name} {run} differ {differ}\n"),
+    );
 }
 
 // Replays the file, and says how much of it there is.
 fn main(rt: HostRuntime) -> io::Result<()> {
     let Ok(mut file) = fs::open(&rt, "vectors.bin") else {
-        write_out(&rt, b"no vectors\n");
+        tonekit_edge::say(&rt, "arithmetic_vectors", "no vectors\n");
         return Ok(());
     };
     let mut buf = [0u8; 131072];
     let n = tonekit_edge::read_full(&mut file, &mut buf)?;
-    say(&rt, b"bytes ", n);
-    write_out(&rt, b"\n");
-    report(&rt, b"narrow ", &buf[..n], 0);
-    report(&rt, b"root ", &buf[..n], 1);
-    report(&rt, b"ln ", &buf[..n], 2);
-    report(&rt, b"log2 ", &buf[..n], 3);
-    report(&rt, b"exp ", &buf[..n], 4);
+    tonekit_edge::say(&rt, "arithmetic_vectors", format_args!("bytes {n}\n"));
+    report(&rt, "narrow", &buf[..n], Operation::Narrow);
+    report(&rt, "root", &buf[..n], Operation::Root);
+    report(&rt, "ln", &buf[..n], Operation::Ln);
+    report(&rt, "log2", &buf[..n], Operation::Log2);
+    report(&rt, "exp", &buf[..n], Operation::Exp);
     Ok(())
 }

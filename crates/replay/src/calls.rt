@@ -1,125 +1,115 @@
 // The library's calls, each with exactly the room that a sample lends.
-ghost use Rattle.std.specs.Prelude.{◌≡◌, ◌≤◌, length};
+ghost use Rattle.std.specs.Prelude.{◌≤◌};
 
-use crate::{functions, lent};
-use tonekit_core::Checked;
+use crate::functions;
+use crate::recorded::{FILL, Recorded};
+use tonekit_core::{Rejection, layout};
 
-// The room that can be lent, and what is looked at behind it.
+// The room that can be lent, and all that is looked at, with what lies behind it.
 const MOST: usize = 16000;
-
-const BEHIND: usize = 16;
 
 const ALL: usize = 16016;
 
-// Whether a check answered as recorded.
-fn checked(c: Checked, number: u8, place: u32) -> bool {
-    match c {
-        Checked::Loads => (number == 0) & (place == 0),
-        Checked::Refused(r, at) => (tonekit_core::refusal_number(r) == number)
-            & (at == place as usize),
+// A call, by its number in a sample.
+#[derive(Clone, Copy)]
+pub enum Call {
+    CheckPack,
+    CheckQuery,
+    CheckSheet,
+    Shape,
+    Sheet,
+    Judge,
+    JudgeSheet,
+    Ln,
+    Log2,
+    Exp,
+    Root,
+    Narrow,
+    Expand,
+    Pick,
+    Solve,
+}
+
+impl TryFrom<u8> for Call {
+    type Error = u8;
+
+    // The call with a number, or the number of none.
+    fn try_from(number: u8) -> Result<Call, u8> {
+        match number {
+            1 => Ok(Call::CheckPack),
+            2 => Ok(Call::CheckQuery),
+            3 => Ok(Call::CheckSheet),
+            4 => Ok(Call::Shape),
+            5 => Ok(Call::Sheet),
+            6 => Ok(Call::Judge),
+            7 => Ok(Call::JudgeSheet),
+            10 => Ok(Call::Ln),
+            11 => Ok(Call::Log2),
+            12 => Ok(Call::Exp),
+            13 => Ok(Call::Root),
+            14 => Ok(Call::Narrow),
+            15 => Ok(Call::Expand),
+            16 => Ok(Call::Pick),
+            17 => Ok(Call::Solve),
+            _ => Err(number),
+        }
     }
 }
 
-// Whether a query's shape record is as recorded.
-fn shaped(query: &[u8], space: &mut [u8], room: usize, number: u8, place: u32, bytes: &[u8]) -> bool
-    requires { (room ≤ 16000) × (16016 ≡ length space.old) }
-{
-    let a = tonekit_shape::write_shape(query, &mut space[0..room]);
-    lent::answered(
-        a,
-        tonekit_report::front(space, room + BEHIND),
-        number,
-        place,
-        bytes,
-    )
+impl Call {
+    // The longest that the call writes.
+    pub fn longest(self) -> usize {
+        match self {
+            Call::Shape => layout::SHAPE_SIZE,
+            Call::Sheet => layout::SHEET_MOST,
+            Call::Judge | Call::JudgeSheet => layout::JUDGEMENT_SIZE,
+            _ => 0,
+        }
+    }
 }
 
-// Whether a pack's sheet is as recorded.
-fn sheeted(pack: &[u8], space: &mut [u8], room: usize, number: u8, place: u32, bytes: &[u8]) -> bool
-    requires { (room ≤ 16000) × (16016 ≡ length space.old) }
-{
-    let a = tonekit_sheet_write::write_sheet(pack, &mut space[0..room]);
-    lent::answered(
-        a,
-        tonekit_report::front(space, room + BEHIND),
-        number,
-        place,
-        bytes,
-    )
-}
-
-// Whether the judgement of a query against a pack is as recorded.
-fn judged(
-    pack: &[u8],
-    query: &[u8],
-    space: &mut [u8],
+// Whether a call that writes answers as recorded, lent so much room.
+fn written<F: FnOnce(&mut [u8]) -> Result<usize, Rejection>>(
+    recorded: Recorded,
     room: usize,
-    number: u8,
-    place: u32,
-    bytes: &[u8],
+    call: F,
 ) -> bool
-    requires { (room ≤ 16000) × (16016 ≡ length space.old) }
+    requires room { room ≤ 16000 }
+    requires callable { F.IsAlwaysCallable call }
 {
-    let a = tonekit_station::judge(pack, query, &mut space[0..room]);
-    lent::answered(
-        a,
-        tonekit_report::front(space, room + BEHIND),
-        number,
-        place,
-        bytes,
-    )
+    let mut space = [FILL; ALL];
+    let answer = call(&mut space[..room]);
+    recorded.answers(answer, &space[..room + (ALL - MOST)])
 }
 
-// Whether the judgement of a query against a sheet is as recorded.
-fn judged_on_sheet(
-    sheet: &[u8],
-    query: &[u8],
-    space: &mut [u8],
-    room: usize,
-    number: u8,
-    place: u32,
-    bytes: &[u8],
-) -> bool
-    requires { (room ≤ 16000) × (16016 ≡ length space.old) }
-{
-    let a = tonekit_station::judge_sheet(sheet, query, &mut space[0..room]);
-    lent::answered(
-        a,
-        tonekit_report::front(space, room + BEHIND),
-        number,
-        place,
-        bytes,
-    )
-}
-
-// Whether a call answers as recorded: the recorded number, place or length, and bytes. A call of another number
-// does not, nor one with more room than can be lent.
-pub fn so(
-    call: u8,
-    room: usize,
-    first: &[u8],
-    second: &[u8],
-    number: u8,
-    place: u32,
-    bytes: &[u8],
-) -> bool {
+// Whether a call answers as recorded: the recorded number, place or length, and bytes. None does with more room
+// than can be lent.
+// Stays: a sample names its call, so one place has to choose it.
+pub fn so(call: Call, room: usize, first: &[u8], second: &[u8], recorded: Recorded) -> bool {
     if MOST < room {
         return false;
     }
-    let mut space = [lent::FILL; ALL];
     match call {
-        1 => checked(tonekit_pack::check_pack(first), number, place),
-        2 => checked(tonekit_query::check_query(first), number, place),
-        3 => checked(tonekit_sheet_read::check_sheet(first), number, place),
-        4 => shaped(first, &mut space, room, number, place, bytes),
-        5 => sheeted(first, &mut space, room, number, place, bytes),
-        6 => judged(first, second, &mut space, room, number, place, bytes),
-        7 => judged_on_sheet(first, second, &mut space, room, number, place, bytes),
-        10 | 11 | 12 | 13 => functions::f64s(call, first, number, place, bytes),
-        14 => functions::narrowed(first, number, place, bytes),
-        15 => functions::expanded(first, number, place, bytes),
-        16 => functions::picked(first, number, place, bytes),
-        17 => functions::solved(first, number, place, bytes),
-        _ => false,
+        Call::CheckPack => recorded.checks(tonekit_pack::check_pack(first)),
+        Call::CheckQuery => recorded.checks(tonekit_query::check_query(first)),
+        Call::CheckSheet => recorded.checks(tonekit_sheet_read::check_sheet(first)),
+        Call::Shape => written(recorded, room, |out| tonekit_shape::write_shape(first, out)),
+        Call::Sheet => written(recorded, room, |out| {
+            tonekit_sheet_write::write_sheet(first, out)
+        }),
+        Call::Judge => written(recorded, room, |out| {
+            tonekit_station::judge(first, second, out)
+        }),
+        Call::JudgeSheet => written(recorded, room, |out| {
+            tonekit_station::judge_sheet(first, second, out)
+        }),
+        Call::Ln => functions::f64s(first, recorded, tonekit_log::ln),
+        Call::Log2 => functions::f64s(first, recorded, tonekit_log::log2),
+        Call::Exp => functions::f64s(first, recorded, tonekit_log::exp),
+        Call::Root => functions::f64s(first, recorded, tonekit_root::sqrt),
+        Call::Narrow => functions::narrowed(first, recorded),
+        Call::Expand => functions::expanded(first, recorded),
+        Call::Pick => functions::picked(first, recorded),
+        Call::Solve => functions::solved(first, recorded),
     }
 }

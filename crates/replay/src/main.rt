@@ -4,189 +4,155 @@
 
 mod calls;
 mod functions;
-mod lent;
 mod programs;
+mod recorded;
 
-ghost use Rattle.std.specs.Prelude.{◌<◌, ◌≤◌};
+ghost use Rattle.std.specs.Prelude.{◌≡◌, ◌-◌, ◌<◌, ◌≤◌, length};
 
+use crate::calls::Call;
+use crate::recorded::Recorded;
 use std::rt::Files;
 use std::{fs, io};
 use tonekit_bytes::{byte_at, u32_at};
-use tonekit_core::layout;
+
+// The files of samples.
+const FILES: [&str; 7] = [
+    "checks.bin",
+    "shapes.bin",
+    "sheets.bin",
+    "judgements.bin",
+    "functions.bin",
+    "cover.bin",
+    "steps.bin",
+];
 
 // How many samples were run, how many of them by a program's function too, and how many differ.
 #[derive(Drop)]
-struct Count {
+struct Tally {
     run: u64,
     told: u64,
     differ: u64,
 }
 
-// The n bytes from an index on; of a shorter slice what is there.
-fn part(s: &[u8], at: usize, n: usize) -> &[u8] {
-    if s.len() <= at {
-        return &s[..0];
-    }
-    if s.len() - at <= n {
-        return &s[at..];
-    }
-    let end = at + n;
-    &s[at..end]
-}
-
-// The number before a run of bytes: how many there are.
-fn length_at(s: &[u8], at: usize) -> usize
-    ensures { result < 4294967296 }
-{
-    u32_at(s, at, 0) as usize
-}
-
-// The bytes of the answer behind a sample's number and place.
-fn answer_length(number: u8, place: u32) -> usize
-    ensures { result < 4294967296 }
-{
-    if number == 0 { place as usize } else { 0 }
-}
-
-// The bytes between a call and its first input: of a call with 128 added, four of the room.
-fn room_size(call: u8) -> usize
-    ensures { result ≤ 4 }
-{
-    if 128 <= call { 4 } else { 0 }
-}
-
-// The longest that a call writes.
-fn longest(call: u8) -> usize {
-    match call {
-        4 => layout::SHAPE_SIZE,
-        5 => layout::SHEET_MOST,
-        6 | 7 => layout::JUDGEMENT_SIZE,
-        _ => 0,
+impl Tally {
+    // Counts a sample: whether a program's function ran it too, and whether an answer differs.
+    fn add(&mut self, told: bool, differs: bool) {
+        self.run = self.run.wrapping_add(1);
+        self.told = self.told.wrapping_add(u64::from(told));
+        self.differ = self.differ.wrapping_add(u64::from(differs));
     }
 }
 
-// The room that a sample lends: the one it names, or the longest that the call writes.
-fn room_of(sample: &[u8], call: u8) -> usize {
-    if 128 <= call {
-        return u32_at(sample, 1, 0) as usize;
-    }
-    longest(call)
-}
-
-// A sample's call, as recorded, where the length of its first input stands, and how long its inputs are.
+// A sample: the number of its call, the room that it lends if it names one, its inputs and the recorded answer.
 #[derive(Clone, Copy)]
-struct Sample {
+struct Sample<'a> {
     call: u8,
-    front: usize,
-    first: usize,
-    second: usize,
+    room: Option<usize>,
+    first: &'a [u8],
+    second: &'a [u8],
+    recorded: Recorded<'a>,
 }
 
-// The sample at the front of a slice.
-fn sample_of(s: &[u8]) -> Sample
-    ensures { (result.front ≤ 5) × (result.first < 4294967296) × (result.second < 4294967296) }
+// Takes the next n bytes; where there are fewer, those.
+fn take<'a>(rest: &mut &'a [u8], n: usize) -> &'a [u8]
+    ensures { length rest.new.now ≡ length rest.old.now - n }
 {
-    let call = byte_at(s, 0, 0);
-    let front = 1 + room_size(call);
-    let first = length_at(s, front);
-    let second = length_at(s, front + 4 + first);
+    let (front, behind) = rest.split_at(n.min(rest.len()));
+    *rest = behind;
+    front
+}
+
+// Takes a byte.
+fn take_byte(rest: &mut &[u8]) -> u8
+    ensures { length rest.new.now ≡ length rest.old.now - 1 }
+{
+    byte_at(take(rest, 1), 0, 0)
+}
+
+// Takes a number of four bytes.
+fn take_number(rest: &mut &[u8]) -> u32
+    ensures { length rest.new.now ≤ length rest.old.now }
+{
+    u32_at(take(rest, 4), 0, 0)
+}
+
+// Takes a run of bytes behind their number.
+fn take_run<'a>(rest: &mut &'a [u8]) -> &'a [u8]
+    ensures { length rest.new.now ≤ length rest.old.now }
+{
+    let n = take_number(rest) as usize;
+    take(rest, n)
+}
+
+// Takes a sample. One whose call has 128 added names its room.
+fn take_sample<'a>(rest: &mut &'a [u8]) -> Sample<'a>
+    ensures { length rest.new.now ≤ length rest.old.now - 1 }
+{
+    let call = take_byte(rest);
+    let room = if 128 <= call {
+        Some(take_number(rest) as usize)
+    } else {
+        None
+    };
+    let first = take_run(rest);
+    let second = take_run(rest);
+    let number = take_byte(rest);
+    let place = take_number(rest);
+    let count = if number == 0 { place as usize } else { 0 };
+    let bytes = take(rest, count);
     Sample {
+        call: call % 128,
+        room,
+        first,
+        second,
+        recorded: Recorded {
+            number,
+            place,
+            bytes,
+        },
+    }
+}
+
+// Replays a sample by the library and, where it names no room, by the program.
+fn replay_sample(sample: Sample, tally: &mut Tally) {
+    let Ok(call) = Call::try_from(sample.call) else {
+        tally.add(false, true);
+        return;
+    };
+    let Sample {
+        room,
+        first,
+        second,
+        recorded,
+        ..
+    } = sample;
+    let agrees = calls::so(
         call,
-        front,
+        room.unwrap_or(call.longest()),
         first,
         second,
-    }
-}
-
-// Where a sample's number stands, behind its inputs.
-fn number_at(m: Sample) -> usize
-    requires { (m.front ≤ 5) × (m.first < 4294967296) × (m.second < 4294967296) }
-    ensures { result < 8589934613 }
-{
-    m.front + 8 + m.first + m.second
-}
-
-// How many bytes a sample has.
-fn size_of(s: &[u8], m: Sample) -> usize
-    requires { (m.front ≤ 5) × (m.first < 4294967296) × (m.second < 4294967296) }
-{
-    let at = number_at(m);
-    at + 5 + answer_length(byte_at(s, at, 0), u32_at(s, at, 1))
-}
-
-// Whether a sample's call answers as recorded, by the library and, where it names no room, by the program too.
-fn agrees(s: &[u8], m: Sample) -> bool
-    requires { (m.front ≤ 5) × (m.first < 4294967296) × (m.second < 4294967296) }
-{
-    let at = number_at(m);
-    let number = byte_at(s, at, 0);
-    let place = u32_at(s, at, 1);
-    let bytes = part(s, at + 5, answer_length(number, place));
-    let first = part(s, m.front + 4, m.first);
-    let second = part(s, m.front + 8 + m.first, m.second);
-    if !calls::so(
-        m.call % 128,
-        room_of(s, m.call),
-        first,
-        second,
-        number,
-        place,
-        bytes,
-    ) {
-        return false;
-    }
-    !programs::runs(m.call) | programs::so(m.call, first, second, number, place, bytes)
-}
-
-// A count with one more, where there is one.
-fn more(n: u64, one: bool) -> u64 {
-    if one {
-        return n.wrapping_add(1);
-    }
-    n
-}
-
-// The count with one sample more.
-fn counted(c: Count, call: u8, agrees: bool) -> Count {
-    Count {
-        run: more(c.run, true),
-        told: more(c.told, programs::runs(call)),
-        differ: more(c.differ, !agrees),
-    }
+        recorded,
+    );
+    let told = match room {
+        Some(_) => None,
+        None => programs::so(call, first, second, recorded),
+    };
+    tally.add(told.is_some(), !agrees || told == Some(false));
 }
 
 // Replays the samples that a file holds.
-fn replay(s: &[u8]) -> Count {
-    let mut c = Count {
+// Stays: how long a sample is stands in it, so no chunks of std go over them.
+fn replay(s: &[u8]) -> Tally {
+    let mut tally = Tally {
         run: 0,
         told: 0,
         differ: 0,
     };
     let mut rest = s;
-    let mut turns = 1_000_000u64;
-    while 0 < turns {
-        if rest.len() == 0 {
-            return c;
-        }
-        let m = sample_of(rest);
-        c = counted(c, m.call, agrees(rest, m));
-        let next = part(rest, size_of(rest, m), s.len());
-        rest = next;
-        turns -= 1;
+    while !rest.is_empty() {
+        replay_sample(take_sample(&mut rest), &mut tally);
     }
-    c
-}
-
-// Writes to standard output, and tells on standard error where not all could be written.
-fn write_out(rt: &(impl Print + Eprint), bytes: &[u8]) {
-    tonekit_edge::write_out(rt, "replay", bytes);
-}
-
-// Writes a word and a number.
-fn say(rt: &(impl Print + Eprint), word: &[u8], n: u64) {
-    let mut text = itoa::Buffer::new();
-    write_out(rt, word);
-    write_out(rt, text.format(n).as_bytes());
+    tally
 }
 
 // Opens a file of samples, replays it and writes a line; a file that is not there has no bytes.
@@ -196,31 +162,26 @@ fn report<R: Files + Print + Eprint>(rt: &R, name: &str) -> io::Result<()> {
         Ok(mut file) => tonekit_edge::read_full(&mut file, &mut buf)?,
         Err(_) => 0,
     };
-    let c = replay(&buf[..n]);
-    write_out(rt, name.as_bytes());
-    say(rt, b": bytes ", n as u64);
-    say(rt, b", calls ", c.run);
-    say(rt, b", by programs ", c.told);
-    say(rt, b", differ ", c.differ);
-    write_out(rt, b"\n");
+    let Tally { run, told, differ } = replay(&buf[..n]);
+    tonekit_edge::say(
+        rt,
+        "replay",
+        format_args!("{name}: bytes {n}, calls {run}, by programs {told}, differ {differ}\n"),
+    );
     Ok(())
 }
 
 // Replays every file, and asks `check` by words that it does not know.
 fn main(rt: HostRuntime) -> io::Result<()> {
-    report(&rt, "checks.bin")?;
-    report(&rt, "shapes.bin")?;
-    report(&rt, "sheets.bin")?;
-    report(&rt, "judgements.bin")?;
-    report(&rt, "functions.bin")?;
-    report(&rt, "cover.bin")?;
-    report(&rt, "steps.bin")?;
-    say(
+    for name in FILES {
+        report(&rt, name)?;
+    }
+    let words = programs::UNKNOWN_WORDS.len();
+    let differ = programs::unknown_words_differ();
+    tonekit_edge::say(
         &rt,
-        b"words that check does not know: ",
-        programs::UNKNOWN_WORDS,
+        "replay",
+        format_args!("words that check does not know: {words}, differ {differ}\n"),
     );
-    say(&rt, b", differ ", programs::unknown_words_differ());
-    write_out(&rt, b"\n");
     Ok(())
 }

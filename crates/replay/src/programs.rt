@@ -1,132 +1,112 @@
 // The functions behind the programs: what each writes of a sample.
-ghost use Rattle.std.specs.Prelude.{◌≡◌, ◌≤◌, length};
-
-use crate::lent;
+use crate::calls::Call;
+use crate::recorded::{FILL, Recorded, untouched};
+use std::convert::AsSlice;
 use tonekit_core::layout;
-use tonekit_output::CheckAnswer;
 
 // The longest query that the input of a station has room for behind the longest pack, and that input.
 const QUERY: usize = 14000;
 
 const INPUT: usize = 80000;
 
-// How many words `unknown_words_differ` tries.
-pub const UNKNOWN_WORDS: u64 = 6;
+// Words that `check` does not know.
+pub const UNKNOWN_WORDS: [&str; 6] = ["", "pac", "packs", "Pack", "judge", "sheet "];
 
-// Whether a call is a program's work, lent what the program lends.
-pub fn runs(call: u8) -> bool {
-    match call {
-        1 | 2 | 3 | 4 | 5 | 6 | 7 => true,
-        _ => false,
-    }
-}
-
-// Whether what is told is as recorded: the bytes, or 52, number, u32 place; and nothing behind it.
-fn told(out: &[u8], n: usize, number: u8, place: u32, bytes: &[u8]) -> bool {
-    if number == 0 {
-        return lent::wrote(out, n, bytes);
-    }
-    let record = [
-        layout::REFUSAL_KIND,
-        number,
-        (place % 256) as u8,
-        (place / 256 % 256) as u8,
-        (place / 65536 % 256) as u8,
-        (place / 16777216 % 256) as u8,
-    ];
-    lent::wrote(out, n, &record)
+// Whether a program tells as recorded of what is lent to it.
+fn told<B: AsSlice<u8>, F: FnOnce(&mut B) -> usize>(
+    recorded: Recorded,
+    lent: &mut B,
+    program: F,
+) -> bool
+    requires { F.IsAlwaysCallable program }
+{
+    let n = program(lent);
+    recorded.told(lent.as_slice(), n)
 }
 
 // Whether `check` with a word tells as recorded.
-fn checked(word: &[u8], input: &[u8], number: u8, place: u32, bytes: &[u8]) -> bool {
-    let mut out = [lent::FILL; layout::REFUSAL_SIZE];
+fn checked(word: &[u8], input: &[u8], recorded: Recorded) -> bool {
+    let mut out = [FILL; layout::REFUSAL_SIZE];
     match tonekit_output::check_output(word, input, &mut out) {
-        CheckAnswer::Tells(n) => told(&out, n, number, place, bytes),
-        CheckAnswer::UnknownWord => false,
+        Some(n) => recorded.told(&out, n),
+        None => false,
     }
 }
 
 // Whether `check` does not know a word, and leaves what it was lent.
 fn unknown(word: &[u8]) -> bool {
-    let mut out = [lent::FILL; layout::REFUSAL_SIZE];
-    match tonekit_output::check_output(word, b"", &mut out) {
-        CheckAnswer::Tells(_) => false,
-        CheckAnswer::UnknownWord => lent::untouched(&out, 0),
-    }
-}
-
-// One where it differs.
-fn one(differs: bool) -> u64
-    ensures { result ≤ 1 }
-{
-    if differs { 1 } else { 0 }
+    let mut out = [FILL; layout::REFUSAL_SIZE];
+    tonekit_output::check_output(word, b"", &mut out).is_none() && untouched(&out)
 }
 
 // Of words that `check` does not know, how many it takes.
-pub fn unknown_words_differ() -> u64 {
-    one(!unknown(b""))
-        + one(!unknown(b"pac"))
-        + one(!unknown(b"packs"))
-        + one(!unknown(b"Pack"))
-        + one(!unknown(b"judge"))
-        + one(!unknown(b"sheet "))
+pub fn unknown_words_differ() -> usize {
+    UNKNOWN_WORDS
+        .iter()
+        .filter(|word| !unknown(word.as_bytes()))
+        .count()
 }
 
-// Whether `shape` tells as recorded.
-fn shaped(query: &[u8], number: u8, place: u32, bytes: &[u8]) -> bool {
-    let mut out = [lent::FILL; layout::SHAPE_SIZE];
-    let n = tonekit_output::shape_output(query, &mut out);
-    told(&out, n, number, place, bytes)
-}
-
-// Whether `sheet` tells as recorded.
-fn sheeted(pack: &[u8], number: u8, place: u32, bytes: &[u8]) -> bool {
-    let mut out = [lent::FILL; layout::SHEET_MOST];
-    let n = tonekit_output::sheet_output(pack, &mut out);
-    told(&out, n, number, place, bytes)
-}
-
-// Puts together the input of a station: u16 length, pack or sheet, query. Its length, or 0 where there is no room.
-fn put_input(space: &mut [u8], held: &[u8], query: &[u8]) -> usize
-    requires { 80000 ≡ length space.old }
-{
-    if 65535 < held.len() {
-        return 0;
+// Puts together the input of a station: u16 length, pack or sheet, query; none where there is no room.
+fn put_input(space: &mut [u8; INPUT], held: &[u8], query: &[u8]) -> Option<usize> {
+    if 65535 < held.len() || QUERY < query.len() {
+        return None;
     }
-    if QUERY < query.len() {
-        return 0;
-    }
+    let at = 2 + held.len();
     tonekit_bytes::put_u16(space, 0, held.len() as u16);
     tonekit_bytes::put_bytes(space, 2, held);
-    tonekit_bytes::put_bytes(space, 2 + held.len(), query);
-    2 + held.len() + query.len()
+    tonekit_bytes::put_bytes(space, at, query);
+    Some(at + query.len())
 }
 
-// Whether `station`, or `station_sheet`, tells as recorded.
-fn judged(call: u8, held: &[u8], query: &[u8], number: u8, place: u32, bytes: &[u8]) -> bool {
+// Whether a station, on a pack or on a sheet, tells as recorded.
+fn judged<F: FnOnce(&[u8], &mut [u8; layout::JUDGEMENT_SIZE]) -> usize>(
+    held: &[u8],
+    query: &[u8],
+    recorded: Recorded,
+    station: F,
+) -> bool
+    requires { F.IsAlwaysCallable station }
+{
     let mut space = [0u8; INPUT];
-    let n = put_input(&mut space, held, query);
-    let input = tonekit_report::front(&space, n);
-    let mut out = [lent::FILL; layout::JUDGEMENT_SIZE];
-    if n == 0 {
+    let Some(n) = put_input(&mut space, held, query) else {
         return false;
-    }
-    if call == 6 {
-        let m = tonekit_station_output::station_output(input, &mut out);
-        return told(&out, m, number, place, bytes);
-    }
-    let m = tonekit_station_output::station_sheet_output(input, &mut out);
-    told(&out, m, number, place, bytes)
+    };
+    let input = tonekit_report::front(&space, n);
+    told(recorded, &mut [FILL; layout::JUDGEMENT_SIZE], |out| {
+        station(input, out)
+    })
 }
 
-// Whether the program of a call tells as recorded.
-pub fn so(call: u8, first: &[u8], second: &[u8], number: u8, place: u32, bytes: &[u8]) -> bool {
+// Whether a call is a program's work, lent what the program lends, and then whether the program tells as recorded.
+// Stays: a sample names its call, so one place has to choose it.
+pub fn so(call: Call, first: &[u8], second: &[u8], recorded: Recorded) -> Option<bool> {
     match call {
-        1 => checked(b"pack", first, number, place, bytes),
-        2 => checked(b"query", first, number, place, bytes),
-        3 => checked(b"sheet", first, number, place, bytes),
-        4 => shaped(first, number, place, bytes),
-        5 => sheeted(first, number, place, bytes),
-        _ => judged(call, first, second, number, place, bytes),
+        Call::CheckPack => Some(checked(b"pack", first, recorded)),
+        Call::CheckQuery => Some(checked(b"query", first, recorded)),
+        Call::CheckSheet => Some(checked(b"sheet", first, recorded)),
+        Call::Shape => Some(told(
+            recorded,
+            &mut [FILL; layout::SHAPE_SIZE],
+            |out| tonekit_output::shape_output(first, out),
+        )),
+        Call::Sheet => Some(told(
+            recorded,
+            &mut [FILL; layout::SHEET_MOST],
+            |out| tonekit_output::sheet_output(first, out),
+        )),
+        Call::Judge => Some(judged(
+            first,
+            second,
+            recorded,
+            tonekit_station_output::station_output,
+        )),
+        Call::JudgeSheet => Some(judged(
+            first,
+            second,
+            recorded,
+            tonekit_station_output::station_sheet_output,
+        )),
+        _ => None,
     }
 }

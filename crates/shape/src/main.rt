@@ -6,11 +6,15 @@ use std::io;
 use tonekit_core::layout;
 
 // Reads, shapes and writes.
+// Stays: each program is a crate with a main of its own, and this one call is all that is left of it.
 fn main(rt: HostRuntime) -> io::Result<()> {
     let mut space = [0u8; 65536];
-    let n = tonekit_edge::read_full(&mut rt.reader(), &mut space)?;
     let mut out = [0u8; layout::SHAPE_SIZE];
-    let m = tonekit_output::shape_output(&space[..n], &mut out);
-    tonekit_edge::write_out(&rt, "shape", tonekit_report::front(&out, m));
-    Ok(())
+    tonekit_edge::run(
+        &rt,
+        "shape",
+        &mut space,
+        &mut out,
+        tonekit_output::shape_output,
+    )
 }

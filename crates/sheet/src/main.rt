@@ -6,11 +6,15 @@ use std::io;
 use tonekit_core::layout;
 
 // Reads, makes the sheet and writes it.
+// Stays: each program is a crate with a main of its own, and this one call is all that is left of it.
 fn main(rt: HostRuntime) -> io::Result<()> {
     let mut space = [0u8; 65536];
-    let n = tonekit_edge::read_full(&mut rt.reader(), &mut space)?;
     let mut out = [0u8; layout::SHEET_MOST];
-    let m = tonekit_output::sheet_output(&space[..n], &mut out);
-    tonekit_edge::write_out(&rt, "sheet", tonekit_report::front(&out, m));
-    Ok(())
+    tonekit_edge::run(
+        &rt,
+        "sheet",
+        &mut space,
+        &mut out,
+        tonekit_output::sheet_output,
+    )
 }

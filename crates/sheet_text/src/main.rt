@@ -3,360 +3,168 @@
 // describes the text.
 #![tactic(auto)]
 
-ghost use Rattle.std.specs.Prelude.{◌<◌, ◌≤◌};
-ghost use Rattle.tonekit_core.specs.Layout.{sheet_tone_at, sheet_accent_at};
-ghost use Rattle.tonekit_sheet_read.specs.Held.{Roomy};
-
+mod page;
 mod tables;
 
+use crate::page::{Page, Record};
 use std::env::Env;
+use std::fmt::Write;
 use std::io::Read;
 use std::rt::Files;
-use std::{fs, io, str};
-use tonekit_bytes::{byte_at, u16_at, u32_at};
+use std::{fmt, fs, io, str};
 use tonekit_core::layout;
-use tonekit_report::front;
-use tonekit_sheet_read::{Sheet, SheetRead};
-
-// Text is gathered on a page before it is written. What adds to the page takes the place of the next
-// byte, n, and answers the one after what it added.
-
-// Writes to standard output, and tells on standard error where not all could be written.
-fn write_out(rt: &(impl Print + Eprint), bytes: &[u8]) {
-    tonekit_edge::write_out(rt, "sheet_text", bytes);
-}
-
-// Where the next byte goes: n, or the front again once a full page is written.
-fn next_place(rt: &(impl Print + Eprint), page: &[u8; 4096], n: usize) -> usize
-    ensures { result < 4096 }
-{
-    if n < 4096 {
-        return n;
-    }
-    write_out(rt, page);
-    0
-}
-
-// Writes what is on the page.
-fn flush(rt: &(impl Print + Eprint), page: &[u8; 4096], n: usize) {
-    write_out(rt, front(page, n));
-}
-
-// Adds bytes to the page.
-fn add(rt: &(impl Print + Eprint), page: &mut [u8; 4096], n: usize, text: &[u8]) -> usize {
-    let mut at = n;
-    for &byte in text {
-        let place = next_place(rt, page, at);
-        page[place] = byte;
-        at = place + 1;
-    }
-    at
-}
-
-// Adds the one text or the other.
-fn add_either(
-    rt: &(impl Print + Eprint),
-    page: &mut [u8; 4096],
-    n: usize,
-    one: bool,
-    text: &[u8],
-    other: &[u8],
-) -> usize {
-    if one {
-        add(rt, page, n, text)
-    } else {
-        add(rt, page, n, other)
-    }
-}
-
-// Adds a whole number behind a text.
-fn add_whole(
-    rt: &(impl Print + Eprint),
-    page: &mut [u8; 4096],
-    n: usize,
-    text: &[u8],
-    x: u16,
-) -> usize {
-    let mut digits = itoa::Buffer::new();
-    let at = add(rt, page, n, text);
-    add(rt, page, at, digits.format(x).as_bytes())
-}
-
-// Adds the float at index o + k behind a text, as the shortest decimal that reads back to its bits.
-fn add_float(
-    rt: &(impl Print + Eprint),
-    page: &mut [u8; 4096],
-    n: usize,
-    text: &[u8],
-    s: &[u8],
-    o: usize,
-    k: usize,
-) -> usize {
-    let d = tonekit_decimal::decimal(u32_at(s, o, k));
-    let digits = d.text;
-    let at = add(rt, page, n, text);
-    add(rt, page, at, front(&digits, d.count))
-}
+use tonekit_sheet_read::Sheet;
 
 // The title and the settings.
-fn add_settings(rt: &(impl Print + Eprint), page: &mut [u8; 4096], n: usize, s: &[u8]) -> usize {
-    let n = add_float(
-        rt,
-        page,
-        n,
-        b"tonekit sheet\n\nsettings: temperature ",
-        s,
-        0,
-        layout::SETTINGS_TEMPERATURE,
-    );
-    let n = add_float(
-        rt,
-        page,
-        n,
-        b", heard threshold ",
-        s,
-        0,
-        layout::SETTINGS_THRESHOLD,
-    );
-    add(rt, page, n, b"\n\n")
+fn add_settings(out: &mut impl Write, sheet: Record) -> fmt::Result {
+    write!(
+        out,
+        "tonekit sheet\n\nsettings: temperature {}, heard threshold {}\n\n",
+        sheet.float(layout::SETTINGS_TEMPERATURE),
+        sheet.float(layout::SETTINGS_THRESHOLD)
+    )
 }
 
-// The tone at o.
-fn add_tone(
-    rt: &(impl Print + Eprint),
-    page: &mut [u8; 4096],
-    n: usize,
-    s: &[u8],
-    o: usize,
-) -> usize {
-    let n = add_whole(
-        rt,
-        page,
-        n,
-        b"tone ",
-        byte_at(s, o, layout::OWN_NUMBER) as u16,
-    );
-    let n = add_float(rt, page, n, b": prior ", s, o, layout::SHEET_TONE_PRIOR);
-    if byte_at(s, o, layout::SHEET_TONE_REGION) == 0 {
-        return add(rt, page, n, b", no region\n");
+// A tone.
+// Stays: a tone and an accent have other fields, and share no words.
+fn add_tone(out: &mut impl Write, tone: Record) -> fmt::Result {
+    write!(
+        out,
+        "tone {}: prior {}",
+        tone.byte(layout::OWN_NUMBER),
+        tone.float(layout::SHEET_TONE_PRIOR)
+    )?;
+    if tone.byte(layout::SHEET_TONE_REGION) == 0 {
+        return writeln!(out, ", no region");
     }
-    let n = add_float(rt, page, n, b", region ", s, o, layout::SHEET_TONE_FROM);
-    let n = add_float(rt, page, n, b" to ", s, o, layout::SHEET_TONE_TO);
-    add(rt, page, n, b"\n")
+    writeln!(
+        out,
+        ", region {} to {}",
+        tone.float(layout::SHEET_TONE_FROM),
+        tone.float(layout::SHEET_TONE_TO)
+    )
 }
 
-// The tones, in the sheet's order.
-fn add_tones(
-    rt: &(impl Print + Eprint),
-    page: &mut [u8; 4096],
-    n: usize,
-    s: &[u8],
-    tones: usize,
-) -> usize
-    requires { tones ≤ 8 }
-{
-    let mut at = n;
+// So many tones from the first on, in the sheet's order.
+fn add_tones(out: &mut impl Write, first: Record, tones: usize) -> fmt::Result {
     for t in 0..tones {
-        at = add_tone(rt, page, at, s, layout::sheet_tone_at(t));
+        add_tone(out, first.entry(layout::SHEET_TONE_SIZE, t))?;
     }
-    at
+    Ok(())
 }
 
-// The accent at o.
-fn add_accent(
-    rt: &(impl Print + Eprint),
-    page: &mut [u8; 4096],
-    n: usize,
-    s: &[u8],
-    o: usize,
-) -> usize {
-    let n = add_whole(
-        rt,
-        page,
-        n,
-        b"accent ",
-        byte_at(s, o, layout::OWN_NUMBER) as u16,
-    );
-    let n = add_float(
-        rt,
-        page,
-        n,
-        b": tolerances contour ",
-        s,
-        o,
-        layout::SHEET_ACCENT_CONTOUR,
-    );
-    let n = add_float(rt, page, n, b", onset ", s, o, layout::SHEET_ACCENT_ONSET);
-    let n = add_float(rt, page, n, b", offset ", s, o, layout::SHEET_ACCENT_OFFSET);
-    let n = add_float(
-        rt,
-        page,
-        n,
-        b", turning ",
-        s,
-        o,
-        layout::SHEET_ACCENT_TURNING,
-    );
-    add(rt, page, n, b"\n")
+// An accent.
+// Stays: as for a tone.
+fn add_accent(out: &mut impl Write, accent: Record) -> fmt::Result {
+    writeln!(
+        out,
+        "accent {}: tolerances contour {}, onset {}, offset {}, turning {}",
+        accent.byte(layout::OWN_NUMBER),
+        accent.float(layout::SHEET_ACCENT_CONTOUR),
+        accent.float(layout::SHEET_ACCENT_ONSET),
+        accent.float(layout::SHEET_ACCENT_OFFSET),
+        accent.float(layout::SHEET_ACCENT_TURNING)
+    )
 }
 
-// The accents from o on.
-fn add_accents(
-    rt: &(impl Print + Eprint),
-    page: &mut [u8; 4096],
-    n: usize,
-    s: &[u8],
-    o: usize,
-    accents: usize,
-) -> usize
-    requires { (o ≤ sheet_tone_at 8) × (accents ≤ 8) }
-{
-    let mut at = add(rt, page, n, b"\n");
+// So many accents from the first on.
+fn add_accents(out: &mut impl Write, first: Record, accents: usize) -> fmt::Result {
+    writeln!(out)?;
     for a in 0..accents {
-        at = add_accent(rt, page, at, s, o + layout::SHEET_ACCENT_SIZE * a);
+        add_accent(out, first.entry(layout::SHEET_ACCENT_SIZE, a))?;
     }
-    at
+    Ok(())
 }
 
-// The ten points from index o + k on.
-fn add_points(
-    rt: &(impl Print + Eprint),
-    page: &mut [u8; 4096],
-    n: usize,
-    s: &[u8],
-    o: usize,
-    k: usize,
-) -> usize
-    requires { k ≤ 20000 }
-{
-    let mut at = add_float(rt, page, n, b"    points ", s, o, k);
+// Ten points.
+fn add_points(out: &mut impl Write, points: Record) -> fmt::Result {
+    write!(out, "    points {}", points.float(0))?;
     for i in 1..10 {
-        at = add_float(rt, page, at, b", ", s, o, k + layout::F32_SIZE * i);
+        write!(out, ", {}", points.float(layout::F32_SIZE * i))?;
     }
-    add(rt, page, at, b"\n")
+    writeln!(out)
 }
 
-// The components of the list at o.
-fn add_components(
-    rt: &(impl Print + Eprint),
-    page: &mut [u8; 4096],
-    n: usize,
-    s: &[u8],
-    o: usize,
-    count: u8,
-) -> usize {
-    let mut at = n;
+// So many components from the first on.
+fn add_components(out: &mut impl Write, first: Record, count: u8) -> fmt::Result {
     for j in 0..count {
-        let k = layout::SHEET_LIST_SIZE + layout::SHEET_COMPONENT_SIZE * (j as usize);
-        at = add_whole(rt, page, at, b"  component ", j as u16);
-        at = add_float(
-            rt,
-            page,
-            at,
-            b": weight ",
-            s,
-            o,
-            k + layout::SHEET_COMPONENT_WEIGHT,
-        );
-        at = add(rt, page, at, b"\n");
-        at = add_points(rt, page, at, s, o, k + layout::SHEET_COMPONENT_POINTS);
+        let component = first.entry(layout::SHEET_COMPONENT_SIZE, usize::from(j));
+        let weight = component.float(layout::SHEET_COMPONENT_WEIGHT);
+        writeln!(out, "  component {j}: weight {weight}")?;
+        add_points(out, component.part(layout::SHEET_COMPONENT_POINTS))?;
     }
-    at
+    Ok(())
 }
 
-// The form of a list, in words.
-fn add_form(rt: &(impl Print + Eprint), page: &mut [u8; 4096], n: usize, form: u8) -> usize {
+// The word for a list's form.
+// Stays: the format numbers a list's form in a byte.
+fn form_word(form: u8) -> &'static str {
     match form {
-        1 => add(rt, page, n, b", form citation, label "),
-        2 => add(rt, page, n, b", form single, label "),
-        _ => add(rt, page, n, b", form mixture, label "),
+        1 => "citation",
+        2 => "single",
+        _ => "mixture",
     }
 }
 
-// The list at an offset.
-fn add_list(
-    rt: &(impl Print + Eprint),
-    page: &mut [u8; 4096],
-    n: usize,
-    s: &[u8],
-    offset: u16,
-) -> usize {
-    let o = offset as usize;
-    let n = add_whole(
-        rt,
-        page,
-        n,
-        b"\nlist ",
-        byte_at(s, o, layout::OWN_NUMBER) as u16,
-    );
-    let n = add_whole(
-        rt,
-        page,
-        n,
-        b": owner accent ",
-        byte_at(s, o, layout::SHEET_LIST_OWNER) as u16,
-    );
-    let n = add_form(rt, page, n, byte_at(s, o, layout::SHEET_LIST_FORM));
-    let n = add_whole(rt, page, n, b"", u16_at(s, o, layout::SHEET_LIST_LABEL));
-    let n = add(rt, page, n, b"\n");
-    add_components(rt, page, n, s, o, byte_at(s, o, layout::SHEET_LIST_COUNT))
+// A list.
+fn add_list(out: &mut impl Write, list: Record) -> fmt::Result {
+    writeln!(
+        out,
+        "\nlist {}: owner accent {}, form {}, label {}",
+        list.byte(layout::OWN_NUMBER),
+        list.byte(layout::SHEET_LIST_OWNER),
+        form_word(list.byte(layout::SHEET_LIST_FORM)),
+        list.number(layout::SHEET_LIST_LABEL)
+    )?;
+    let count = list.byte(layout::SHEET_LIST_COUNT);
+    add_components(out, list.part(layout::SHEET_LIST_SIZE), count)
 }
 
 // The lists at these offsets.
-fn add_lists(
-    rt: &(impl Print + Eprint),
-    page: &mut [u8; 4096],
-    n: usize,
-    s: &[u8],
-    offsets: &[u16; 128],
-    lists: usize,
-) -> usize
-    requires { lists ≤ 128 }
-{
-    let mut at = add(
-        rt,
-        page,
-        n,
-        b"\nlists, each component with its weight and ten points, evenly spaced from start to end:\n",
-    );
-    for i in 0..lists {
-        at = add_list(rt, page, at, s, offsets[i]);
+fn add_lists(out: &mut impl Write, sheet: Record, offsets: &[u16]) -> fmt::Result {
+    writeln!(
+        out,
+        "\nlists, each component with its weight and ten points, evenly spaced from start to end:"
+    )?;
+    for offset in offsets {
+        add_list(out, sheet.part(usize::from(*offset)))?;
     }
-    at
+    Ok(())
 }
 
 // The text of a sheet that loads.
-fn write_text(rt: &(impl Print + Eprint), s: &[u8], st: Sheet)
-    requires { Roomy st }
-{
-    let mut page = [0u8; 4096];
-    let accents = layout::sheet_tone_at(st.tones);
-    let rows = layout::sheet_accent_at(st.tones, st.accents);
-    let offsets = st.listat;
-    let n = add_settings(rt, &mut page, 0, s);
-    let n = add_tones(rt, &mut page, n, s, st.tones);
-    let n = add_accents(rt, &mut page, n, s, accents, st.accents);
-    let n = tables::add_tables(rt, &mut page, n, s, rows, st.rows, st.tones + 1);
-    let n = add_lists(rt, &mut page, n, s, &offsets, st.lists);
-    let n = add(rt, &mut page, n, b"\nend\n");
-    flush(rt, &page, n);
+fn add_sheet(out: &mut impl Write, bytes: &[u8], held: &Sheet) -> fmt::Result {
+    let sheet = Record::new(bytes, 0);
+    let rows = layout::sheet_accent_at(held.tones, held.accents);
+    add_settings(out, sheet)?;
+    add_tones(out, sheet.part(layout::sheet_tone_at(0)), held.tones)?;
+    add_accents(
+        out,
+        sheet.part(layout::sheet_tone_at(held.tones)),
+        held.accents,
+    )?;
+    tables::add_tables(out, sheet.part(rows), held.rows, held.tones + 1)?;
+    add_lists(out, sheet, &held.listat[..held.lists])?;
+    writeln!(out, "\nend")
 }
 
 // Writes the text of a sheet, or its refusal.
-fn print_sheet(rt: &(impl Print + Eprint), s: &[u8]) {
-    let l = tonekit_sheet_read::load_sheet(s);
-    let read = l.read;
-    match read {
-        SheetRead::Good(_) => write_text(rt, s, l.sheet),
-        SheetRead::Refused(r, place) => {
-            let bytes = tonekit_report::refusal_record(r, place);
-            write_out(rt, &bytes);
+fn print_sheet<R: Print + Eprint>(rt: &R, bytes: &[u8]) {
+    match tonekit_sheet_read::load_sheet(bytes) {
+        Ok(loaded) => {
+            let mut page = Page::new(rt);
+            let _ = add_sheet(&mut page, bytes, &loaded.sheet);
+            page.flush();
+        }
+        Err(rejection) => {
+            let record = tonekit_report::refusal_record(rejection);
+            tonekit_edge::write_out(rt, "sheet_text", &record);
         }
     }
 }
 
 // Prints the sheet that an open file holds.
-fn print_open(rt: &(impl Print + Eprint), file: &mut impl Read) -> io::Result<()> {
+fn print_open<R: Print + Eprint>(rt: &R, file: &mut impl Read) -> io::Result<()> {
     let mut space = [0u8; 65536];
     let n = tonekit_edge::read_full(file, &mut space)?;
     print_sheet(rt, &space[..n]);

@@ -7,11 +7,15 @@ use tonekit_core::layout;
 
 // The space holds 2 + 65,535 + 10,287 bytes and more, so the answer is that of the whole input
 // (`station_enough` of tonekit_station).
+// Stays: each program is a crate with a main of its own, and this one call is all that is left of it.
 fn main(rt: HostRuntime) -> io::Result<()> {
     let mut space = [0u8; 80000];
-    let n = tonekit_edge::read_full(&mut rt.reader(), &mut space)?;
     let mut out = [0u8; layout::JUDGEMENT_SIZE];
-    let m = tonekit_station_output::station_output(&space[..n], &mut out);
-    tonekit_edge::write_out(&rt, "station", tonekit_report::front(&out, m));
-    Ok(())
+    tonekit_edge::run(
+        &rt,
+        "station",
+        &mut space,
+        &mut out,
+        tonekit_station_output::station_output,
+    )
 }

@@ -1,14 +1,8 @@
 -- The accents of a pack's book, each with its rules, are those of its records (`accents_own`). Assumes nothing.
-use Prim.Native.Nat.{ℕ, ◌+◌, ◌-◌, ◌≤◌, ◌<◌}
-use mathlib.Core.Path.{◌≡◌, refl, sym, ◌∙◌, ap, ap₂, subst}
-use mathlib.Core.Bool.{true, cond, ◌&&◌, ◌||◌}
-use mathlib.Core.List.{List, [], ◌∷◌, ◌++◌, map, append_assoc}
-use native.Mathlib.Omega.{arith}
-use lib.Dec.{eqb, leb, ltb}
-use borrow.Author.Tests.{lt-ltb, le-ltb, eqb-true, eqb-false, ltb-false}
-use lib.ListN.{length, get_or, drop, get_or-append}
-use lib.Seq.{get_or-append-add, get_or-drop}
-use Rattle.tonekit_core.specs.declared.Verdict.TheVariants as verdict
+use Rattle.std.proofs.Common.{ℕ, ◌+◌, ◌-◌, ◌≤◌, ◌<◌, ◌≡◌, refl, sym, ◌∙◌, ap, ap₂, subst, true, cond, ◌&&◌, ◌||◌, List, [], ◌∷◌, ◌++◌, map, append_assoc, arith, eqb, leb, ltb, lt-ltb, le-ltb, eqb-true, ltb-false, length, get_or, drop, get_or-append-add, get_or-drop}
+use borrow.Author.Tests.{eqb-false}
+use lib.ListN.{get_or-append}
+use Rattle.std.specs.Prelude.{Ok}
 use Rattle.tonekit_bytes.specs.Fields.{byte_at}
 use Rattle.tonekit_pack.specs.Pack.{Pst, size_of, number_at, rule_fine, part_fine, added, start}
 use Rattle.tonekit_core.proofs.Split.{split, both, either, neither}
@@ -136,14 +130,14 @@ module _ (s : List ℕ) (at : ℕ) (fin : Pst) (a q : ℕ) (r : List ℕ) (g : G
       }
 
 -- ---- what a record that is fine shows of its own bytes
-pub rule_form_lem : (r : List ℕ) (t : Tally) → body_verdict_of r t ≡ verdict.Fine → kind r ≡ 4 → byte_at r 6 ≡ 1 → ⊥
+pub rule_form_lem : (r : List ℕ) (t : Tally) → body_verdict_of r t ≡ Ok tt → kind r ≡ 4 → byte_at r 6 ≡ 1 → ⊥
 unfolding body_verdict_of
 rule_form_lem r t e k one =
     let p = passed (leb 64 t.rules) (rule_fine r 0) true (zero_or_among t.tones (byte_at r 3) && zero_or_among t.tones (byte_at r 4)) (rw k at e) in
     let b = both (leb (byte_at r 5) 2) (eqb (byte_at r 6) 2 || eqb (byte_at r 6) 3) p.ranges in
     either (eqb (byte_at r 6) 2) (eqb (byte_at r 6) 3) b.1 (λ z. let y = eqb-true (byte_at r 6) 2 z in omega arith) (λ z. let y = eqb-true (byte_at r 6) 3 z in omega arith)
 
-pub part_few : (r : List ℕ) (t : Tally) → body_verdict_of r t ≡ verdict.Fine → kind r ≡ 5 → byte_at r 5 ≤ 10
+pub part_few : (r : List ℕ) (t : Tally) → body_verdict_of r t ≡ Ok tt → kind r ≡ 5 → byte_at r 5 ≤ 10
 unfolding body_verdict_of
 part_few r t e k =
     let last = (last_single t && leb 1 t.parts) || ltb 10 (byte_at r 5) in

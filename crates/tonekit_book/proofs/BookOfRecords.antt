@@ -1,11 +1,6 @@
 -- The book of a pack is that of its records (`book_of_records_lem`), and so, for every pack that loads, is all that its station holds (`records_source`) and
 -- its sheet (`records_sheet`). Assumes nothing.
-use Prim.Native.Nat.{ℕ}
-use mathlib.Core.Path.{◌≡◌, refl, sym, ◌∙◌, ap, ap₂}
-use mathlib.Core.Bool.{true}
-use mathlib.Core.List.{List, ◌∷◌, ◌++◌, append_assoc}
-use native.Mathlib.Omega.{arith}
-use lib.ListN.{length, drop}
+use Rattle.std.proofs.Common.{ℕ, ◌≡◌, refl, sym, ◌∙◌, ap, ap₂, true, List, ◌∷◌, ◌++◌, append_assoc, arith, length, drop}
 use Rattle.tonekit_pack.specs.Pack.{Pst, due_after, size_of, loaded, start, read_pack}
 use Rattle.tonekit_core.proofs.Split.{absurd_bool}
 use Rattle.tonekit_pack.proofs.Records.{Due, due_is, settings, tone, accent, rule, part, finish}

@@ -1,11 +1,6 @@
 -- What the reader keeps of one record, and that it keeps it: later records only add to its lists. Assumes nothing.
-use Prim.Native.Nat.{ℕ, ◌+◌, ◌≤◌, ◌<◌}
-use mathlib.Core.Path.{◌≡◌, refl, ◌∙◌, ap}
-use mathlib.Core.Bool.{false}
-use mathlib.Core.List.{List, [], ◌∷◌, ◌++◌}
-use native.Mathlib.Omega.{arith}
-use lib.Dec.{eqb}
-use lib.ListN.{length, get_or, length-append, get_or-append}
+use Rattle.std.proofs.Common.{ℕ, ◌+◌, ◌≤◌, ◌<◌, ◌≡◌, refl, ◌∙◌, ap, false, List, [], ◌∷◌, ◌++◌, arith, eqb, length, get_or, length-append}
+use lib.ListN.{get_or-append}
 use lib.Seq.{get_or-append_seam}
 use Rattle.tonekit_pack.specs.Pack.{Pst, added}
 use Rattle.tonekit_core.proofs.Split.{split}

@@ -1,15 +1,7 @@
 -- A rule says the same where it stands in a pack, with its parts behind it, and by the bytes of it and its parts alone (`rule_own`). Assumes nothing.
-use Prim.Native.Nat.{ℕ, zero, suc, ◌+◌, ◌*◌, ◌≤◌, ◌<◌, min}
-use mathlib.Core.Path.{◌≡◌, refl, sym, ◌∙◌, ap, ap₂}
-use mathlib.Core.Bool.{cond}
-use mathlib.Core.List.{List, [], ◌∷◌, ◌++◌}
-use native.Mathlib.Omega.{arith}
+use Rattle.std.proofs.Common.{ℕ, zero, suc, ◌+◌, ◌*◌, ◌≤◌, ◌<◌, min, ◌≡◌, refl, sym, ◌∙◌, ap, ap₂, cond, List, [], ◌∷◌, ◌++◌, arith, eqb, eq-eqb, ne_eqb, length, length-append, get_or-append-add, Float}
 use native.Mathlib.Nat.{zero-min, min-zero, suc-min-suc, min-le_right}
-use lib.Dec.{eqb}
-use borrow.Author.Tests.{eq-eqb, ne_eqb}
-use lib.ListN.{length, length-append, get_or-append, get_or-eq_default}
-use lib.Seq.{get_or-append-add}
-use lib.Ieee.{Float}
+use lib.ListN.{get_or-append, get_or-eq_default}
 use Rattle.tonekit_bytes.specs.Fields.{byte_at, u16_at}
 use Rattle.tonekit_pack.specs.Pack.{parts_from}
 use Rattle.tonekit_expect.specs.declared.Listing.{Listing}

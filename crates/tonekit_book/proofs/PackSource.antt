@@ -1,22 +1,13 @@
 -- A pack's lookups are those of its book (`look_same`), and so is all that a station with the pack holds (`pack_source`). Assumes nothing.
-use Prim.Native.Nat.{ℕ, zero, suc, ◌+◌, ◌-◌}
-use mathlib.Core.Path.{◌≡◌, refl, sym, ◌∙◌, ap, ap₂}
-use mathlib.Core.Bool.{Bool, true, false, cond, ◌&&◌}
-use mathlib.Core.List.{List}
+use Rattle.std.proofs.Common.{ℕ, zero, suc, ◌+◌, ◌-◌, ◌≡◌, refl, sym, ◌∙◌, ap, ap₂, Bool, true, false, cond, ◌&&◌, List, arith, eqb, length, get_or}
 use mathlib.Core.Option.{Option, none, some}
-use native.Mathlib.Omega.{arith}
-use lib.Dec.{eqb}
-use lib.ListN.{length, get_or}
 use Rattle.tonekit_core.specs.Loop.{Turn, next, stop, fold, turns, range, turns_to, range_to, loop_on, loop_to}
 use Rattle.tonekit_bytes.specs.Fields.{byte_at}
 use Rattle.tonekit_pack.specs.Pack.{Pst, number_at, parts_from}
 use Rattle.tonekit_core.proofs.Split.{split}
 use Rattle.tonekit_expect.specs.declared.Context.{Context}
-use Rattle.tonekit_expect.specs.declared.Found.{Found}
-use Rattle.tonekit_expect.specs.declared.Found.TheVariants as found
-use Rattle.tonekit_expect.specs.declared.Winner.{Winner}
-use Rattle.tonekit_expect.specs.declared.Winner.TheVariants as winner
-use Rattle.tonekit_expect.specs.Lookup.{index_turn, index_of, matches, specificity, more_than, better_of, from_rule, to_rule, best_turn, best_rule, parent_of, or_parent, climb_turn, find_rule, rule_listing, listed, look_at, look_up}
+use Rattle.std.specs.Prelude.{Some, None}
+use Rattle.tonekit_expect.specs.Lookup.{Found, Walked, won, index_turn, index_of, matches, specificity, more_than, better_of, from_rule, to_rule, best_turn, best_rule, parent_of, or_parent, climb_turn, find_rule, rule_listing, listed, look_at, look_up}
 use Rattle.tonekit_expect.specs.Source.{Carried, components, given, settings_at, tone_at, accent_at, source_of_pack}
 use Rattle.tonekit_book.specs.Book.{Rule, BookAccent, BookTone, first_with, book_accent_in, rule_matches, conditions, better_rule, best_of, given_or, from_parent, climb, or_citation, look_with, look_in, source_of, tabulate, book_tone_at, rule_at, pack_tone, pack_accent, book_of}
 use Rattle.tonekit_book.proofs.Tabulate.{tabulate_length, map_tabulate, tabulate_all}
@@ -24,8 +15,8 @@ use Rattle.tonekit_book.proofs.Tabulate.{tabulate_length, map_tabulate, tabulate
 -- ---- a search by number
 -- what stands at the place that was found
 abbrev pub at_found : {A : Type 0} → (ℕ → A) → Found → Option A
-at_found g (found.At i) = some (g i)
-at_found g found.Nothing = none
+at_found g (Some i) = some (g i)
+at_found g None = none
 
 halted : {S R : Type 0} (f : ℕ → S → Turn S R) (g : S → R) (k i : ℕ) (r : R) → turns_to f g k i (stop r) ≡ r
 unfolding turns_to
@@ -33,12 +24,12 @@ halted f g zero i r = refl
 halted f g (suc k) i r = refl
 
 module _ {A : Type 0} (number : A → ℕ) (s os : List ℕ) (n : ℕ) (g : ℕ → A) (named : (i : ℕ) → number (g i) ≡ number_at s (get_or os i 0)) where
-  found_from : (k i u : ℕ) → at_found g (turns_to (index_turn s os n) (λ u. found.Nothing) k i (next u)) ≡ first_with number (tabulate g k i) n
+  found_from : (k i u : ℕ) → at_found g (turns_to (index_turn s os n) (λ u. None) k i (next u)) ≡ first_with number (tabulate g k i) n
   unfolding turns_to tabulate first_with
   found_from zero i u = refl
   found_from (suc k) i u =
       split (eqb (number_at s (get_or os i 0)) n)
-      (λ t. rw (named i, t, halted (index_turn s os n) (λ u. found.Nothing) k (i + 1) (found.At i)))
+      (λ t. rw (named i, t, halted (index_turn s os n) (λ u. None) k (i + 1) (Some i)))
       (λ t. rw (named i, t) (found_from k (i + 1) u))
 
   pub index_same : at_found g (index_of s os n) ≡ first_with number (tabulate g (length os) 0) n
@@ -50,14 +41,14 @@ module _ (s : List ℕ) (owner : ℕ) (rules : List ℕ) (c : Context) where
   abbrev rule : ℕ → Rule
   rule o = rule_at s owner o
 
-  found_cond : (t : Bool) (o : ℕ) (f : Found) → at_found rule (cond t (found.At o) f) ≡ cond t (some (rule o)) (at_found rule f)
+  found_cond : (t : Bool) (o : ℕ) (f : Found) → at_found rule (cond t (Some o) f) ≡ cond t (some (rule o)) (at_found rule f)
   found_cond true o f = refl
   found_cond false o f = refl
 
   better_same : (f : Found) (o : ℕ) → at_found rule (better_of s c f o) ≡ better_rule c (at_found rule f) (rule o)
   unfolding better_of better_rule matches specificity rule_matches conditions
-  better_same (found.At b) o = found_cond (matches s c o && more_than s (found.At b) o) o (found.At b)
-  better_same found.Nothing o = found_cond (matches s c o && true) o found.Nothing
+  better_same (Some b) o = found_cond (matches s c o && more_than s (Some b) o) o (Some b)
+  better_same None o = found_cond (matches s c o && true) o None
 
   best_from : (k i : ℕ) (f : Found) → at_found rule (turns (best_turn s rules c) k i f) ≡ fold (better_rule c) (at_found rule f) (tabulate (λ k. rule (get_or rules k 0)) k i)
   unfolding turns fold tabulate
@@ -67,7 +58,7 @@ module _ (s : List ℕ) (owner : ℕ) (rules : List ℕ) (c : Context) where
 pub best_same : (s : List ℕ) (st : Pst) (c : Context) (i owner : ℕ)
     → at_found (rule_at s owner) (best_rule s st c i) ≡ best_of c (tabulate (λ k. rule_at s owner (get_or st.rules k 0)) (to_rule st i - from_rule st i) (from_rule st i))
 unfolding best_rule range best_of
-best_same s st c i owner = best_from s owner st.rules c (to_rule st i - from_rule st i) (from_rule st i) found.Nothing
+best_same s st c i owner = best_from s owner st.rules c (to_rule st i - from_rule st i) (from_rule st i) None
 
 -- ---- the walk up the parents
 stops : {S R : Type 0} (f : S → Turn S R) (d : R) (n : ℕ) (r : R) → loop_on f d n (stop r) ≡ r
@@ -80,26 +71,26 @@ module _ (s : List ℕ) (st : Pst) (c : Context) where
   accents = tabulate (pack_accent s st) (length st.accents) 0
 
   -- the components of the rule that the walk ends with
-  abbrev won : Winner → Option (List Carried)
-  won (winner.Rule i o) = some (components s (rule_listing s (number_at s (get_or st.accents i 0)) o) (parts_from 4 s (o + 7)))
-  won winner.Nothing = none
+  abbrev its_list : Walked → Option (List Carried)
+  its_list (Some w) = some (components s (rule_listing s (number_at s (get_or st.accents w.accent 0)) w.rule) (parts_from 4 s (w.rule + 7)))
+  its_list None = none
 
   parent_same : (i : ℕ) → at_found (pack_accent s st) (parent_of s st i) ≡ book_accent_in accents (pack_accent s st i).parent
   parent_same i = index_same (λ (a : BookAccent). a.accent.number) s st.accents (pack_accent s st i).parent (pack_accent s st) (λ i. refl)
 
   -- n accents at most, from accent i on
-  abbrev walk : ℕ → ℕ → Winner
-  walk n i = loop_to (climb_turn s st c) winner.Nothing n i
+  abbrev walk : ℕ → ℕ → Walked
+  walk n i = loop_to (climb_turn s st c) None n i
 
-  step : (n i : ℕ) → ((j : ℕ) → won (walk n j) ≡ climb accents c n (pack_accent s st j)) → (f : Found) → best_rule s st c i ≡ f → (p : Found) → parent_of s st i ≡ p
-      → won (loop_on (climb_turn s st c) winner.Nothing n (or_parent s st i f)) ≡ given_or (at_found (rule_at s (number_at s (get_or st.accents i 0))) f)
+  step : (n i : ℕ) → ((j : ℕ) → its_list (walk n j) ≡ climb accents c n (pack_accent s st j)) → (f : Found) → best_rule s st c i ≡ f → (p : Found) → parent_of s st i ≡ p
+      → its_list (loop_on (climb_turn s st c) None n (or_parent s st i f)) ≡ given_or (at_found (rule_at s (number_at s (get_or st.accents i 0))) f)
       (from_parent (climb accents c n) (at_found (pack_accent s st) p))
   unfolding loop_to
-  step n i ih (found.At o) e p g = rw (stops (climb_turn s st c) winner.Nothing n (winner.Rule i o))
-  step n i ih found.Nothing e (found.At j) g = rw g (ih j)
-  step n i ih found.Nothing e found.Nothing g = rw (g, stops (climb_turn s st c) winner.Nothing n winner.Nothing)
+  step n i ih (Some o) e p g = rw (stops (climb_turn s st c) None n (Some (won i o)))
+  step n i ih None e (Some j) g = rw g (ih j)
+  step n i ih None e None g = rw (g, stops (climb_turn s st c) None n None)
 
-  pub walk_same : (n i : ℕ) → won (walk n i) ≡ climb accents c n (pack_accent s st i)
+  pub walk_same : (n i : ℕ) → its_list (walk n i) ≡ climb accents c n (pack_accent s st i)
   unfolding loop_to loop_on climb climb_turn
   walk_same zero i = refl
   walk_same (suc n) i =
@@ -109,15 +100,15 @@ module _ (s : List ℕ) (st : Pst) (c : Context) where
 -- ---- the lookup
 module _ (s : List ℕ) (st : Pst) (c : Context) where
   -- the rule's components, or the citation of the tone at o
-  given_same : (o : ℕ) (w : Winner) → given s (listed s st c o w) ≡ or_citation c.accent (book_tone_at s o) (won s st c w)
-  given_same o (winner.Rule i r) = refl
-  given_same o winner.Nothing = split (eqb (byte_at s (o + 6)) 0) (λ t. rw t) (λ t. rw t)
+  given_same : (o : ℕ) (w : Walked) → given s (listed s st c o w) ≡ or_citation c.accent (book_tone_at s o) (its_list s st c w)
+  given_same o (Some w) = refl
+  given_same o None = split (eqb (byte_at s (o + 6)) 0) (λ t. rw t) (λ t. rw t)
 
   at_same : (a t : Found) → given s (look_at s st c a t) ≡ look_with (accents s st c) c (at_found (pack_accent s st) a) (at_found (pack_tone s st) t)
   unfolding find_rule
-  at_same found.Nothing t = refl
-  at_same (found.At i) found.Nothing = refl
-  at_same (found.At i) (found.At t) =
+  at_same None t = refl
+  at_same (Some i) None = refl
+  at_same (Some i) (Some t) =
       given_same (get_or st.tones t 0) (find_rule s st c i)
       ∙ ap (or_citation c.accent (pack_tone s st t)) (walk_same s st c (length st.accents) i ∙ ap (λ n. climb (accents s st c) c n (pack_accent s st i)) (sym (tabulate_length (pack_accent s st) (length st.accents) 0)))
 

@@ -1,7 +1,5 @@
 -- The sheet of a pack is a function of its book (`pack_sheet`): packs with one book hold the same and have one sheet. Assumes nothing.
-use Prim.Native.Nat.{ℕ}
-use mathlib.Core.Path.{◌≡◌, sym, ◌∙◌, ap}
-use mathlib.Core.List.{List}
+use Rattle.std.proofs.Common.{ℕ, ◌≡◌, sym, ◌∙◌, ap, List}
 use Rattle.tonekit_pack.specs.Pack.{Pst}
 use Rattle.tonekit_expect.specs.Source.{source_of_pack}
 use Rattle.tonekit_sheet.specs.Sheet.{sheet}

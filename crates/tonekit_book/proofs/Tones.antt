@@ -1,14 +1,7 @@
 -- The tones of a pack's book are those of its records (`tones_own`). Assumes nothing.
-use Prim.Native.Nat.{ℕ, ◌+◌, ◌-◌, ◌≤◌}
-use mathlib.Core.Path.{◌≡◌, refl, sym, ◌∙◌, ap, ap₂}
-use mathlib.Core.Bool.{true, not, cond, ◌||◌}
-use mathlib.Core.List.{List, [], ◌∷◌, ◌++◌, map, append_assoc}
+use Rattle.std.proofs.Common.{ℕ, ◌+◌, ◌-◌, ◌≤◌, ◌≡◌, refl, sym, ◌∙◌, ap, ap₂, true, not, cond, ◌||◌, List, [], ◌∷◌, ◌++◌, map, append_assoc, arith, eqb, leb, ltb, eqb-true, ltb-false, length, drop}
 use mathlib.Core.Option.{none, some}
-use native.Mathlib.Omega.{arith}
-use lib.Dec.{eqb, leb, ltb}
-use borrow.Author.Tests.{eqb-true, ltb-false}
-use lib.ListN.{length, drop}
-use Rattle.tonekit_core.specs.declared.Verdict.TheVariants as verdict
+use Rattle.std.specs.Prelude.{Ok}
 use Rattle.tonekit_bytes.specs.Fields.{byte_at}
 use Rattle.tonekit_pack.specs.Ranges.{one_f}
 use Rattle.tonekit_pack.specs.Pack.{Pst, size_of, number_at, tone_fine, added, start}
@@ -28,7 +21,7 @@ use Rattle.tonekit_book.proofs.Lasting.{tone_grew, tone_kept, lasts, one_longer,
 use Rattle.tonekit_book.proofs.OwnRule.{knots_own}
 
 -- ---- one tone by its own bytes
-tone_few : (r : List ℕ) (t : Tally) → body_verdict_of r t ≡ verdict.Fine → kind r ≡ 2 → byte_at r 6 ≤ 10
+tone_few : (r : List ℕ) (t : Tally) → body_verdict_of r t ≡ Ok tt → kind r ≡ 2 → byte_at r 6 ≤ 10
 unfolding body_verdict_of
 tone_few r t e k =
     let p = passed (leb 8 (length t.tones) || ltb 10 (byte_at r 6)) (tone_fine r 0) (not (among t.tones (number_at r 0))) true (rw k at e) in

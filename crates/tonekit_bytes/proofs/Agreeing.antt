@@ -1,14 +1,7 @@
 -- Two inputs that agree on their first n bytes: their fields there are the same, and so is what is asked of their lengths. Assumes nothing.
-use Prim.Native.Nat.{ℕ, ◌+◌, ◌≤◌, ◌<◌}
-use mathlib.Core.Path.{◌≡◌, refl, sym, ap, ◌∙◌}
-use mathlib.Core.List.{List}
-use mathlib.Core.Bool.{Bool, true, false}
-use native.Mathlib.Omega.{arith}
-use lib.Dec.{leb, ltb}
-use lib.ListN.{length, take}
-use lib.Seq.{take_all, length-take-le, get_or-take}
+use Rattle.std.proofs.Common.{ℕ, ◌+◌, ◌≤◌, ◌<◌, ◌≡◌, refl, sym, ap, ◌∙◌, List, Bool, true, false, arith, leb, ltb, length, take, take_all, length-take-le, get_or-take, leb-true, leb-false, lt-ltb, le-ltb}
 use lib.Ieee.{binary32, of_bits}
-use borrow.Author.Tests.{leb-true, leb-false, lt-leb, lt-ltb, le-ltb}
+use borrow.Author.Tests.{lt-leb}
 use Rattle.tonekit_bytes.specs.Fields.{byte_at, u16_at, u32_at, f32_at}
 
 -- the same bytes, and no place up to n that only one of them reaches

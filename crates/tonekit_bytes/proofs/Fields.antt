@@ -1,9 +1,6 @@
 -- The ranges of fields in a list of bytes, and what stands past its end. Assumes nothing.
-use mathlib.Core.Path.{◌≡◌}
-use mathlib.Core.List.{List}
-use Prim.Native.Nat.{ℕ, ◌+◌, ◌≤◌, ◌<◌}
-use native.Mathlib.Omega.{arith}
-use lib.ListN.{length, get_or-eq_default}
+use Rattle.std.proofs.Common.{◌≡◌, List, ℕ, ◌+◌, ◌≤◌, ◌<◌, arith, length}
+use lib.ListN.{get_or-eq_default}
 use Rattle.tonekit_bytes.specs.Fields.{byte_at, u16_at, u32_at}
 
 -- every element is a byte: what `shared-slice-known.given` says of a slice of u8

@@ -1,13 +1,7 @@
 -- Bytes that stand at an offset in others: their fields and parts, and floats that are read from them. Assumes nothing.
-use Prim.Native.Nat.{ℕ, zero, suc, ◌+◌, ◌*◌, ◌≤◌, ◌<◌}
-use mathlib.Core.Path.{◌≡◌, sym, ap, ◌∙◌, subst}
-use mathlib.Core.List.{List, [], ◌∷◌, ◌++◌}
-use native.Mathlib.Nat.{le_of_suc-le-suc, not-suc-le-zero}
-use native.Mathlib.Omega.{arith}
-use lib.Dec.{T}
-use lib.ListN.{length, get_or, drop, length-append, length-drop, get_or-append}
-use lib.Seq.{get_or-drop, get_or-append-add}
-use lib.Ieee.{Float, nan, binary32, of_bits, to_bits, fits}
+use Rattle.std.proofs.Common.{ℕ, zero, suc, ◌+◌, ◌*◌, ◌≤◌, ◌<◌, ◌≡◌, sym, ap, ◌∙◌, subst, List, [], ◌∷◌, ◌++◌, le_of_suc-le-suc, not-suc-le-zero, arith, T, length, get_or, drop, length-append, length-drop, get_or-drop, get_or-append-add, Float, to_bits}
+use lib.ListN.{get_or-append}
+use lib.Ieee.{nan, binary32, of_bits, fits}
 use lib.Ieee.Bits.{to_bits-lt, of_bits-to_bits}
 use Rattle.tonekit_core.specs.Layout.{f32_size}
 use Rattle.tonekit_bytes.specs.Fields.{byte_at, u16_at, u32_at, f32_at, f32_bytes, f32s_bytes}

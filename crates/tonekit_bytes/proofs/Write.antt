@@ -1,16 +1,10 @@
 -- Records in a lent buffer: runs of stores put together, and what a writer answers once its record is written, or refused. Assumes nothing.
-use mathlib.Core.Path.{◌≡◌, refl, sym, ap, ◌∙◌}
-use mathlib.Core.List.{List, [], ◌∷◌, ◌++◌, append_assoc, append-nil}
-use Prim.Native.Nat.{ℕ, suc, ◌+◌, ◌-◌, ◌*◌, ◌≤◌, ◌<◌}
-use native.Mathlib.Nat.{zero-add, add-zero, add-suc, suc-add}
-use native.Mathlib.Numerals.{add-one}
-use native.Mathlib.Omega.{arith}
-use lib.Ieee.{Float}
-use lib.ListN.{length, drop, take, set, get_or, length-drop, drop_of_length-le}
-use lib.Seq.{sets, sets-eq, take_all, drop-drop, take-suc, length-take-le}
-use borrow.Author.Tests.{le-leb, lt-leb}
+use Rattle.std.proofs.Common.{◌≡◌, refl, sym, ap, ◌∙◌, List, [], ◌∷◌, ◌++◌, append_assoc, append-nil, ℕ, suc, ◌+◌, ◌-◌, ◌*◌, ◌≤◌, ◌<◌, zero-add, add-zero, add-suc, suc-add, add-one, arith, Float, length, drop, take, set, get_or, length-drop, drop_of_length-le, take_all, drop-drop, take-suc, length-take-le, le-leb}
+use lib.Seq.{sets, sets-eq}
+use borrow.Rule.Slice.PartMut.{put_mid}
+use borrow.Author.Tests.{lt-leb}
 use Rattle.tonekit_core.specs.declared.Refusal.TheVariants.{ShortBuffer}
-use Rattle.tonekit_core.specs.declared.Answer.TheVariants.{Written, Refused}
+use Rattle.std.specs.Prelude.{Ok, Err}
 use Rattle.tonekit_core.specs.Calls.{answer_in, buffer_after, written, Delivers}
 use Rattle.tonekit_bytes.specs.Fields.{f32_bytes, f32s_bytes}
 
@@ -20,18 +14,18 @@ front bs l h = sets-eq bs l 0 (rw zero-add h) ∙ ap (λ (n : ℕ). bs ++ drop n
 
 -- a record of n bytes that stands at the front of a buffer, and one that is longer than the buffer
 pub wrote : (bs l out : List ℕ) (n : ℕ) → length bs ≡ n → n ≤ length l → out ≡ sets l 0 bs
-    → Delivers (written bs) l (Written n) out
+    → Delivers (written bs) l (Ok n) out
 unfolding answer_in buffer_after
 wrote bs l out n e h o =
     let k : length bs ≤ length l = omega arith in
-    record { answer = simp (le-leb _ _ k) (ap Written (sym e)); buffer = simp (le-leb _ _ k) (o ∙ front bs l k) }
+    record { answer = simp (le-leb _ _ k) (ap Ok (sym e)); buffer = simp (le-leb _ _ k) (o ∙ front bs l k) }
 
 pub refused_short : (bs l : List ℕ) (n : ℕ) → length bs ≡ n → length l < n
-    → Delivers (written bs) l (Refused ShortBuffer n) l
+    → Delivers (written bs) l (Err (record { why = ShortBuffer; place = n })) l
 unfolding answer_in buffer_after
 refused_short bs l n e h =
     let k : length l < length bs = omega arith in
-    record { answer = simp (lt-leb _ _ k) (ap (Refused ShortBuffer) (sym e)); buffer = simp (lt-leb _ _ k) refl }
+    record { answer = simp (lt-leb _ _ k) (ap (λ (k : ℕ). Err (record { why = ShortBuffer; place = k })) (sym e)); buffer = simp (lt-leb _ _ k) refl }
 
 -- stores from the start of a part that reaches to the end are stores from its place on in the whole
 pub part_put : (bs l ys : List ℕ) (a : ℕ) → a + length bs ≤ length l → ys ≡ sets (take (length l - a) (drop a l)) 0 bs
@@ -45,6 +39,10 @@ part_put bs l ys a h e =
     ∙ ap (λ (t : List ℕ). take a l ++ t) (append-nil ys ∙ y)
     ∙ sym (append_assoc (take a l) bs (drop (a + length bs) l))
     ∙ sym (sets-eq bs l a h)
+
+-- bytes copied over a part of a list are stores there
+pub copied : (a k : ℕ) (l ys bs : List ℕ) → k ≡ length bs → ys ≡ bs → a + length bs ≤ length l → put_mid a k l ys ≡ sets l a bs
+copied a k l ys bs n e h = rw (n, e) (ap (λ (t : List ℕ). take a l ++ (bs ++ t)) (drop-drop (length bs) a l) ∙ (sym (append_assoc (take a l) bs (drop (a + length bs) l)) ∙ sym (sets-eq bs l a h)))
 
 -- two runs of stores, one after the other, are one
 pub sets_append : {A : Type 0} (l : List A) (i : ℕ) (a b : List A) (n : ℕ) → n ≡ i + length a → sets (sets l i a) n b ≡ sets l i (a ++ b)
@@ -74,10 +72,10 @@ f32s_length [] = refl
 f32s_length (x ∷ xs) = omega (arith, f32s_length xs)
 
 -- a turn of the loop that writes floats
-pub f32s_step : (l out : List ℕ) (at i : ℕ) (xs : List Float) (d : Float) → i < length xs → out ≡ sets l at (f32s_bytes (take i xs))
-    → sets out (at + 4 * i) (f32_bytes (get_or xs i d)) ≡ sets l at (f32s_bytes (take (i + 1) xs))
+pub f32s_step : (l out : List ℕ) (at i place : ℕ) (xs : List Float) (d : Float) → i < length xs → place ≡ at + 4 * i → out ≡ sets l at (f32s_bytes (take i xs))
+    → sets out place (f32_bytes (get_or xs i d)) ≡ sets l at (f32s_bytes (take (i + 1) xs))
 unfolding f32s_bytes
-f32s_step l out at i xs d h e =
+f32s_step l out at i place xs d h p e =
     let k : length (take i xs) ≡ i = length-take-le i xs (omega arith) in
-    more l (f32s_bytes (take i xs)) (f32_bytes (get_or xs i d)) at (at + 4 * i) e (omega (arith, f32s_length (take i xs))) refl
+    more l (f32s_bytes (take i xs)) (f32_bytes (get_or xs i d)) at place e (omega (arith, f32s_length (take i xs))) refl
     ∙ ap (sets l at) (sym (f32s_append (take i xs) (get_or xs i d ∷ [])) ∙ ap f32s_bytes (sym (ap (λ (m : ℕ). take m xs) (add-one i) ∙ take-suc xs i d h)))

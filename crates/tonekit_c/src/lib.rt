@@ -17,47 +17,33 @@ ghost use Rattle.tonekit_shape.specs.Record.{shape_outcome};
 ghost use Rattle.tonekit_station.specs.Judgement.{judge_outcome, judge_sheet_outcome};
 ghost use Rattle.tonekit_c.specs.Export.{checked_number, checked_place, answer_number, answer_place, Hands};
 
-use tonekit_core::{Answer, Checked};
+use tonekit_core::Rejection;
+use tonekit_float::AnyFloat;
 
-// The number of a check's answer, and its place.
-fn hand_checked(c: Checked, place: &mut u64) -> u32
-    ensures { (result ≡ checked_number c) × (place.new ≡ checked_place c) }
+// Hands a call's answer over: 0 and the bytes it wrote, or the refusal's number and place.
+fn hand(answer: Result<usize, Rejection>, place: &mut u64) -> u32
+    ensures { (result ≡ answer_number answer) × (place.new ≡ answer_place answer) }
 {
-    match c {
-        Checked::Loads => {
-            *place = 0;
-            0
-        }
-        Checked::Refused(r, at) => {
-            *place = at as u64;
-            tonekit_core::refusal_number(r) as u32
-        }
-    }
-}
-
-// The number of a call's answer, and the bytes it wrote or the place.
-fn hand_answer(a: Answer, place: &mut u64) -> u32
-    ensures { (result ≡ answer_number a) × (place.new ≡ answer_place a) }
-{
-    match a {
-        Answer::Written(n) => {
+    match answer {
+        Ok(n) => {
             *place = n as u64;
             0
         }
-        Answer::Refused(r, at) => {
-            *place = at as u64;
-            tonekit_core::refusal_number(r) as u32
+        Err(e) => {
+            *place = e.place as u64;
+            u32::from(u8::from(e.why))
         }
     }
 }
 
 // Whether the bytes are a pack: 0, or the refusal's number.
+// Stays: the C interface has a function for each of pack, query and sheet.
 #[unsafe(no_mangle)]
 pub extern "C" fn tonekit_check_pack(pack: &[u8], place: &mut u64) -> u32
     ensures { (result ≡ checked_number (check_pack pack.now))
         × (place.new ≡ checked_place (check_pack pack.now)) }
 {
-    hand_checked(tonekit_pack::check_pack(pack), place)
+    hand(tonekit_pack::check_pack(pack).and(Ok(0)), place)
 }
 
 // Whether the bytes are a query: 0, or the refusal's number.
@@ -66,16 +52,17 @@ pub extern "C" fn tonekit_check_query(query: &[u8], place: &mut u64) -> u32
     ensures { (result ≡ checked_number (check_query query.now))
         × (place.new ≡ checked_place (check_query query.now)) }
 {
-    hand_checked(tonekit_query::check_query(query), place)
+    hand(tonekit_query::check_query(query).and(Ok(0)), place)
 }
 
 // Whether the bytes are a sheet: 0, or the refusal's number.
+// Stays: the C interface has a function for each of pack, query and sheet.
 #[unsafe(no_mangle)]
 pub extern "C" fn tonekit_check_sheet(sheet: &[u8], place: &mut u64) -> u32
     ensures { (result ≡ checked_number (check_sheet sheet.now))
         × (place.new ≡ checked_place (check_sheet sheet.now)) }
 {
-    hand_checked(tonekit_sheet_read::check_sheet(sheet), place)
+    hand(tonekit_sheet_read::check_sheet(sheet).and(Ok(0)), place)
 }
 
 // Writes the sheet of a pack: 0 and its bytes, or the refusal's number and nothing.
@@ -84,28 +71,31 @@ pub extern "C" fn tonekit_write_sheet(pack: &[u8], out: &mut [u8], place: &mut u
     ensures { Hands (sheet_outcome pack.now) out.old result place.new
         out.new }
 {
-    hand_answer(tonekit_sheet_write::write_sheet(pack, out), place)
+    hand(tonekit_sheet_write::write_sheet(pack, out), place)
 }
 
 // Writes the shape record of a query: 0 and 124 bytes, or the refusal's number and nothing.
+// Stays: the C interface hands slices and places one by one.
 #[unsafe(no_mangle)]
 pub extern "C" fn tonekit_write_shape(query: &[u8], out: &mut [u8], place: &mut u64) -> u32
     ensures { Hands (shape_outcome query.now) out.old result place.new
         out.new }
 {
-    hand_answer(tonekit_shape::write_shape(query, out), place)
+    hand(tonekit_shape::write_shape(query, out), place)
 }
 
 // Judges a query against a pack: 0 and the record of 64 bytes, or the refusal's number and nothing.
+// Stays: the C interface has a function for a pack and one for a sheet, and hands slices and places one by one.
 #[unsafe(no_mangle)]
 pub extern "C" fn tonekit_judge(pack: &[u8], query: &[u8], out: &mut [u8], place: &mut u64) -> u32
     ensures { Hands (judge_outcome pack.now query.now) out.old result
         place.new out.new }
 {
-    hand_answer(tonekit_station::judge(pack, query, out), place)
+    hand(tonekit_station::judge(pack, query, out), place)
 }
 
 // Judges a query against a sheet, likewise.
+// Stays: the C interface has a function for a pack and one for a sheet.
 #[unsafe(no_mangle)]
 pub extern "C" fn tonekit_judge_sheet(
     sheet: &[u8],
@@ -116,7 +106,7 @@ pub extern "C" fn tonekit_judge_sheet(
     ensures { Hands (judge_sheet_outcome sheet.now query.now) out.old result
         place.new out.new }
 {
-    hand_answer(tonekit_station::judge_sheet(sheet, query, out), place)
+    hand(tonekit_station::judge_sheet(sheet, query, out), place)
 }
 
 // The bits of the f32 nearest to an f64.
@@ -124,7 +114,7 @@ pub extern "C" fn tonekit_judge_sheet(
 pub extern "C" fn tonekit_narrow(bits: u64) -> u32
     ensures { result ≡ to_bits binary32 (narrowed (of_bits binary64 bits)) }
 {
-    tonekit_float::bits_of_f32(tonekit_float::narrow(tonekit_float::f64_of_bits(bits)))
+    tonekit_float::narrow(f64::of_bits(bits)).bits()
 }
 
 // The bits of the square root of an f64.
@@ -132,7 +122,7 @@ pub extern "C" fn tonekit_narrow(bits: u64) -> u32
 pub extern "C" fn tonekit_root(bits: u64) -> u64
     ensures { result ≡ to_bits binary64 (root_of (of_bits binary64 bits)) }
 {
-    tonekit_float::bits_of_f64(tonekit_root::sqrt(tonekit_float::f64_of_bits(bits)))
+    tonekit_root::sqrt(f64::of_bits(bits)).bits()
 }
 
 // The bits of the natural logarithm of an f64.
@@ -140,7 +130,7 @@ pub extern "C" fn tonekit_root(bits: u64) -> u64
 pub extern "C" fn tonekit_ln(bits: u64) -> u64
     ensures { result ≡ to_bits binary64 (ln_of (of_bits binary64 bits)) }
 {
-    tonekit_float::bits_of_f64(tonekit_log::ln(tonekit_float::f64_of_bits(bits)))
+    tonekit_log::ln(f64::of_bits(bits)).bits()
 }
 
 // The bits of the binary logarithm of an f64.
@@ -148,7 +138,7 @@ pub extern "C" fn tonekit_ln(bits: u64) -> u64
 pub extern "C" fn tonekit_log2(bits: u64) -> u64
     ensures { result ≡ to_bits binary64 (log2_of (of_bits binary64 bits)) }
 {
-    tonekit_float::bits_of_f64(tonekit_log::log2(tonekit_float::f64_of_bits(bits)))
+    tonekit_log::log2(f64::of_bits(bits)).bits()
 }
 
 // The bits of the exponential of an f64.
@@ -156,5 +146,5 @@ pub extern "C" fn tonekit_log2(bits: u64) -> u64
 pub extern "C" fn tonekit_exp(bits: u64) -> u64
     ensures { result ≡ to_bits binary64 (exp_of (of_bits binary64 bits)) }
 {
-    tonekit_float::bits_of_f64(tonekit_log::exp(tonekit_float::f64_of_bits(bits)))
+    tonekit_log::exp(f64::of_bits(bits)).bits()
 }

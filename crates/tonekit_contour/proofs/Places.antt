@@ -1,10 +1,6 @@
 -- Where a contour point lies: between the first frame or knot and the last, in f64 and small enough for an index.
-use Prim.Native.Nat.{ℕ, ◌^◌, ◌≤◌, zero-le}
-use mathlib.Core.Bool.{false}
-use native.Mathlib.Omega.{arith}
-use lib.Dec.{T}
-use lib.IntN.{pos}
-use lib.Ieee.{Float, fin, binary64, div, le, lt, of_int, of_bits, round, fits}
+use Rattle.std.proofs.Common.{ℕ, ◌^◌, ◌≤◌, zero-le, false, arith, T, pos, Float}
+use lib.Ieee.{fin, binary64, div, le, lt, of_int, of_bits, round, fits}
 use lib.Ieee.Fits.{of_int-fits, mul-fits}
 use lib.Ieee.Scale.{finite}
 use Rattle.tonekit_float.specs.Bounds.{In}

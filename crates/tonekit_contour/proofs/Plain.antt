@@ -1,11 +1,9 @@
 -- Excursions are compared plainly: one that stands is no NaN, so none reaches the comparison that the Rust makes by `total_cmp`.
-use mathlib.Core.Path.{◌≡◌, refl, sym, subst}
-use mathlib.Core.Bool.{true, false}
-use lib.Dec.{T}
-use lib.Ieee.{Float, nan, inf, fin, is_nan, le, of_bits}
+use Rattle.std.proofs.Common.{◌≡◌, refl, sym, subst, true, false, T, Float}
+use lib.Ieee.{nan, inf, fin, is_nan, le, of_bits}
 use Rattle.tonekit_contour.specs.Turning.{stands}
 
-pub stands_number : (x u : Float) → stands x u ≡ true → is_nan x ≡ false
+pub stands_number : (x u : Float) → stands (record { size = x; at = u }) ≡ true → is_nan x ≡ false
 unfolding stands is_nan le of_bits
 stands_number nan u h = absurd (subst T (sym h) tt)
 stands_number (inf s) u h = refl

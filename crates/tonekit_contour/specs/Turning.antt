@@ -1,13 +1,12 @@
 -- `turning_point` and `extremum` of fit.rs and deltas.rs: the interior minimum or maximum that stands at least 0.5 beyond both ends, at a fraction in (0.1, 0.9).
-use Rattle.std.specs.Prelude.{ℕ, ◌+◌, ◌-◌, Bool, true, cond, ◌&&◌, List, ltb, length, get_or, Float}
+use Rattle.std.specs.Prelude.{ℕ, ◌+◌, ◌-◌, Bool, true, cond, ◌&&◌, List, ltb, length, get_or, Float, Option, Some, None}
 use Rattle.std.specs.Float.{nan, inf, binary64}
 use Rattle.std.specs.Float.Ieee.{neg, sub, mul, div, lt, le, of_bits}
 use Rattle.tonekit_core.specs.Loop.{Turn, next, stop, range, range_to}
 use Rattle.tonekit_float.specs.Pick.{lesser, greater}
 use Rattle.tonekit_contour.specs.Position.{whole64}
 use Rattle.tonekit_contour.specs.declared.Extreme.{Extreme}
-use Rattle.tonekit_contour.specs.declared.Turning.{Turning}
-use Rattle.tonekit_contour.specs.declared.Turning.TheVariants.{At, Nowhere}
+use Rattle.tonekit_contour.specs.declared.Excursion.{Excursion}
 
 -- TURN_MIN_EXCURSION 0.5, TURN_INTERIOR (0.1, 0.9), PLATEAU_EPS 1e-9
 abbrev pub half : Float
@@ -36,19 +35,19 @@ unfoldable pub greatest : List Float → Float → Float
 greatest l sign = range (greater_at l sign) 0 (length l) (inf true)
 
 -- close enough to the greatest to be the same plateau
-abbrev pub near : List Float → Float → Float → ℕ → Bool
-near l sign best j = le (sub binary64 best plateau) (mul binary64 sign (get_or l j nan))
+abbrev pub near : Float → Float → Float → Bool
+near sign best v = le (sub binary64 best plateau) (mul binary64 sign v)
 
 -- the first frame of the plateau, or 0
 abbrev pub first_turn : List Float → Float → Float → ℕ → ℕ → Turn ℕ ℕ
-first_turn l sign best j u = cond (near l sign best j) (stop j) (next u)
+first_turn l sign best j u = cond (near sign best (get_or l j nan)) (stop j) (next u)
 
 unfoldable pub first_near : List Float → Float → Float → ℕ
 first_near l sign best = range_to (first_turn l sign best) (λ u. 0) 0 (length l) 0
 
 -- the last one, or d
 abbrev pub last_turn : List Float → Float → Float → ℕ → ℕ → ℕ
-last_turn l sign best j found = cond (near l sign best j) j found
+last_turn l sign best j found = cond (near sign best (get_or l j nan)) j found
 
 unfoldable pub last_near : List Float → Float → Float → ℕ → ℕ
 last_near l sign best d = range (last_turn l sign best) 0 (length l) d
@@ -61,24 +60,28 @@ extremum l sign =
     record { value = mul binary64 sign best; index = mul binary64 half (whole64 (first + last_near l sign best first)) }
 
 -- a candidate: how far it stands beyond the nearer end, and where
-unfoldable pub stands : Float → Float → Bool
-stands excursion u = le half excursion && (lt tenth u && lt u nine_tenths)
+unfoldable pub stands : Excursion → Bool
+stands e = le half e.size && lt tenth e.at && lt e.at nine_tenths
 
 -- "max_by keeps the last": of equal excursions the maximum's, which stands second
-unfoldable pub chosen : Float → Float → Float → Float → Turning
-chosen low ulow high uhigh =
-    cond (stands high uhigh)
-    (cond (stands low ulow && lt high low) (At ulow) (At uhigh))
-    (cond (stands low ulow) (At ulow) Nowhere)
+unfoldable pub chosen : Excursion → Excursion → Option Float
+chosen low high =
+    cond (stands high)
+    (cond (stands low && lt high.size low.size) (Some low.at) (Some high.at))
+    (cond (stands low) (Some low.at) None)
 
-unfoldable pub turning_point : List Float → Turning
+unfoldable pub turning_point : List Float → Option Float
 turning_point l =
     let last = length l - 1 in
     let bottom = extremum l minus_one in
     let top = extremum l one64 in
-    cond (ltb (length l) 3) Nowhere
+    cond (ltb (length l) 3) None
     (chosen
-    (lesser (sub binary64 (get_or l 0 nan) bottom.value) (sub binary64 (get_or l last nan) bottom.value))
-    (div binary64 bottom.index (whole64 last))
-    (lesser (sub binary64 top.value (get_or l 0 nan)) (sub binary64 top.value (get_or l last nan)))
-    (div binary64 top.index (whole64 last)))
+    (record {
+      size = lesser (sub binary64 (get_or l 0 nan) bottom.value) (sub binary64 (get_or l last nan) bottom.value);
+      at = div binary64 bottom.index (whole64 last);
+    })
+    (record {
+      size = lesser (sub binary64 top.value (get_or l 0 nan)) (sub binary64 top.value (get_or l last nan));
+      at = div binary64 top.index (whole64 last);
+    }))

@@ -6,21 +6,23 @@ ghost use Rattle.std.specs.Prelude.{◌≡◌, ◌<◌, ◌≤◌, length};
 ghost use Rattle.tonekit_contour.specs.Position.{position};
 ghost use Rattle.tonekit_contour.specs.Turning.{greatest, near, first_near, last_near, extremum, stands, chosen, turning_point};
 
-// Where a curve turns, as a fraction of its length; or nowhere.
-#[derive(Clone, Copy)]
-pub enum Turning {
-    At(f64),
-    Nowhere,
-}
-
 // An extreme value of a curve, and the middle of the frames that reach it.
-#[derive(Drop)]
+#[derive(Clone, Copy)]
 pub struct Extreme {
     pub value: f64,
     pub index: f64,
 }
 
+// How far an extreme stands beyond the nearer end of its curve, and where it lies, as a fraction of
+// the curve.
+#[derive(Clone, Copy)]
+pub struct Excursion {
+    pub size: f64,
+    pub at: f64,
+}
+
 // Where point k of a contour's ten lies among the frames or knots 0 to last.
+#[tactic(auto, unfolding(crate::specs::Position::position))]
 pub fn position(k: usize, last: usize) -> f64
     ensures { result ≡ position k last }
 {
@@ -28,30 +30,31 @@ pub fn position(k: usize, last: usize) -> f64
 }
 
 // The greatest of sign * v over the curve, from minus infinity.
+#[tactic(auto, using(tonekit_core::specs::Loop::again, tonekit_core::specs::Loop::ended), unfolding(crate::specs::Turning::greatest))]
 fn greatest(curve: &[f64], sign: f64) -> f64
     ensures { result ≡ greatest curve.now sign }
 {
-    let mut best = -1.0 / 0.0;
-    for j in 0..curve.len() {
-        best = tonekit_float::max_f64(best, sign * curve[j]);
+    let mut best = f64::NEG_INFINITY;
+    for v in curve {
+        best = tonekit_float::greater(best, sign * *v);
     }
     best
 }
 
-// Whether frame j is of the plateau of the greatest.
-fn near(curve: &[f64], sign: f64, best: f64, j: usize) -> bool
-    requires { j < length curve.now }
-    ensures { result ≡ near curve.now sign best j }
+// Whether a value of the curve is of the plateau of the greatest.
+fn near(sign: f64, best: f64, v: f64) -> bool
+    ensures { result ≡ near sign best v }
 {
-    best - 1e-9 <= sign * curve[j]
+    best - 1e-9 <= sign * v
 }
 
 // The first frame of the plateau, or 0.
+#[tactic(auto, using(tonekit_core::specs::Loop::to_again, tonekit_core::specs::Loop::to_stop, tonekit_core::specs::Loop::to_ended), unfolding(crate::specs::Turning::first_near))]
 fn first_near(curve: &[f64], sign: f64, best: f64) -> usize
     ensures { (result ≡ first_near curve.now sign best) × (result ≤ length curve.now) }
 {
-    for j in 0..curve.len() {
-        if near(curve, sign, best, j) {
+    for (j, v) in curve.iter().enumerate() {
+        if near(sign, best, *v) {
             return j;
         }
     }
@@ -59,13 +62,14 @@ fn first_near(curve: &[f64], sign: f64, best: f64) -> usize
 }
 
 // The last frame of the plateau, or d.
+#[tactic(auto, using(tonekit_core::specs::Loop::again, tonekit_core::specs::Loop::ended), unfolding(crate::specs::Turning::last_near))]
 fn last_near(curve: &[f64], sign: f64, best: f64, d: usize) -> usize
     requires { d ≤ length curve.now }
     ensures { (result ≡ last_near curve.now sign best d) × (result ≤ length curve.now) }
 {
     let mut found = d;
-    for j in 0..curve.len() {
-        if near(curve, sign, best, j) {
+    for (j, v) in curve.iter().enumerate() {
+        if near(sign, best, *v) {
             found = j;
         }
     }
@@ -73,6 +77,7 @@ fn last_near(curve: &[f64], sign: f64, best: f64, d: usize) -> usize
 }
 
 // The maximum of the curve with sign 1, its minimum with sign -1.
+#[tactic(auto, unfolding(crate::specs::Turning::extremum))]
 fn extremum(curve: &[f64], sign: f64) -> Extreme
     requires { length curve.now ≤ 1024 }
     ensures { result ≡ extremum curve.now sign }
@@ -87,51 +92,46 @@ fn extremum(curve: &[f64], sign: f64) -> Extreme
 }
 
 // Whether an excursion is large enough, and lies inside.
-fn stands(excursion: f64, u: f64) -> bool
-    ensures { result ≡ stands excursion u }
+#[tactic(auto, unfolding(crate::specs::Turning::stands))]
+fn stands(e: Excursion) -> bool
+    ensures { result ≡ stands e }
 {
-    if 0.5 <= excursion {
-        if 0.1 < u {
-            return u < 0.9;
-        }
-    }
-    false
+    0.5 <= e.size && 0.1 < e.at && e.at < 0.9
 }
 
-// The larger excursion of the two that stand, the maximum's where they are equal.
-fn chosen(low: f64, ulow: f64, high: f64, uhigh: f64) -> Turning
-    ensures { result ≡ chosen low ulow high uhigh }
+// Where the larger excursion of the two that stand lies, the maximum's where they are equal.
+#[tactic(auto, unfolding(crate::specs::Turning::chosen))]
+fn chosen(low: Excursion, high: Excursion) -> Option<f64>
+    ensures { result ≡ chosen low high }
 {
-    let bottom = stands(low, ulow);
-    if stands(high, uhigh) {
-        if bottom {
-            if high < low {
-                return Turning::At(ulow);
-            }
-        }
-        return Turning::At(uhigh);
+    match (stands(low), stands(high)) {
+        (true, true) if high.size < low.size => Some(low.at),
+        (_, true) => Some(high.at),
+        (true, false) => Some(low.at),
+        (false, false) => None,
     }
-    if bottom {
-        return Turning::At(ulow);
-    }
-    Turning::Nowhere
 }
 
-// Where the curve turns, if it does. A curve has at most 1,024 frames: no more are ever read.
-pub fn turning_point(curve: &[f64]) -> Turning
+// Where the curve turns, as a fraction of its length, if it does. A curve has at most 1,024 frames:
+// no more are ever read.
+#[tactic(auto, unfolding(crate::specs::Turning::turning_point))]
+pub fn turning_point(curve: &[f64]) -> Option<f64>
     requires { length curve.now ≤ 1024 }
     ensures { result ≡ turning_point curve.now }
 {
     if curve.len() < 3 {
-        return Turning::Nowhere;
+        return None;
     }
     let last = curve.len() - 1;
     let bottom = extremum(curve, -1.0);
     let top = extremum(curve, 1.0);
-    chosen(
-        tonekit_float::min_f64(curve[0] - bottom.value, curve[last] - bottom.value),
-        bottom.index / tonekit_float::f64_of(last),
-        tonekit_float::min_f64(top.value - curve[0], top.value - curve[last]),
-        top.index / tonekit_float::f64_of(last),
-    )
+    let low = Excursion {
+        size: tonekit_float::lesser(curve[0] - bottom.value, curve[last] - bottom.value),
+        at: bottom.index / tonekit_float::f64_of(last),
+    };
+    let high = Excursion {
+        size: tonekit_float::lesser(top.value - curve[0], top.value - curve[last]),
+        at: top.index / tonekit_float::f64_of(last),
+    };
+    chosen(low, high)
 }

@@ -1,13 +1,6 @@
 -- One more entry of an array: what holds of the entries before it, and of it, holds of all. Assumes nothing.
-use Prim.Native.Nat.{ℕ, ◌+◌, ◌<◌}
-use mathlib.Core.Path.{◌≡◌, refl}
-use mathlib.Core.Bool.{Bool, true, false}
-use mathlib.Core.List.{List}
-use native.Mathlib.Omega.{arith}
-use lib.Dec.{eqb}
-use lib.ListN.{length, get_or, set}
-use lib.Seq.{get_or-set_other, get_or-set_same}
-use borrow.Author.Tests.{eqb-true, eqb-false}
+use Rattle.std.proofs.Common.{ℕ, ◌+◌, ◌<◌, ◌≡◌, refl, Bool, true, false, List, arith, eqb, length, get_or, set, get_or-set_other, get_or-set_same, eqb-true}
+use borrow.Author.Tests.{eqb-false}
 
 -- P i x says something of entry i, where that is x
 pub entries_more : (P : ℕ → ℕ → Type 0) (xs : List ℕ) (n x : ℕ) → n < length xs → ((i : ℕ) → i < n → P i (get_or xs i 0)) → P n x

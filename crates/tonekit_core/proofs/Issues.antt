@@ -1,8 +1,5 @@
 -- The bits of issues: none is 0, and one that is not set fits beside the others.
-use mathlib.Core.Path.{◌≡◌}
-use mathlib.Core.Bool.{false}
-use Prim.Native.Nat.{ℕ, ◌+◌, ◌/◌, ◌%◌, ◌<◌}
-use native.Mathlib.Omega.{arith}
+use Rattle.std.proofs.Common.{◌≡◌, false, ℕ, ◌+◌, ◌/◌, ◌%◌, ◌<◌, arith}
 use borrow.Author.Tests.{eqb-false}
 use Rattle.tonekit_core.specs.Words.{issue_bit, has_issue}
 use Rattle.tonekit_core.specs.declared.MeasureIssue.{MeasureIssue}

@@ -1,9 +1,6 @@
 -- Laws on the loops of specs/Loop: what every turn of a `range` keeps holds at its end, loops whose turns give the same give the same, and a `while` with a
 -- limit on its turns ends by its own test. Assumes nothing.
-use Prim.Native.Nat.{ℕ, zero, suc, ◌+◌, ◌-◌, ◌≤◌, ◌<◌}
-use mathlib.Core.Path.{◌≡◌, refl, ◌∙◌, ap, subst}
-use mathlib.Core.Bool.{Bool, true, false}
-use native.Mathlib.Omega.{arith}
+use Rattle.std.proofs.Common.{ℕ, zero, suc, ◌+◌, ◌-◌, ◌≤◌, ◌<◌, ◌≡◌, refl, ◌∙◌, ap, subst, Bool, true, false, arith}
 use Rattle.tonekit_core.specs.Loop.{Turn, next, stop, range, turns, range_to, turns_to, while, while_if}
 
 module _ {S : Type 0} (f : ℕ → S → S) (P : ℕ → S → Type 0) where

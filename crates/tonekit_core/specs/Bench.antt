@@ -1,22 +1,21 @@
 -- Worked examples, computed: what an outcome of three bytes, and a refusal, mean for a lent buffer.
-use Rattle.std.specs.Prelude.{ℕ, ◌≡◌, refl, List, [], ◌∷◌}
+use Rattle.std.specs.Prelude.{ℕ, ◌≡◌, refl, List, [], ◌∷◌, Ok, Err}
 use Rattle.tonekit_core.specs.declared.Refusal.TheVariants.{ShortBuffer, Loose}
-use Rattle.tonekit_core.specs.declared.Answer.TheVariants.{Written, Refused}
 use Rattle.tonekit_core.specs.Calls.{refused, written, answer_in, buffer_after}
 
 abbrev three : List ℕ
 three = 1 ∷ 2 ∷ 3 ∷ []
 
 -- room for all but the last byte, and for all
-short : answer_in 2 (written three) ≡ Refused ShortBuffer 3
+short : answer_in 2 (written three) ≡ Err (record { why = ShortBuffer; place = 3 })
 unfolding answer_in
 short = refl
 
-exact : answer_in 3 (written three) ≡ Written 3
+exact : answer_in 3 (written three) ≡ Ok 3
 unfolding answer_in
 exact = refl
 
-elsewhere : answer_in 0 (refused Loose 7) ≡ Refused Loose 7
+elsewhere : answer_in 0 (refused Loose 7) ≡ Err (record { why = Loose; place = 7 })
 unfolding answer_in
 elsewhere = refl
 

@@ -266,6 +266,7 @@ pub const SHEET_END_SIZE: usize = 1;
 // "13,266 bytes always suffice"
 pub const SHEET_MOST: usize = 13266;
 
+// Stays: the places of three kinds of records, each counted from the last; one function would need a kind as its argument.
 // Where tone i of a sheet stands: the tones follow the settings. i may be their count, for what follows.
 pub fn sheet_tone_at(i: usize) -> usize
     requires { i ≤ 8 }
@@ -274,6 +275,7 @@ pub fn sheet_tone_at(i: usize) -> usize
     SETTINGS_SIZE + SHEET_TONE_SIZE * i
 }
 
+// Stays: as sheet_tone_at.
 // Where accent i stands, behind so many tones.
 pub fn sheet_accent_at(tones: usize, i: usize) -> usize
     requires { (tones ≤ 8) × (i ≤ 8) }

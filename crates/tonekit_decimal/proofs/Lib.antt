@@ -1,5 +1,4 @@
 pub mod Turns
-pub mod Shown
 pub mod Whole
 pub mod Nearest
 pub mod ReadsBack

@@ -1,13 +1,8 @@
 -- Of the decimals with the fewest digits that read back, the nearest to the value is written. Assumes nothing.
-use mathlib.Core.Path.{◌≡◌, refl, sym, ap, subst}
-use mathlib.Core.Bool.{Bool, true, false, cond}
-use Prim.Native.Nat.{ℕ, zero, suc, ◌+◌, ◌-◌, ◌*◌, ◌/◌, ◌%◌, ◌^◌, ◌≤◌, ◌<◌}
-use native.Mathlib.Nat.{add-zero, one-mul, add-mul, div-mul-le_self, lt-div-mul-add, le-div_iff_mul-le, div-lt_iff_lt-mul, mul-le-mul_right, one-le-pow}
-use native.Mathlib.Omega.{arith}
-use borrow.Author.Tests.{leb-true, leb-false, eqb-true, eqb-false}
-use lib.Dec.{eqb, leb}
+use Rattle.std.proofs.Common.{◌≡◌, refl, sym, ap, subst, Bool, true, false, ℕ, zero, suc, ◌+◌, ◌-◌, ◌*◌, ◌/◌, ◌%◌, ◌^◌, ◌≤◌, ◌<◌, add-zero, one-mul, add-mul, div-mul-le_self, le-div_iff_mul-le, div-lt_iff_lt-mul, mul-le-mul_right, arith, leb-true, leb-false, leb}
+use native.Mathlib.Nat.{lt-div-mul-add, one-le-pow}
 use Rattle.tonekit_decimal.specs.Decimal.{reads, candidate, choice, shortest, quarter, nearest_of, significand, scale_field, lower_gap, decimal_of, rounds_to}
-use Rattle.tonekit_decimal.proofs.ReadsBack.{reads_ends, ends_read, differ, pick, one, two, none, some, multiple, value_reads, gap_positive, quarter_positive}
+use Rattle.tonekit_decimal.proofs.ReadsBack.{reads_ends, ends_read, differ, or_else, Neither, chosen, some, multiple, value_reads, gap_positive, quarter_positive}
 
 -- how far two numbers are apart
 abbrev apart : ℕ → ℕ → ℕ
@@ -49,42 +44,34 @@ module _ (lo v hi odd : ℕ) (rv : reads lo hi odd v ≡ true) where
       differ (ends_read lo hi odd u (omega arith) (omega arith)) f
 
   -- the lower is chosen: no multiple of 10 ^ p that reads is nearer
-  low_is_nearest : (p k : ℕ) → choice lo v hi odd p ≡ 1 → reads lo hi odd (k * 10 ^ p) ≡ true → apart v (candidate v p 0) ≤ apart v (k * 10 ^ p)
-  unfolding choice
-  low_is_nearest p k e r = by (leb (k * 10 ^ p) v) refl
+  low_is_nearest : (p k : ℕ) → (reads lo hi odd (candidate v p 1) ≡ true → leb (2 * v) (candidate v p 0 + candidate v p 1) ≡ true)
+      → reads lo hi odd (k * 10 ^ p) ≡ true → apart v (candidate v p 0) ≤ apart v (k * 10 ^ p)
+  low_is_nearest p k n r = by (leb (k * 10 ^ p) v) refl
     where
-      why : (upper : Bool) (nearer : Bool) → reads lo hi odd (candidate v p 1) ≡ upper → leb (2 * v) (candidate v p 0 + candidate v p 1) ≡ nearer
-          → (d : Bool) → pick d upper nearer ≡ 1
-          → v < k * 10 ^ p → 2 * v ≤ candidate v p 0 + k * 10 ^ p
-      why true true a b d q h = let w = leb-true (2 * v) (candidate v p 0 + candidate v p 1) b in let x = (other p k).1 h in omega arith
-      why true false a b true q h = absurd (omega arith)
-      why true false a b false q h = absurd (omega arith)
-      why false n a b d q h = absurd (upper_out (k * 10 ^ p) (candidate v p 1) a (lt_le v (candidate v p 1) (above p)) ((other p k).1 h) r)
+      why : (upper : Bool) → reads lo hi odd (candidate v p 1) ≡ upper → v < k * 10 ^ p → 2 * v ≤ candidate v p 0 + k * 10 ^ p
+      why true a h = let w = leb-true (2 * v) (candidate v p 0 + candidate v p 1) (n a) in let x = (other p k).1 h in omega arith
+      why false a h = absurd (upper_out (k * 10 ^ p) (candidate v p 1) a (lt_le v (candidate v p 1) (above p)) ((other p k).1 h) r)
 
       by : (b : Bool) → leb (k * 10 ^ p) v ≡ b → apart v (candidate v p 0) ≤ apart v (k * 10 ^ p)
       by true q = let x = (other p k).0 (leb-true (k * 10 ^ p) v q) in omega (arith, below p)
       by false q =
           let h = leb-false (k * 10 ^ p) v q in
-          let x = why (reads lo hi odd (candidate v p 1)) (leb (2 * v) (candidate v p 0 + candidate v p 1)) refl refl (reads lo hi odd (candidate v p 0)) e h in
+          let x = why (reads lo hi odd (candidate v p 1)) refl h in
           omega (arith, below p)
 
   -- the upper is chosen
-  high_is_nearest : (p k : ℕ) → choice lo v hi odd p ≡ 2 → reads lo hi odd (k * 10 ^ p) ≡ true → apart v (candidate v p 1) ≤ apart v (k * 10 ^ p)
-  unfolding choice
-  high_is_nearest p k e r = by (leb (k * 10 ^ p) v) refl
+  high_is_nearest : (p k : ℕ) → (reads lo hi odd (candidate v p 0) ≡ true → leb (2 * v) (candidate v p 0 + candidate v p 1) ≡ false)
+      → reads lo hi odd (k * 10 ^ p) ≡ true → apart v (candidate v p 1) ≤ apart v (k * 10 ^ p)
+  high_is_nearest p k n r = by (leb (k * 10 ^ p) v) refl
     where
-      why : (lower : Bool) (nearer : Bool) → reads lo hi odd (candidate v p 0) ≡ lower → leb (2 * v) (candidate v p 0 + candidate v p 1) ≡ nearer
-          → (u : Bool) → pick lower u nearer ≡ 2
-          → k * 10 ^ p ≤ v → k * 10 ^ p + candidate v p 1 ≤ 2 * v
-      why true false a b u q h = let w = leb-false (2 * v) (candidate v p 0 + candidate v p 1) b in let x = (other p k).0 h in omega arith
-      why true true a b true q h = absurd (omega arith)
-      why true true a b false q h = absurd (omega arith)
-      why false n a b u q h = absurd (lower_out (k * 10 ^ p) (candidate v p 0) a (below p) ((other p k).0 h) r)
+      why : (lower : Bool) → reads lo hi odd (candidate v p 0) ≡ lower → k * 10 ^ p ≤ v → k * 10 ^ p + candidate v p 1 ≤ 2 * v
+      why true a h = let w = leb-false (2 * v) (candidate v p 0 + candidate v p 1) (n a) in let x = (other p k).0 h in omega arith
+      why false a h = absurd (lower_out (k * 10 ^ p) (candidate v p 0) a (below p) ((other p k).0 h) r)
 
       by : (b : Bool) → leb (k * 10 ^ p) v ≡ b → apart v (candidate v p 1) ≤ apart v (k * 10 ^ p)
       by true q =
           let h = leb-true (k * 10 ^ p) v q in
-          let x = why (reads lo hi odd (candidate v p 0)) (leb (2 * v) (candidate v p 0 + candidate v p 1)) refl refl (reads lo hi odd (candidate v p 1)) e h in
+          let x = why (reads lo hi odd (candidate v p 0)) refl h in
           omega (arith, above p)
       by false q = let x = (other p k).1 (leb-false (k * 10 ^ p) v q) in omega (arith, above p)
 
@@ -97,7 +84,13 @@ module _ (lo v hi odd : ℕ) (rv : reads lo hi odd v ≡ true) where
   unfolding shortest
   shortest_nearest q k r most zero h = omega arith
   shortest_nearest q k r most (suc p) h =
-      by (eqb (choice lo v hi odd (suc p)) 1) (eqb (choice lo v hi odd (suc p)) 2) (leb q p) refl refl refl (shortest_nearest q k r most p)
+      let P : ℕ → Type 0 = λ d. apart v d ≤ apart v (k * 10 ^ q) in
+      let rest = shortest_nearest q k r most p in
+      or_else P (Neither lo v hi odd rv (suc p)) (choice lo v hi odd (suc p)) (shortest lo v hi odd p)
+      (chosen lo v hi odd rv (suc p) P
+      (λ a n. here 0 a (low_is_nearest (suc p) k n) (leb q p) refl)
+      (λ a n. here 1 a (high_is_nearest (suc p) k n) (leb q p) refl))
+      (λ n. by (leb q p) refl rest n)
     where
       same : p < q → q ≡ suc p
       same l = omega arith
@@ -105,26 +98,18 @@ module _ (lo v hi odd : ℕ) (rv : reads lo hi odd v ≡ true) where
       at : suc p ≡ q → reads lo hi odd (k * 10 ^ suc p) ≡ true
       at e = subst (λ (z : ℕ). reads lo hi odd (k * 10 ^ z) ≡ true) (sym e) r
 
-      by : (s t l : Bool) → eqb (choice lo v hi odd (suc p)) 1 ≡ s → eqb (choice lo v hi odd (suc p)) 2 ≡ t → leb q p ≡ l
-          → (q ≤ p → apart v (shortest lo v hi odd p) ≤ apart v (k * 10 ^ q))
-          → apart v (cond s (candidate v (suc p) 0) (cond t (candidate v (suc p) 1) (shortest lo v hi odd p))) ≤ apart v (k * 10 ^ q)
-      by true t true e g m i =
-          let w = leb-true q p m in absurd (higher (suc p) q 0 (omega arith) (one lo v hi odd rv (suc p) (eqb-true (choice lo v hi odd (suc p)) 1 e)) most)
-      by true t false e g m i =
+      here : (c : ℕ) → reads lo hi odd (candidate v (suc p) c) ≡ true
+          → (reads lo hi odd (k * 10 ^ suc p) ≡ true → apart v (candidate v (suc p) c) ≤ apart v (k * 10 ^ suc p))
+          → (l : Bool) → leb q p ≡ l → apart v (candidate v (suc p) c) ≤ apart v (k * 10 ^ q)
+      here c a near true m = let w = leb-true q p m in absurd (higher (suc p) q c (omega arith) a most)
+      here c a near false m =
           let y = same (leb-false q p m) in
-          subst (λ (z : ℕ). apart v (candidate v (suc p) 0) ≤ apart v (k * 10 ^ z)) (sym y)
-          (low_is_nearest (suc p) k (eqb-true (choice lo v hi odd (suc p)) 1 e) (at (sym y)))
-      by false true true e g m i =
-          let w = leb-true q p m in absurd (higher (suc p) q 1 (omega arith) (two lo v hi odd rv (suc p) (eqb-true (choice lo v hi odd (suc p)) 2 g)) most)
-      by false true false e g m i =
-          let y = same (leb-false q p m) in
-          subst (λ (z : ℕ). apart v (candidate v (suc p) 1) ≤ apart v (k * 10 ^ z)) (sym y)
-          (high_is_nearest (suc p) k (eqb-true (choice lo v hi odd (suc p)) 2 g) (at (sym y)))
-      by false false true e g m i = i (leb-true q p m)
-      by false false false e g m i =
-          let y = same (leb-false q p m) in
-          let n = none lo v hi odd rv (suc p) (eqb-false (choice lo v hi odd (suc p)) 1 e) (eqb-false (choice lo v hi odd (suc p)) 2 g) in
-          absurd (some lo v hi odd rv (suc p) k (at (sym y)) n.0 n.1)
+          subst (λ (z : ℕ). apart v (candidate v (suc p) c) ≤ apart v (k * 10 ^ z)) (sym y) (near (at (sym y)))
+
+      by : (l : Bool) → leb q p ≡ l → (q ≤ p → apart v (shortest lo v hi odd p) ≤ apart v (k * 10 ^ q)) → Neither lo v hi odd rv (suc p)
+          → apart v (shortest lo v hi odd p) ≤ apart v (k * 10 ^ q)
+      by true m i n = i (leb-true q p m)
+      by false m i n = let y = same (leb-false q p m) in absurd (some lo v hi odd rv (suc p) k (at (sym y)) n.0 n.1)
 
 -- of the multiples of the highest power of ten of which one reads back, none is nearer to the value than what is written
 pub nearest_written : (e f q k : ℕ) → q ≤ 189 → rounds_to e f (k * 10 ^ q) ≡ true → ((j : ℕ) → rounds_to e f (j * 10 ^ suc q) ≡ true → ⊥)

@@ -1,17 +1,10 @@
 -- The text of a number, read digit by digit, is the number. Assumes nothing.
-use mathlib.Core.Path.{◌≡◌, refl, sym, ◌∙◌, ap, subst}
-use mathlib.Core.Bool.{Bool, true, false, cond}
-use mathlib.Core.List.{List, [], ◌∷◌, ◌++◌, append-nil}
-use Prim.Native.Nat.{ℕ, zero, suc, ◌+◌, ◌-◌, ◌*◌, ◌/◌, ◌%◌, ◌^◌, ◌≤◌, ◌<◌}
-use native.Mathlib.Nat.{add-zero, zero-add, one-mul, zero-mul, mul_comm, mul_assoc, add-mul, div-one, mod-one, mod-mod, div-div-eq-div-mul, div-add-mod', div-lt_iff_lt-mul, mod-eq_of_lt, mul-div_cancel, pow-suc, pow-succ', one-le-pow, le_of_suc-le-suc}
-use native.Mathlib.Omega.{arith}
-use borrow.Author.Tests.{ne_eqb, eqb-true, ltb-true, ltb-false}
+use Rattle.std.proofs.Common.{◌≡◌, refl, sym, ◌∙◌, ap, subst, Bool, true, false, cond, List, [], ◌∷◌, ◌++◌, ℕ, zero, suc, ◌+◌, ◌-◌, ◌*◌, ◌/◌, ◌%◌, ◌^◌, ◌≤◌, ◌<◌, add-zero, zero-add, one-mul, zero-mul, mul_comm, mul_assoc, add-mul, div-one, div-add-mod', div-lt_iff_lt-mul, mod-eq_of_lt, mul-div_cancel, pow-suc, le_of_suc-le-suc, arith, ne_eqb, eqb-true, eqb, lit<, lit≤, get_or, pow-add, MatchOption}
+use native.Mathlib.Nat.{mod-one, mod-mod, div-div-eq-div-mul, pow-succ', one-le-pow}
 use lib.Arith.{mod-mul}
-use lib.Dec.{eqb, ltb, lit<, lit≤}
-use lib.ListN.{get_or}
-use lib.Pow.{pow-add}
 use Rattle.tonekit_decimal.specs.Digits.{digits}
-use Rattle.tonekit_decimal.specs.Text.{figures, whole_count, lowest, number_text}
+use Rattle.std.specs.Prelude.{Option, Some, None}
+use Rattle.tonekit_decimal.specs.Text.{figures, whole_count, lowest, fraction, number_text}
 use Rattle.tonekit_decimal.specs.Read.{read_fraction, read_number}
 
 -- the digit at a place
@@ -120,9 +113,10 @@ module _ (x : ℕ) where
       by false i = h
 
   -- the digits that are left out at the end are zeros
-  low_zero : (k : ℕ) → k ≤ 151 → x % 10 ^ (151 - k) ≡ 0 → (x % 10 ^ lowest (digits 190 x) k ≡ 0) × (lowest (digits 190 x) k ≤ 151)
+  low_zero : (k : ℕ) → k ≤ 151 → x % 10 ^ (151 - k) ≡ 0
+      → MatchOption (lowest (digits 190 x) k) (x % 10 ^ 151 ≡ 0) (λ low. (low < 151) × (x % 10 ^ low ≡ 0))
   unfolding lowest
-  low_zero zero h e = (e, omega arith)
+  low_zero zero h e = e
   low_zero (suc k) h e = by (eqb (get_or (digits 190 x) (151 - suc k) 0) 0) refl (low_zero k (omega arith))
     where
       one_more : get_or (digits 190 x) (151 - suc k) 0 ≡ 0 → x % 10 ^ (151 - k) ≡ 0
@@ -134,10 +128,10 @@ module _ (x : ℕ) where
           ∙ ap (λ (w : ℕ). w + 0) (zero-mul (10 ^ (151 - suc k)))
 
       by : (t : Bool) → eqb (get_or (digits 190 x) (151 - suc k) 0) 0 ≡ t
-          → (x % 10 ^ (151 - k) ≡ 0 → (x % 10 ^ lowest (digits 190 x) k ≡ 0) × (lowest (digits 190 x) k ≤ 151))
-          → (x % 10 ^ cond t (lowest (digits 190 x) k) (151 - suc k) ≡ 0) × (cond t (lowest (digits 190 x) k) (151 - suc k) ≤ 151)
+          → (x % 10 ^ (151 - k) ≡ 0 → MatchOption (lowest (digits 190 x) k) (x % 10 ^ 151 ≡ 0) (λ low. (low < 151) × (x % 10 ^ low ≡ 0)))
+          → MatchOption (cond t (lowest (digits 190 x) k) (Some (151 - suc k))) (x % 10 ^ 151 ≡ 0) (λ low. (low < 151) × (x % 10 ^ low ≡ 0))
       by true q f = f (one_more (eqb-true (get_or (digits 190 x) (151 - suc k) 0) 0 q))
-      by false q f = (e, omega arith)
+      by false q f = (omega arith, e)
 
   fraction_is : (low : ℕ) → low ≤ 151 → x % 10 ^ low ≡ 0 → x / 10 ^ low % 10 ^ (151 - low) * 10 ^ low ≡ x % 10 ^ 151
   fraction_is low h z =
@@ -156,9 +150,6 @@ module _ (x : ℕ) where
       ap (λ (w : ℕ). ahead * 10 ^ 151 + w)
       (read_fraction_lem low (151 - low) (10 ^ 150) (first_place low h) (omega arith) ∙ fraction_is low (omega arith) z)
 
-  none_left : (low : ℕ) → 151 ≤ low → low ≤ 151 → x % 10 ^ low ≡ 0 → x % 10 ^ 151 ≡ 0
-  none_left low h l z = let s : low ≡ 151 = omega arith in ap (λ (j : ℕ). x % 10 ^ j) (sym s) ∙ z
-
   ended : (ahead : ℕ) → read_number ahead [] ≡ ahead * 10 ^ 151 + 0
   unfolding read_number
   ended ahead = sym (add-zero (ahead * 10 ^ 151))
@@ -168,12 +159,9 @@ module _ (x : ℕ) where
 
   -- the text of a number below 10 ^ 190 stands for it
   pub reads_as : x < 10 ^ 190 → read_number 0 (number_text (digits 190 x)) ≡ x
-  unfolding number_text
-  reads_as h = by (ltb (lowest (digits 190 x) 151) 151) refl
+  unfolding number_text fraction
+  reads_as h = by (lowest (digits 190 x) 151) (low_zero 151 (lit≤ tt) (mod-one x))
     where
-      low : (x % 10 ^ lowest (digits 190 x) 151 ≡ 0) × (lowest (digits 190 x) 151 ≤ 151)
-      low = low_zero 151 (lit≤ tt) (mod-one x)
-
       few : x / 10 ^ 151 < 10 ^ 39
       few = (div-lt_iff_lt-mul {k = 10 ^ 151} {x = x} {y = 10 ^ 39} (lit< tt)).1 h
 
@@ -184,16 +172,7 @@ module _ (x : ℕ) where
           ∙ ap (λ (z : ℕ). read_number z rest)
           (ap (λ (z : ℕ). z + x / 10 ^ 151 % 10 ^ k) (zero-mul (10 ^ k)) ∙ zero-add (x / 10 ^ 151 % 10 ^ k) ∙ mod-eq_of_lt (count_enough 39 (lit≤ tt) few))
 
-      by : (t : Bool) → ltb (lowest (digits 190 x) 151) 151 ≡ t
-          → read_number 0 (cond t (figures (digits 190 x) 151 (whole_count (digits 190 x) 39) ++ (46 ∷ figures (digits 190 x) (lowest (digits 190 x) 151) (151 - lowest (digits 190 x) 151)))
-          (figures (digits 190 x) 151 (whole_count (digits 190 x) 39))) ≡ x
-      by true e =
-          front (46 ∷ figures (digits 190 x) (lowest (digits 190 x) 151) (151 - lowest (digits 190 x) 151))
-          ∙ dotted (x / 10 ^ 151) (lowest (digits 190 x) 151) (ltb-true (lowest (digits 190 x) 151) 151 e) low.0
-          ∙ div-add-mod' x (10 ^ 151)
-      by false e =
-          ap (read_number 0) (sym (append-nil (figures (digits 190 x) 151 (whole_count (digits 190 x) 39))))
-          ∙ front []
-          ∙ ended (x / 10 ^ 151)
-          ∙ ap (λ (z : ℕ). x / 10 ^ 151 * 10 ^ 151 + z) (sym (none_left (lowest (digits 190 x) 151) (ltb-false (lowest (digits 190 x) 151) 151 e) low.1 low.0))
-          ∙ div-add-mod' x (10 ^ 151)
+      by : (o : Option ℕ) → MatchOption o (x % 10 ^ 151 ≡ 0) (λ low. (low < 151) × (x % 10 ^ low ≡ 0))
+          → read_number 0 (figures (digits 190 x) 151 (whole_count (digits 190 x) 39) ++ fraction (digits 190 x) o) ≡ x
+      by (Some low) l = front (46 ∷ figures (digits 190 x) low (151 - low)) ∙ dotted (x / 10 ^ 151) low l.0 l.1 ∙ div-add-mod' x (10 ^ 151)
+      by None l = front [] ∙ ended (x / 10 ^ 151) ∙ ap (λ (z : ℕ). x / 10 ^ 151 * 10 ^ 151 + z) (sym l) ∙ div-add-mod' x (10 ^ 151)

@@ -1,12 +1,7 @@
 -- What is written lies in the rounding interval of its f32, and no number with fewer digits does. Assumes nothing.
-use mathlib.Core.Path.{◌≡◌, refl, sym, ◌∙◌, ap}
-use mathlib.Core.Bool.{Bool, true, false, cond}
-use Prim.Native.Nat.{ℕ, zero, suc, ◌+◌, ◌-◌, ◌*◌, ◌/◌, ◌%◌, ◌^◌, ◌≤◌, ◌<◌}
-use native.Mathlib.Nat.{add-zero, one-mul, mul-one, zero-mul, mul_assoc, add-mul, div-mul-le_self, lt-div-mul-add, le-div_iff_mul-le, div-lt_iff_lt-mul, mul-le-mul_right, one-le-pow, one-le-mul}
-use native.Mathlib.Omega.{arith}
-use borrow.Author.Tests.{le-leb, leb-true, leb-false, eqb-true, eqb-false}
-use lib.Dec.{eqb, leb, ltb}
-use lib.Pow.{pow-add}
+use Rattle.std.proofs.Common.{◌≡◌, refl, sym, ◌∙◌, ap, Bool, true, false, cond, ℕ, zero, suc, ◌+◌, ◌-◌, ◌*◌, ◌/◌, ◌%◌, ◌^◌, ◌≤◌, ◌<◌, add-zero, one-mul, mul-one, zero-mul, mul_assoc, add-mul, div-mul-le_self, le-div_iff_mul-le, div-lt_iff_lt-mul, mul-le-mul_right, arith, le-leb, leb-true, leb-false, MatchOption, unwrap_or, eqb, leb, ltb, pow-add}
+use native.Mathlib.Nat.{lt-div-mul-add, one-le-pow, one-le-mul}
+use Rattle.std.specs.Prelude.{Option, Some, None}
 use Rattle.tonekit_decimal.specs.Decimal.{reads, candidate, choice, shortest, quarter, nearest_of, significand, scale_field, lower_gap, decimal_of, rounds_to}
 
 pub differ : {b : Bool} → b ≡ true → b ≡ false → ⊥
@@ -25,60 +20,44 @@ pub ends_read : (lo hi odd d : ℕ) → lo + odd ≤ d → d + odd ≤ hi → re
 unfolding reads
 ends_read lo hi odd d h l = simp (le-leb (lo + odd) d h, le-leb (d + odd) hi l)
 
--- what a choice says of the two candidates
-abbrev pub pick : Bool → Bool → Bool → ℕ
-pick d u n = cond d (cond u (cond n 1 2) 1) (cond u 2 0)
+-- what holds of a choice between two numbers
+abbrev pick : Bool → Bool → Bool → ℕ → ℕ → Option ℕ
+pick d u n a b = cond d (cond u (cond n (Some a) (Some b)) (Some a)) (cond u (Some b) None)
 
-pick_one : (d u n : Bool) → pick d u n ≡ 1 → d ≡ true
-pick_one true u n e = refl
-pick_one false true n e = absurd (omega arith)
-pick_one false false n e = absurd (omega arith)
+picked : (P : ℕ → Type 0) (N : Type 0) (d u n : Bool) (a b : ℕ) → (d ≡ true → (u ≡ true → n ≡ true) → P a)
+    → (u ≡ true → (d ≡ true → n ≡ false) → P b) → (d ≡ false → u ≡ false → N) → MatchOption (pick d u n a b) N P
+picked P N true true true a b f g h = f refl (λ _. refl)
+picked P N true true false a b f g h = g refl (λ _. refl)
+picked P N true false n a b f g h = f refl (λ z. absurd (differ z refl))
+picked P N false true n a b f g h = g refl (λ z. absurd (differ z refl))
+picked P N false false n a b f g h = h refl refl
 
-pick_two : (d u n : Bool) → pick d u n ≡ 2 → u ≡ true
-pick_two d true n e = refl
-pick_two true false n e = absurd (omega arith)
-pick_two false false n e = absurd (omega arith)
-
-pick_none : (d u n : Bool) → (pick d u n ≡ 1 → ⊥) → (pick d u n ≡ 2 → ⊥) → (d ≡ false) × (u ≡ false)
-pick_none true true true a b = absurd (a refl)
-pick_none true true false a b = absurd (b refl)
-pick_none true false n a b = absurd (a refl)
-pick_none false true n a b = absurd (b refl)
-pick_none false false n a b = (refl, refl)
+-- of the choice, or of another number where there is none
+pub or_else : (P : ℕ → Type 0) (N : Type 0) (o : Option ℕ) (d : ℕ) → MatchOption o N P → (N → P d) → P (unwrap_or o d)
+or_else P N None d m f = f m
+or_else P N (Some r) d m f = m
 
 module _ (lo v hi odd : ℕ) (rv : reads lo hi odd v ≡ true) where
-  low : ℕ → Bool
-  low p = reads lo hi odd (candidate v p 0)
+  -- where neither reads
+  abbrev pub Neither : ℕ → Type 0
+  Neither p = (reads lo hi odd (candidate v p 0) ≡ false) × (reads lo hi odd (candidate v p 1) ≡ false)
 
-  high : ℕ → Bool
-  high p = reads lo hi odd (candidate v p 1)
-
-  near : ℕ → Bool
-  near p = leb (2 * v) (candidate v p 0 + candidate v p 1)
-
-  pub one : (p : ℕ) → choice lo v hi odd p ≡ 1 → reads lo hi odd (candidate v p 0) ≡ true
-  unfolding choice low high near
-  one p e = pick_one (low p) (high p) (near p) e
-
-  pub two : (p : ℕ) → choice lo v hi odd p ≡ 2 → reads lo hi odd (candidate v p 1) ≡ true
-  unfolding choice low high near
-  two p e = pick_two (low p) (high p) (near p) e
-
-  pub none : (p : ℕ) → (choice lo v hi odd p ≡ 1 → ⊥) → (choice lo v hi odd p ≡ 2 → ⊥)
-      → (reads lo hi odd (candidate v p 0) ≡ false) × (reads lo hi odd (candidate v p 1) ≡ false)
-  unfolding choice low high near
-  none p a b = pick_none (low p) (high p) (near p) a b
+  pub chosen : (p : ℕ) (P : ℕ → Type 0)
+      → (reads lo hi odd (candidate v p 0) ≡ true → (reads lo hi odd (candidate v p 1) ≡ true → leb (2 * v) (candidate v p 0 + candidate v p 1) ≡ true) → P (candidate v p 0))
+      → (reads lo hi odd (candidate v p 1) ≡ true → (reads lo hi odd (candidate v p 0) ≡ true → leb (2 * v) (candidate v p 0 + candidate v p 1) ≡ false) → P (candidate v p 1))
+      → MatchOption (choice lo v hi odd p) (Neither p) P
+  unfolding choice
+  chosen p P f g =
+      picked P (Neither p) (reads lo hi odd (candidate v p 0)) (reads lo hi odd (candidate v p 1)) (leb (2 * v) (candidate v p 0 + candidate v p 1))
+      (candidate v p 0) (candidate v p 1) f g (λ a b. (a, b))
 
   pub shortest_reads : (p : ℕ) → reads lo hi odd (shortest lo v hi odd p) ≡ true
   unfolding shortest
   shortest_reads zero = rv
-  shortest_reads (suc p) = by (eqb (choice lo v hi odd (suc p)) 1) (eqb (choice lo v hi odd (suc p)) 2) refl refl (shortest_reads p)
-    where
-      by : (s t : Bool) → eqb (choice lo v hi odd (suc p)) 1 ≡ s → eqb (choice lo v hi odd (suc p)) 2 ≡ t → reads lo hi odd (shortest lo v hi odd p) ≡ true
-          → reads lo hi odd (cond s (candidate v (suc p) 0) (cond t (candidate v (suc p) 1) (shortest lo v hi odd p))) ≡ true
-      by true t e g h = one (suc p) (eqb-true (choice lo v hi odd (suc p)) 1 e)
-      by false true e g h = two (suc p) (eqb-true (choice lo v hi odd (suc p)) 2 g)
-      by false false e g h = h
+  shortest_reads (suc p) =
+      let P : ℕ → Type 0 = λ d. reads lo hi odd d ≡ true in
+      let rest = shortest_reads p in
+      or_else P (Neither (suc p)) (choice lo v hi odd (suc p)) (shortest lo v hi odd p) (chosen (suc p) P (λ r n. r) (λ r n. r)) (λ n. rest)
 
   -- where a multiple of 10 ^ q reads, one of the two beside v does
   pub some : (q k : ℕ) → reads lo hi odd (k * 10 ^ q) ≡ true → reads lo hi odd (candidate v q 0) ≡ false → reads lo hi odd (candidate v q 1) ≡ false → ⊥
@@ -122,18 +101,20 @@ module _ (lo v hi odd : ℕ) (rv : reads lo hi odd v ≡ true) where
   shortest_fewest zero k r p h = (shortest lo v hi odd p, sym (mul-one (shortest lo v hi odd p)))
   shortest_fewest (suc q) k r zero h = absurd (omega arith)
   shortest_fewest (suc q) k r (suc p) h =
-      by (eqb (choice lo v hi odd (suc p)) 1) (eqb (choice lo v hi odd (suc p)) 2) (leb (suc q) p) refl refl refl (shortest_fewest (suc q) k r p)
+      let P : ℕ → Type 0 = λ d. (j : ℕ) × (d ≡ j * 10 ^ suc q) in
+      let rest = shortest_fewest (suc q) k r p in
+      or_else P (Neither (suc p)) (choice lo v hi odd (suc p)) (shortest lo v hi odd p)
+      (chosen (suc p) P
+      (λ _ _. ((v / 10 ^ suc p + 0) * 10 ^ (suc p - suc q), multiple (suc p) (suc q) 0 h))
+      (λ _ _. ((v / 10 ^ suc p + 1) * 10 ^ (suc p - suc q), multiple (suc p) (suc q) 1 h)))
+      (λ n. by (leb (suc q) p) refl rest n)
     where
-      by : (s t l : Bool) → eqb (choice lo v hi odd (suc p)) 1 ≡ s → eqb (choice lo v hi odd (suc p)) 2 ≡ t → leb (suc q) p ≡ l
-          → (suc q ≤ p → (j : ℕ) × (shortest lo v hi odd p ≡ j * 10 ^ suc q))
-          → (j : ℕ) × (cond s (candidate v (suc p) 0) (cond t (candidate v (suc p) 1) (shortest lo v hi odd p)) ≡ j * 10 ^ suc q)
-      by true t l e g m i = ((v / 10 ^ suc p + 0) * 10 ^ (suc p - suc q), multiple (suc p) (suc q) 0 h)
-      by false true l e g m i = ((v / 10 ^ suc p + 1) * 10 ^ (suc p - suc q), multiple (suc p) (suc q) 1 h)
-      by false false true e g m i = i (leb-true (suc q) p m)
-      by false false false e g m i =
+      by : (l : Bool) → leb (suc q) p ≡ l → (suc q ≤ p → (j : ℕ) × (shortest lo v hi odd p ≡ j * 10 ^ suc q)) → Neither (suc p)
+          → (j : ℕ) × (shortest lo v hi odd p ≡ j * 10 ^ suc q)
+      by true m i n = i (leb-true (suc q) p m)
+      by false m i n =
           let d : p < suc q = leb-false (suc q) p m in
           let eq : suc q ≡ suc p = omega arith in
-          let n = none (suc p) (eqb-false (choice lo v hi odd (suc p)) 1 e) (eqb-false (choice lo v hi odd (suc p)) 2 g) in
           absurd (some (suc p) k (rw eq at r) n.0 n.1)
 
 pub quarter_positive : (e : ℕ) → 1 ≤ quarter e

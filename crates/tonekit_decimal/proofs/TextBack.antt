@@ -1,16 +1,8 @@
 -- The text of every finite f32, read and rounded to nearest with ties to even, gives its bits back. Assumes nothing.
-use mathlib.Core.Path.{◌≡◌, refl, sym, ◌∙◌, ap}
-use mathlib.Core.Bool.{Bool, true, false, cond}
-use mathlib.Core.List.{List, [], ◌∷◌, ◌++◌}
-use Prim.Native.Nat.{ℕ, zero, suc, ◌+◌, ◌-◌, ◌*◌, ◌%◌, ◌^◌, ◌≤◌, ◌<◌}
-use native.Mathlib.Nat.{le_trans, lt_of_le_of_lt}
-use native.Mathlib.Omega.{arith}
-use borrow.Author.Tests.{ne_eqb}
-use lib.Dec.{eqb, ltb, lit<}
-use lib.ListN.{get_or}
-use lib.Ieee.{binary32, round, to_bits}
+use Rattle.std.proofs.Common.{◌≡◌, refl, sym, ◌∙◌, ap, Bool, true, false, cond, List, [], ◌∷◌, ◌++◌, ℕ, zero, suc, ◌+◌, ◌-◌, ◌*◌, ◌%◌, ◌^◌, ◌≤◌, ◌<◌, le_trans, lt_of_le_of_lt, arith, ne_eqb, eqb, lit<, get_or, to_bits}
+use lib.Ieee.{binary32, round}
 use Rattle.tonekit_decimal.specs.Digits.{digits}
-use Rattle.tonekit_decimal.specs.Text.{figures, whole_count, lowest, number_text, sign_text}
+use Rattle.tonekit_decimal.specs.Text.{figures, whole_count, lowest, fraction, number_text, sign_text}
 use Rattle.tonekit_decimal.specs.Read.{read_number, float_of}
 use Rattle.tonekit_decimal.specs.Decimal.{quarter, significand, scale_field, lower_gap, decimal_of, rounds_to, sign_field, exponent_field, fraction_field, decimal_text}
 use Rattle.tonekit_decimal.proofs.Nearest.{within}
@@ -63,13 +55,11 @@ counted ds (suc k) = by (eqb (get_or ds (150 + suc k) 0) 0) (counted ds k)
 
 starts : (ds : List ℕ) → (d : ℕ) × ((cs : List ℕ) × (number_text ds ≡ (48 + d) ∷ cs))
 unfolding number_text figures
-starts ds = by (ltb (lowest ds 151) 151) (whole_count ds 39) (counted ds 39)
+starts ds = by (whole_count ds 39) (fraction ds (lowest ds 151)) (counted ds 39)
   where
-    by : (b : Bool) (n : ℕ) → (j : ℕ) × (n ≡ suc j)
-        → (d : ℕ) × ((cs : List ℕ) × (cond b (figures ds 151 n ++ (46 ∷ figures ds (lowest ds 151) (151 - lowest ds 151))) (figures ds 151 n) ≡ (48 + d) ∷ cs))
-    by b zero t = absurd (omega arith)
-    by true (suc n) t = (get_or ds (151 + n) 0 % 10, (figures ds 151 n ++ (46 ∷ figures ds (lowest ds 151) (151 - lowest ds 151)), refl))
-    by false (suc n) t = (get_or ds (151 + n) 0 % 10, (figures ds 151 n, refl))
+    by : (n : ℕ) (rest : List ℕ) → (j : ℕ) × (n ≡ suc j) → (d : ℕ) × ((cs : List ℕ) × (figures ds 151 n ++ rest ≡ (48 + d) ∷ cs))
+    by zero rest t = absurd (omega arith)
+    by (suc n) rest t = (get_or ds (151 + n) 0 % 10, (figures ds 151 n ++ rest, refl))
 
 signed : (b : Bool) (cs : List ℕ) (d : ℕ) (r : List ℕ) → cs ≡ (48 + d) ∷ r
     → float_of (cond b (45 ∷ []) [] ++ cs) ≡ round binary32 b (read_number 0 cs) (10 ^ 151)

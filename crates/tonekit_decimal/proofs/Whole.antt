@@ -1,13 +1,8 @@
 -- Digits as whole numbers. Assumes nothing.
-use mathlib.Core.Path.{◌≡◌, refl, sym, ◌∙◌, ap}
-use mathlib.Core.Bool.{Bool, true, false, cond}
-use mathlib.Core.List.{List, ◌∷◌, ◌++◌}
-use Prim.Native.Nat.{ℕ, zero, suc, ◌+◌, ◌-◌, ◌*◌, ◌/◌, ◌%◌, ◌^◌, ◌≤◌, ◌<◌}
-use native.Mathlib.Nat.{mod-add-div, mul-add, mul_left_comm, mul_assoc, pow-zero, pow-suc, pow-succ', div-one, div-div-eq-div-mul, suc-add, zero-add, add-zero, mul-one, one-mul, le_of_suc-le-suc}
-use native.Mathlib.Omega.{arith}
-use borrow.Author.Tests.{ne_eqb, ltb-true, ltb-false, le-leb, lt-leb, leb-true, leb-false}
-use lib.Dec.{ltb, leb}
-use lib.ListN.{drop, replicate}
+use Rattle.std.proofs.Common.{◌≡◌, refl, sym, ◌∙◌, ap, Bool, true, false, List, ◌∷◌, ◌++◌, ℕ, zero, suc, ◌+◌, ◌-◌, ◌*◌, ◌/◌, ◌%◌, ◌^◌, ◌≤◌, ◌<◌, mul-add, mul_left_comm, mul_assoc, pow-suc, div-one, suc-add, zero-add, add-zero, mul-one, one-mul, le_of_suc-le-suc, arith, ltb-true, ltb-false, le-leb, leb-true, leb-false, ltb, leb, drop, replicate}
+use native.Mathlib.Nat.{mod-add-div, pow-zero, pow-succ', div-div-eq-div-mul}
+use borrow.Author.Tests.{lt-leb}
+use Rattle.std.specs.Int.{from_bool}
 use Rattle.tonekit_decimal.specs.Digits.{digits, mul_add, scaled, times_all, at_most}
 
 -- a number times k, by its ones and the rest
@@ -64,8 +59,8 @@ same_leb a b c d f g = by (leb a b) refl
     by true e = e ∙ sym (le-leb c d (f (leb-true a b e)))
     by false e = e ∙ sym (lt-leb c d (g (leb-false a b e)))
 
--- one digit: the borrow c goes up as 1 exactly where the ones' difference needs it
-ones : (t : Bool) (c x y : ℕ) → ltb (y % 10) (x % 10 + c) ≡ t → c ≤ 1 → leb (x / 10 + cond t 1 0) (y / 10) ≡ leb (x + c) y
+-- one digit: a borrow goes up exactly where the ones' difference needs it
+ones : (t : Bool) (c x y : ℕ) → ltb (y % 10) (x % 10 + c) ≡ t → c ≤ 1 → leb (x / 10 + from_bool t) (y / 10) ≡ leb (x + c) y
 ones true c x y e h =
     let l : y % 10 < x % 10 + c = ltb-true (y % 10) (x % 10 + c) e in
     same_leb (x / 10 + 1) (y / 10) (x + c) y (λ i. omega arith) (λ i. omega arith)
@@ -73,15 +68,15 @@ ones false c x y e h =
     let l : x % 10 + c ≤ y % 10 = ltb-false (y % 10) (x % 10 + c) e in
     same_leb (x / 10 + 0) (y / 10) (x + c) y (λ i. omega arith) (λ i. omega arith)
 
-carry_one : (t : Bool) → cond t 1 0 ≤ 1
-carry_one true = omega arith
-carry_one false = omega arith
+at_most_one : (t : Bool) → from_bool t ≤ 1
+at_most_one true = omega arith
+at_most_one false = omega arith
 
-pub at_most_digits : (n c x y : ℕ) → c ≤ 1 → x < 10 ^ n → y < 10 ^ n → at_most c (digits n x) (digits n y) ≡ leb (x + c) y
+pub at_most_digits : (n : ℕ) (less : Bool) (x y : ℕ) → x < 10 ^ n → y < 10 ^ n → at_most less (digits n x) (digits n y) ≡ leb (x + from_bool less) y
 unfolding digits at_most
-at_most_digits zero zero x y h hx hy = sym (le-leb (x + 0) y (omega arith))
-at_most_digits zero (suc c) x y h hx hy = ne_eqb (suc c) 0 (λ e. omega arith) ∙ sym (lt-leb (x + suc c) y (omega arith))
-at_most_digits (suc n) c x y h hx hy =
-    let t = ltb (y % 10) (x % 10 + c) in
+at_most_digits zero true x y hx hy = sym (lt-leb (x + 1) y (omega arith))
+at_most_digits zero false x y hx hy = sym (le-leb (x + 0) y (omega arith))
+at_most_digits (suc n) less x y hx hy =
+    let t = ltb (y % 10) (x % 10 + from_bool less) in
     let p = pow-suc 10 n in
-    at_most_digits n (cond t 1 0) (x / 10) (y / 10) (carry_one t) (omega arith) (omega arith) ∙ ones t c x y refl h
+    at_most_digits n t (x / 10) (y / 10) (omega arith) (omega arith) ∙ ones t (from_bool less) x y refl (at_most_one less)

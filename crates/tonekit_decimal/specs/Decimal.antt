@@ -1,6 +1,6 @@
 -- The shortest plain decimal of an f32 given by its bits, in whole numbers. The unit is 10 ^ -151: every f32 and every midpoint
 -- between two neighbours is a whole number of it.
-use Rattle.std.specs.Prelude.{ℕ, zero, suc, ◌+◌, ◌-◌, ◌*◌, ◌/◌, ◌%◌, ◌^◌, Bool, false, cond, List, ◌++◌, eqb, leb, ltb}
+use Rattle.std.specs.Prelude.{ℕ, zero, suc, ◌+◌, ◌-◌, ◌*◌, ◌/◌, ◌%◌, ◌^◌, Bool, false, cond, List, ◌++◌, eqb, leb, ltb, Option, Some, None, unwrap_or}
 use Rattle.tonekit_decimal.specs.Digits.{digits}
 use Rattle.tonekit_decimal.specs.Text.{number_text, sign_text, special_text}
 
@@ -12,19 +12,18 @@ reads lo hi odd d = cond (leb (lo + odd) d) (leb (d + odd) hi) false
 unfoldable pub candidate : ℕ → ℕ → ℕ → ℕ
 candidate v p c = (v / 10 ^ p + c) * 10 ^ p
 
--- of the two multiples of 10 ^ p beside v: 0 if none reads, 1 for the lower, 2 for the upper; the nearer if both read, the lower at a tie
-unfoldable pub choice : ℕ → ℕ → ℕ → ℕ → ℕ → ℕ
+-- of the two multiples of 10 ^ p beside v the one that reads; the nearer if both read, the lower at a tie
+unfoldable pub choice : ℕ → ℕ → ℕ → ℕ → ℕ → Option ℕ
 choice lo v hi odd p =
     cond (reads lo hi odd (candidate v p 0))
-    (cond (reads lo hi odd (candidate v p 1)) (cond (leb (2 * v) (candidate v p 0 + candidate v p 1)) 1 2) 1)
-    (cond (reads lo hi odd (candidate v p 1)) 2 0)
+    (cond (reads lo hi odd (candidate v p 1))
+    (cond (leb (2 * v) (candidate v p 0 + candidate v p 1)) (Some (candidate v p 0)) (Some (candidate v p 1))) (Some (candidate v p 0)))
+    (cond (reads lo hi odd (candidate v p 1)) (Some (candidate v p 1)) None)
 
 -- the chosen multiple of the highest power of ten, from 10 ^ p down, of which one reads; v itself where none does
 unfoldable pub shortest : ℕ → ℕ → ℕ → ℕ → ℕ → ℕ
 shortest lo v hi odd zero = v
-shortest lo v hi odd (suc p) =
-    cond (eqb (choice lo v hi odd (suc p)) 1) (candidate v (suc p) 0)
-    (cond (eqb (choice lo v hi odd (suc p)) 2) (candidate v (suc p) 1) (shortest lo v hi odd p))
+shortest lo v hi odd (suc p) = unwrap_or (choice lo v hi odd (suc p)) (shortest lo v hi odd p)
 
 -- a quarter of the step at the exponent field e: 2 ^ (e - 152)
 unfoldable pub quarter : ℕ → ℕ

@@ -3,297 +3,262 @@
 // every f32 and every midpoint between two of them is whole.
 #![tactic(auto)]
 
-ghost use Rattle.std.specs.Prelude.{◌≡◌, ◌++◌, ◌+◌, ◌-◌, ◌*◌, ◌≤◌, ◌<◌, length};
-ghost use Rattle.std.proofs.lemmas.List.Edits.{sets};
-ghost use Rattle.tonekit_decimal.specs.Digits.{digits, scaled, at_most, times_all, reads_in, choice_in, search_in};
-ghost use Rattle.tonekit_decimal.specs.Text.{lowest, whole_count, figures, number_text, sign_text, special_text, Shown};
+ghost use Rattle.std.specs.Prelude.{◌≡◌, ◌++◌, ◌+◌, ◌-◌, ◌*◌, ◌≤◌, ◌<◌, length, option_map, IfSome};
+ghost use Rattle.arrayvec.specs.ArrayString.{array_string_len};
+ghost use Rattle.tonekit_decimal.specs.Digits.{digits, mul_add, scaled, at_most, times_all, reads_in, choice_in, search_in};
+ghost use Rattle.tonekit_decimal.specs.Text.{lowest, whole_count, figures, number_text, sign_text, special_text};
 ghost use Rattle.tonekit_decimal.specs.Decimal.{nearest_of, lower_gap, decimal_of, decimal_text};
 
-// The text of an f32, in the first `count` bytes.
-#[derive(Drop)]
-pub struct Text {
-    pub count: usize,
-    pub text: [u8; 192],
+use arrayvec::ArrayString;
+
+// A number by its digits.
+#[derive(Clone, Copy)]
+struct Digits {
+    places: [u8; 190],
+    ghost size: { length places ≡ 190 },
 }
 
-// A byte at a wider type, with its bound.
-fn wide(x: u8) -> u64
-    ensures { (result ≡ x) × (result < 256) }
-{
-    x as u64
+// The value of an f32 between the midpoints to its neighbours, which count where its significand is even.
+#[derive(Clone, Copy)]
+struct Interval {
+    low: Digits,
+    value: Digits,
+    high: Digits,
+    odd: bool,
 }
 
-// k times what stands from place p up, plus c, with p zeros below.
-fn scale(a: &[u8; 190], k: u64, p: usize, c: u64) -> [u8; 190]
-    requires { (length a.now ≡ 190) × (k ≤ 134217728) × (p ≤ 190) × (c ≤ 1) }
-    ensures { (length result ≡ 190) × (result ≡ scaled k p c a.now) }
+// Puts k times the digits, plus c, in their place; what is carried beyond them is dropped.
+fn multiply(digits: &mut [u8], k: u64, c: u64)
+    requires { (k ≤ 134217728) × (c ≤ 1) }
+    ensures { digits.new ≡ mul_add k c digits.old }
 {
-    let mut out = [0u8; 190];
     let mut carry = c;
-    for i in p..190 {
-        let t = k * wide(a[i]) + carry;
-        out[i] = (t % 10) as u8;
+    for digit in digits.iter_mut() {
+        let t = k * u64::from(*digit) + carry;
+        *digit = (t % 10) as u8;
         carry = t / 10;
     }
-    out
 }
 
-// a times k, n times over.
-fn times(a: &[u8; 190], k: u64, n: usize) -> [u8; 190]
-    requires { (length a.now ≡ 190) × (k ≤ 134217728) }
-    ensures { (length result ≡ 190) × (result ≡ times_all k n a.now) }
-{
-    let mut out = *a;
-    for i in 0..n {
-        let next = scale(&out, k, 0, 0);
-        out = next;
+impl Digits {
+    // The number 1.
+    fn one() -> Digits
+        ensures { result.places ≡ digits 190 1 }
+    {
+        let mut places = [0u8; 190];
+        places[0] = 1;
+        Digits { places }
     }
-    out
-}
 
-// Whether a, plus c, is at most b: the difference, from the ones up, leaves nothing to borrow.
-fn at_most(a: &[u8; 190], b: &[u8; 190], c: u64) -> bool
-    requires { (length a.now ≡ 190) × (length b.now ≡ 190) × (c ≤ 1) }
-    ensures { result ≡ at_most c a.now b.now }
-{
-    let mut borrow = c;
-    for i in 0..190 {
-        if wide(b[i]) < wide(a[i]) + borrow {
-            borrow = 1;
-        } else {
-            borrow = 0;
+    // k times what stands from place p up, plus c, with p zeros below.
+    fn scaled(&self, k: u64, p: usize, c: u64) -> Digits
+        requires { (k ≤ 134217728) × (p ≤ 190) × (c ≤ 1) }
+        ensures { result.places ≡ scaled k p c self.now.places }
+    {
+        let mut places = self.places;
+        places[..p].fill(0);
+        multiply(&mut places[p..], k, c);
+        Digits { places }
+    }
+
+    // k times the number, n times over.
+    fn times(&self, k: u64, n: usize) -> Digits
+        requires { k ≤ 134217728 }
+        ensures { result.places ≡ times_all k n self.now.places }
+    {
+        let mut product = *self;
+        for i in 0..n {
+            product = product.scaled(k, 0, 0);
         }
+        product
     }
-    borrow == 0
-}
 
-// Whether d lies between lo and hi: an end itself does where odd is 0.
-fn reads(lo: &[u8; 190], d: &[u8; 190], hi: &[u8; 190], odd: u64) -> bool
-    requires { (length lo.now ≡ 190) × (length d.now ≡ 190) × (length hi.now ≡ 190) × (odd ≤ 1) }
-    ensures { result ≡ reads_in lo.now hi.now odd d.now }
-{
-    if at_most(lo, d, odd) {
-        at_most(d, hi, odd)
-    } else {
-        false
+    // Whether the number is at most another, or less where it must be: the difference, from the ones
+    // up, leaves nothing to borrow.
+    // Stays: std compares lists from the front on, and here the highest digit stands last.
+    fn at_most(&self, other: &Digits, less: bool) -> bool
+        ensures { result ≡ at_most less self.now.places other.now.places }
+    {
+        let mut borrow = less;
+        for (x, y) in self.places.iter().zip(&other.places) {
+            borrow = u16::from(*y) < u16::from(*x) + u16::from(borrow);
+        }
+        !borrow
     }
-}
 
-// Which multiple of 10^p beside v lies between lo and hi, and is the nearer of two: 1 the lower, 2
-// the upper, 0 none.
-fn choice(lo: &[u8; 190], v: &[u8; 190], hi: &[u8; 190], odd: u64, p: usize) -> u64
-    requires { (length lo.now ≡ 190) × (length v.now ≡ 190) × (length hi.now ≡ 190) × (odd ≤ 1) × (p ≤ 190) }
-    ensures { result ≡ choice_in lo.now v.now hi.now odd p }
-{
-    let down = scale(v, 1, p, 0);
-    let up = scale(v, 1, p, 1);
-    let upper = reads(lo, &up, hi, odd);
-    if reads(lo, &down, hi, odd) {
-        if upper {
-            let twice = scale(v, 2, 0, 0);
-            let both = scale(v, 2, p, 1);
-            if at_most(&twice, &both, 0) {
-                return 1;
+    // How many digits the whole part has: those above its highest that is not 0 are left out.
+    fn whole_count(&self) -> usize
+        ensures { (result ≡ whole_count self.now.places 39) × (result ≤ 39) }
+    {
+        let mut count = 1;
+        for (k, digit) in self.places[151..].iter().enumerate() {
+            if *digit != 0 {
+                count = k + 1;
             }
-            return 2;
         }
-        return 1;
+        count
     }
-    if upper { 2 } else { 0 }
+
+    // The lowest place of the fraction whose digit is not 0.
+    fn lowest(&self) -> Option<usize>
+        ensures value { result ≡ lowest self.now.places 151 }
+        ensures within { IfSome result (λ place. place < 151) }
+    {
+        for (place, digit) in self.places[..151].iter().enumerate() {
+            if *digit != 0 {
+                return Some(place);
+            }
+        }
+        None
+    }
+
+    // Adds the characters of the digits below place `end`, the highest first, down to place `low`.
+    // Stays: the places go down, and a range says from where to where.
+    fn add_figures(&self, text: &mut ArrayString<192>, low: usize, end: usize)
+        requires places { (low ≤ end) × (end ≤ 190) }
+        requires room { array_string_len text.old + (end - low) ≤ 192 }
+        ensures bytes { text.new.bytes ≡ text.old.bytes ++ figures self.now.places low (end - low) }
+        ensures len { array_string_len text.new ≡ array_string_len text.old + (end - low) }
+    {
+        for place in (low..end).rev() {
+            text.push(char::from(b'0' + self.places[place] % 10));
+        }
+    }
+
+    // Adds the characters of the number.
+    fn add_to(&self, text: &mut ArrayString<192>)
+        requires { array_string_len text.old ≤ 1 }
+        ensures { text.new.bytes ≡ text.old.bytes ++ number_text self.now.places }
+    {
+        self.add_figures(text, 151, 151 + self.whole_count());
+        if let Some(low) = self.lowest() {
+            text.push('.');
+            self.add_figures(text, low, 151);
+        }
+    }
 }
 
-// The multiple of the largest power of ten up to 10^189 that lies between lo and hi; v where only
-// a multiple of 1 does.
-fn search(lo: &[u8; 190], v: &[u8; 190], hi: &[u8; 190], odd: u64) -> [u8; 190]
-    requires { (length lo.now ≡ 190) × (length v.now ≡ 190) × (length hi.now ≡ 190) × (odd ≤ 1) }
-    ensures { result ≡ search_in lo.now v.now hi.now odd 189 }
-{
-    let mut p: usize = 189;
-    while 0 < p {
-        let c = choice(lo, v, hi, odd, p);
-        if c == 1 {
-            return scale(v, 1, p, 0);
-        }
-        if c == 2 {
-            return scale(v, 1, p, 1);
-        }
-        p -= 1;
+impl Interval {
+    // Whether a number lies in the interval.
+    fn holds(&self, d: &Digits) -> bool
+        ensures { result ≡ reads_in self.now.low.places self.now.high.places self.now.odd d.now.places }
+    {
+        self.low.at_most(d, self.odd) && d.at_most(&self.high, self.odd)
     }
-    *v
-}
 
-// 4 m - below, or 0 where below is more.
-fn lower(m: u64, below: u64) -> u64
-    requires { m < 16777216 }
-    ensures { result ≡ 4 * m - below }
-{
-    if 4 * m < below { 0 } else { 4 * m - below }
+    // Of the two multiples of 10^p beside the value the one in the interval, and the nearer where both
+    // lie there.
+    fn choice(&self, p: usize) -> Option<Digits>
+        requires { p ≤ 190 }
+        ensures { option_map (λ d. d.places) result ≡ choice_in self.now.low.places self.now.value.places self.now.high.places self.now.odd p }
+    {
+        let down = self.value.scaled(1, p, 0);
+        let up = self.value.scaled(1, p, 1);
+        match (self.holds(&down), self.holds(&up)) {
+            (true, true) => {
+                let twice = self.value.scaled(2, 0, 0);
+                let both = self.value.scaled(2, p, 1);
+                if twice.at_most(&both, false) {
+                    Some(down)
+                } else {
+                    Some(up)
+                }
+            }
+            (true, false) => Some(down),
+            (false, true) => Some(up),
+            (false, false) => None,
+        }
+    }
+
+    // The multiple of the largest power of ten up to 10^189 that lies in the interval; the value where
+    // only a multiple of 1 does.
+    fn shortest(&self) -> Digits
+        ensures { result.places ≡ search_in self.now.low.places self.now.value.places self.now.high.places self.now.odd 189 }
+    {
+        for p in (1..190).rev() {
+            if let Some(found) = self.choice(p) {
+                return found;
+            }
+        }
+        self.value
+    }
 }
 
 // The shortest decimal in the rounding interval of m 2^(e - 150). Its upper end is two quarters of a
 // step away, its lower end `below` quarters.
-fn shortest(m: u64, e: usize, below: u64) -> [u8; 190]
+fn shortest(m: u64, e: usize, below: u64) -> Digits
     requires { (m < 16777216) × (1 ≤ e) × (e ≤ 254) }
-    ensures { result ≡ digits 190 (nearest_of m e below) }
+    ensures { result.places ≡ digits 190 (nearest_of m e below) }
 {
-    let mut one = [0u8; 190];
-    one[0] = 1;
-    let power = times(&one, 2, e - 1);
-    let unit = times(&power, 5, 151);
-    let lo = scale(&unit, lower(m, below), 0, 0);
-    let v = scale(&unit, 4 * m, 0, 0);
-    let hi = scale(&unit, 4 * m + 2, 0, 0);
-    search(&lo, &v, &hi, m % 2)
-}
-
-// How many digits the whole part has: those above its highest that is not 0 are left out.
-fn whole_count(a: &[u8; 190]) -> usize
-    ensures { (result ≡ whole_count a.now 39) × (result ≤ 39) }
-{
-    let mut k: usize = 39;
-    while 0 < k {
-        if a[150 + k] != 0 {
-            return k;
-        }
-        k -= 1;
-    }
-    1
-}
-
-// The lowest place of the fraction whose digit is not 0, 151 where there is none.
-fn lowest_place(a: &[u8; 190]) -> usize
-    ensures { (result ≡ lowest a.now 151) × (result ≤ 151) }
-{
-    let mut k: usize = 151;
-    while 0 < k {
-        if a[151 - k] != 0 {
-            return 151 - k;
-        }
-        k -= 1;
-    }
-    151
-}
-
-// Writes n digits at an index, from place low + n - 1 down to place low.
-fn put_figures(text: &mut [u8; 192], at: usize, a: &[u8; 190], low: usize, n: usize)
-    requires { (at + n ≤ 192) × (low + n ≤ 190) }
-    ensures { text.new ≡ sets text.old at (figures a.now low n) }
-{
-    let mut k = n;
-    let mut i = at;
-    while 0 < k {
-        k -= 1;
-        text[i] = 48 + a[low + k] % 10;
-        i += 1;
-    }
-}
-
-// Writes a number at an index, and answers the index behind it.
-fn put_number(text: &mut [u8; 192], at: usize, a: &[u8; 190]) -> usize
-    requires { at ≤ 1 }
-    ensures { (result ≡ at + length (number_text a.now)) × (result ≤ 192)
-        × (text.new ≡ sets text.old at (number_text a.now)) }
-{
-    let n = whole_count(a);
-    put_figures(text, at, a, 151, n);
-    let low = lowest_place(a);
-    if low < 151 {
-        let dot = at + n;
-        text[dot] = b'.';
-        put_figures(text, dot + 1, a, low, 151 - low);
-        return dot + 1 + (151 - low);
-    }
-    at + n
-}
-
-// The text of a number and its sign.
-fn finite(sign: u32, a: &[u8; 190]) -> Text
-    ensures { Shown (sign_text sign ++ number_text a.now) result }
-{
-    let mut text = [0u8; 192];
-    if sign == 1 {
-        text[0] = b'-';
-        let count = put_number(&mut text, 1, a);
-        return Text {
-            count: count,
-            text: text,
-        };
-    }
-    let count = put_number(&mut text, 0, a);
-    Text {
-        count: count,
-        text: text,
-    }
-}
-
-// The text of an infinity or a NaN: f is its fraction field.
-fn special(sign: u32, f: u32) -> Text
-    ensures { Shown (special_text sign f) result }
-{
-    let mut text = [0u8; 192];
-    if f != 0 {
-        text[0] = b'n';
-        text[1] = b'a';
-        text[2] = b'n';
-        return Text {
-            count: 3,
-            text: text,
-        };
-    }
-    if sign == 1 {
-        text[0] = b'-';
-        text[1] = b'i';
-        text[2] = b'n';
-        text[3] = b'f';
-        return Text {
-            count: 4,
-            text: text,
-        };
-    }
-    text[0] = b'i';
-    text[1] = b'n';
-    text[2] = b'f';
-    Text {
-        count: 3,
-        text: text,
-    }
+    let quarter = Digits::one().times(2, e - 1).times(5, 151);
+    let interval = Interval {
+        low: quarter.scaled((4 * m).saturating_sub(below), 0, 0),
+        value: quarter.scaled(4 * m, 0, 0),
+        high: quarter.scaled(4 * m + 2, 0, 0),
+        odd: m % 2 == 1,
+    };
+    interval.shortest()
 }
 
 // How many quarters of a step the lower midpoint is away.
+#[tactic(auto, unfolding(crate::specs::Decimal::lower_gap))]
 fn lower_gap(e: u32, f: u32) -> u64
     ensures { result ≡ lower_gap e f }
 {
-    if f == 0 {
-        if 1 < e {
-            return 1;
-        }
-        return 2;
-    }
-    2
+    if f == 0 && 1 < e { 1 } else { 2 }
 }
 
 // The shortest decimal of a finite f32, by its exponent and fraction fields.
-fn digits_of(e: u32, f: u32) -> [u8; 190]
+fn digits_of(e: u32, f: u32) -> Digits
     requires { (e < 255) × (f < 8388608) }
-    ensures { result ≡ digits 190 (decimal_of e f) }
+    ensures { result.places ≡ digits 190 (decimal_of e f) }
 {
     let below = lower_gap(e, f);
     if e == 0 {
-        return shortest(f as u64, 1, below);
+        return shortest(u64::from(f), 1, below);
     }
-    shortest(8388608 + f as u64, e as usize, below)
+    shortest(8388608 + u64::from(f), e as usize, below)
+}
+
+// The text of a number and its sign.
+#[tactic(auto, unfolding(crate::specs::Text::sign_text))]
+fn finite(sign: u32, number: &Digits) -> ArrayString<192>
+    ensures { result.bytes ≡ sign_text sign ++ number_text number.now.places }
+{
+    let mut text = ArrayString::new();
+    if sign == 1 {
+        text.push('-');
+    }
+    number.add_to(&mut text);
+    text
+}
+
+// The text of an infinity or a NaN: f is its fraction field.
+#[tactic(auto, unfolding(crate::specs::Text::sign_text, crate::specs::Text::special_text))]
+fn not_finite(sign: u32, f: u32) -> ArrayString<192>
+    ensures { result.bytes ≡ special_text sign f }
+{
+    let mut text = ArrayString::new();
+    if f != 0 {
+        text.push_str("nan");
+        return text;
+    }
+    if sign == 1 {
+        text.push('-');
+    }
+    text.push_str("inf");
+    text
 }
 
 // The shortest decimal that reads back to an f32, given by its bits.
-pub fn decimal(bits: u32) -> Text
-    ensures { Shown (decimal_text bits) result }
+pub fn decimal(bits: u32) -> ArrayString<192>
+    ensures { result.bytes ≡ decimal_text bits }
 {
     let sign = bits / 2147483648;
     let e = bits / 8388608 % 256;
     let f = bits % 8388608;
     if e == 255 {
-        return special(sign, f);
+        return not_finite(sign, f);
     }
-    let a = digits_of(e, f);
-    finite(sign, &a)
+    finite(sign, &digits_of(e, f))
 }

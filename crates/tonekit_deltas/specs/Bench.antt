@@ -1,12 +1,11 @@
--- Document 01's bench cases for deltas, and the order of two, by computing.
-use Rattle.std.specs.Prelude.{◌≡◌, refl, true, [], ◌∷◌, replicate, Float}
-use Rattle.std.specs.Float.{binary32}
+-- Worked cases for deltas, and the order of two, by computing.
+use Rattle.std.specs.Prelude.{◌≡◌, refl, true, Some, None, [], ◌∷◌, replicate, Float}
+use Rattle.std.specs.Float.{binary32, float_with_sign}
 use Rattle.std.specs.Float.Ieee.{add, sub, mul, div, lt, round, of_bits}
 use Rattle.tonekit_core.specs.declared.DeltaKind.TheVariants.{StartLower, EndLower}
 use Rattle.tonekit_float.specs.Narrow.{narrowed}
-use Rattle.tonekit_float.specs.Magnitude.{magnitude}
 use Rattle.tonekit_shape.specs.declared.ToneShape.{ToneShape}
-use Rattle.tonekit_deltas.specs.Deltas.{no_delta, no_deltas, kept, offer, offer_end, end_deltas, deltas_of}
+use Rattle.tonekit_deltas.specs.Deltas.{no_deltas, kept, offer, offer_end, end_deltas, deltas_of}
 use Rattle.tonekit_deltas.specs.declared.Deltas.{Deltas}
 
 abbrev pub half : Float
@@ -32,8 +31,7 @@ raised onset offset = record {
   mean = three;
   slope = zero;
   curvature = zero;
-  turns = 0;
-  turning = zero;
+  turning = None;
   range = zero;
   duration = zero;
   fraction = one;
@@ -48,26 +46,26 @@ advice onset offset =
 
 -- "Onset tolerance 0.5, unwidened: 0.5 high gives no delta, 0.75 StartLower"
 pub half_high : advice half zero ≡ no_deltas
-unfolding deltas_of end_deltas offer_end offer kept add sub mul div lt round of_bits narrowed magnitude
+unfolding deltas_of end_deltas offer_end offer kept add sub mul div lt round of_bits narrowed float_with_sign
 half_high = refl
 
-pub three_quarters_high : advice more zero ≡ record { first = record { some = true; z = of_bits binary32 0x3fc0_0000; kind = StartLower; amount = more }; second = no_delta }
-unfolding deltas_of end_deltas offer_end offer kept add sub mul div lt round of_bits narrowed magnitude
+pub three_quarters_high : advice more zero ≡ record { first = Some (record { z = of_bits binary32 0x3fc0_0000; kind = StartLower; amount = more }); second = None }
+unfolding deltas_of end_deltas offer_end offer kept add sub mul div lt round of_bits narrowed float_with_sign
 three_quarters_high = refl
 
 -- of two that are equal the onset stands first; a larger offset stands before it
 pub equal_ends : advice more more
     ≡ record {
-      first = record { some = true; z = of_bits binary32 0x3fc0_0000; kind = StartLower; amount = more };
-      second = record { some = true; z = of_bits binary32 0x3fc0_0000; kind = EndLower; amount = more };
+      first = Some (record { z = of_bits binary32 0x3fc0_0000; kind = StartLower; amount = more });
+      second = Some (record { z = of_bits binary32 0x3fc0_0000; kind = EndLower; amount = more });
     }
-unfolding deltas_of end_deltas offer_end offer kept add sub mul div lt round of_bits narrowed magnitude
+unfolding deltas_of end_deltas offer_end offer kept add sub mul div lt round of_bits narrowed float_with_sign
 equal_ends = refl
 
 pub larger_end : advice more one
     ≡ record {
-      first = record { some = true; z = of_bits binary32 0x4000_0000; kind = EndLower; amount = one };
-      second = record { some = true; z = of_bits binary32 0x3fc0_0000; kind = StartLower; amount = more };
+      first = Some (record { z = of_bits binary32 0x4000_0000; kind = EndLower; amount = one });
+      second = Some (record { z = of_bits binary32 0x3fc0_0000; kind = StartLower; amount = more });
     }
-unfolding deltas_of end_deltas offer_end offer kept add sub mul div lt round of_bits narrowed magnitude
+unfolding deltas_of end_deltas offer_end offer kept add sub mul div lt round of_bits narrowed float_with_sign
 larger_end = refl

@@ -1,5 +1,5 @@
 -- deltas.rs: the advice for a shape against its best component: the two largest differences beyond one tolerance, in order.
-use Rattle.std.specs.Prelude.{ℕ, Bool, true, false, cond, not, ◌&&◌, ◌||◌, List, eqb, get_or, Float}
+use Rattle.std.specs.Prelude.{ℕ, Bool, true, false, cond, ◌&&◌, Option, Some, None, List, get_or, Float}
 use Rattle.std.specs.Float.{nan, inf, binary64}
 use Rattle.std.specs.Float.Ieee.{sub, mul, div, lt}
 use Rattle.std.specs.Float.Ieee.Scale.{finite}
@@ -10,34 +10,30 @@ use Rattle.tonekit_float.specs.Pick.{lesser, greater}
 use Rattle.tonekit_float.specs.Narrow.{narrowed}
 use Rattle.tonekit_float.specs.Magnitude.{magnitude}
 use Rattle.tonekit_contour.specs.Turning.{turning_point}
-use Rattle.tonekit_contour.specs.declared.Turning.{Turning}
-use Rattle.tonekit_contour.specs.declared.Turning.TheVariants.{At, Nowhere}
 use Rattle.tonekit_shape.specs.declared.ToneShape.{ToneShape}
-use Rattle.tonekit_score.specs.Score.{zero64, one64, zero32}
+use Rattle.tonekit_score.specs.Score.{zero64, one64}
 use Rattle.tonekit_score.specs.declared.Tolerance.{Tolerance}
 use Rattle.tonekit_deltas.specs.declared.Delta.{Delta}
 use Rattle.tonekit_deltas.specs.declared.Deltas.{Deltas}
 
-abbrev pub no_delta : Delta
-no_delta = record { some = false; z = zero64; kind = StartHigher; amount = zero32 }
-
 abbrev pub no_deltas : Deltas
-no_deltas = record { first = no_delta; second = no_delta }
+no_deltas = record { first = None; second = None }
 
 -- a stable order, largest first, of which two are kept: a later one stands before an earlier only where it is larger
-abbrev pub above : Delta → Float → Bool
-above d z = not d.some || lt d.z z
+abbrev pub above : Option Delta → Float → Bool
+above None z = true
+above (Some d) z = lt d.z z
 
 unfoldable pub kept : Deltas → Delta → Deltas
 kept ds d =
-    cond (above ds.first d.z) (record { first = d; second = ds.first })
-    (cond (above ds.second d.z) (record { first = ds.first; second = d }) ds)
+    cond (above ds.first d.z) (record { first = Some d; second = ds.first })
+    (cond (above ds.second d.z) (record { first = ds.first; second = Some d }) ds)
 
 -- `offer`: kept where |z| exceeds 1 and both are finite
 unfoldable pub offer : Deltas → Float → DeltaKind → Float → Deltas
 offer ds z kind amount =
     cond (finite z && (lt one64 (magnitude z) && finite (narrowed amount)))
-    (kept ds (record { some = true; z = magnitude z; kind = kind; amount = narrowed amount }))
+    (kept ds (record { z = magnitude z; kind = kind; amount = narrowed amount }))
     ds
 
 -- σ widened as for scoring
@@ -49,13 +45,14 @@ unfoldable pub offer_end : Deltas → Float → Float → DeltaKind → DeltaKin
 offer_end ds d s below other = offer ds (div binary64 d s) (cond (lt d zero64) below other) (magnitude d)
 
 -- turning-point time, only where both have one; the amount is in milliseconds
-unfoldable pub offer_turn : Deltas → ToneShape → Turning → Float → Deltas
-offer_turn ds x Nowhere s = ds
-offer_turn ds x (At u) s =
-    let du = sub binary64 x.turning u in
-    cond (eqb x.turns 1)
-    (offer ds (div binary64 du s) (cond (lt zero64 du) TurnEarlier TurnLater) (mul binary64 (magnitude du) x.duration))
-    ds
+abbrev pub turn_between : Deltas → Option Float → Option Float → Float → Float → Deltas
+turn_between ds (Some own) (Some u) duration s =
+    let du = sub binary64 own u in
+    offer ds (div binary64 du s) (cond (lt zero64 du) TurnEarlier TurnLater) (mul binary64 (magnitude du) duration)
+turn_between ds own u duration s = ds
+
+unfoldable pub offer_turn : Deltas → ToneShape → Option Float → Float → Deltas
+offer_turn ds x turning s = turn_between ds x.turning turning x.duration s
 
 -- the component's range: max − min of its ten points
 abbrev pub lesser_turn : List Float → ℕ → Float → Float

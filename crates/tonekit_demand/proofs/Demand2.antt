@@ -1,15 +1,10 @@
 -- Demand 2's bound on what a station writes: `outcomes_bounded` and `buffers_bounded`, as specs/Demand2.antt states them. Assumes nothing.
-use Prim.Native.Nat.{ℕ}
-use mathlib.Core.Path.{◌≡◌, sym, ◌∙◌, subst}
-use mathlib.Core.List.{List, ◌++◌}
-use native.Mathlib.Omega.{arith}
-use lib.Dec.{leb}
-use lib.ListN.{length, drop}
+use Rattle.std.proofs.Common.{ℕ, ◌≡◌, sym, ◌∙◌, subst, List, ◌++◌, leb, length, drop, Float}
 use lib.Seq.{take-append_seam}
-use lib.Ieee.{Float}
 use Rattle.tonekit_core.specs.Calls.{Outcome, refused, written, answer_in, buffer_after}
 use Rattle.tonekit_core.proofs.Calls.{Writes}
-use Rattle.tonekit_core.specs.declared.Answer.TheVariants.{Written, Refused}
+use Rattle.std.specs.Prelude.{Result, Ok, Err}
+use Rattle.tonekit_core.specs.declared.Rejection.{Rejection}
 use Rattle.tonekit_core.specs.declared.Refusal.TheVariants.{ShortBuffer}
 use Rattle.tonekit_core.proofs.Split.{split}
 use Rattle.tonekit_score.proofs.Bounds.{Bounded, bounded_number}
@@ -42,20 +37,18 @@ outcomes_bounded p q bs = (λ e. subst (Writes BoundedRecord) e (judge_bounded p
 leaves : (o : Outcome) → Writes BoundedRecord o → LeavesBounded o
 unfolding answer_in buffer_after
 leaves (refused r place) h before after a n d w =
-    let no : Written n ≡ Refused r place = sym w ∙ d.answer in
-    let z : ◌≡◌ {A = ℕ} 0 1 = cc in
-    absurd (omega arith)
+    let no : ◌≡◌ {A = Result ℕ Rejection} (Ok n) (Err (record { why = r; place = place })) = sym w ∙ d.answer in
+    cc
 leaves (written bs) h before after a n d w =
     split (leb (length bs) (length before))
     (λ t.
-    let e : Written n ≡ Written (length bs) = sym w ∙ rw t at d.answer in
+    let e : ◌≡◌ {A = Result ℕ Rejection} (Ok n) (Ok (length bs)) = sym w ∙ rw t at d.answer in
     let m : n ≡ length bs = cc in
     let f : after ≡ bs ++ drop (length bs) before = rw t at d.buffer in
     rw (m, f, take-append_seam bs (drop (length bs) before)) h)
     (λ t.
-    let no : Written n ≡ Refused ShortBuffer (length bs) = sym w ∙ rw t at d.answer in
-    let z : ◌≡◌ {A = ℕ} 0 1 = cc in
-    absurd (omega arith))
+    let no : ◌≡◌ {A = Result ℕ Rejection} (Ok n) (Err (record { why = ShortBuffer; place = length bs })) = sym w ∙ rw t at d.answer in
+    cc)
 
 pub buffers_bounded : BuffersBounded
 buffers_bounded p q = (leaves (judge_outcome p q) (judge_bounded p q), leaves (judge_sheet_outcome p q) (judge_sheet_bounded p q))

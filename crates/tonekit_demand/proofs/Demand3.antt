@@ -1,9 +1,6 @@
 -- Demand 3: `stations_agree` and `one_sheet_exactly` are its two halves, as specs/Demand3.antt states them; `one_sheet_each`, `same_outcomes` and
 -- `same_answer` say what they rest on. Assumes nothing.
-use Prim.Native.Nat.{ℕ}
-use mathlib.Core.Path.{◌≡◌, sym, ap, ap₂, ◌∙◌}
-use mathlib.Core.List.{List}
-use lib.ListN.{length}
+use Rattle.std.proofs.Common.{ℕ, ◌≡◌, sym, ap, ap₂, ◌∙◌, List, length}
 use Rattle.tonekit_core.specs.Calls.{Outcome, written, answer_in, buffer_after}
 use Rattle.tonekit_pack.proofs.Single.{loads_alone}
 use Rattle.tonekit_expect.specs.Source.{Source}

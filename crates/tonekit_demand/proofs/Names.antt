@@ -1,11 +1,7 @@
 -- A judgement names what the lookup carried for the component that won: `packs_name` and `sheets_name`, as specs/Names states them. Assumes nothing.
-use Prim.Native.Nat.{ℕ, ◌/◌, ◌%◌, ◌≤◌, ◌<◌}
-use mathlib.Core.Path.{◌≡◌, refl, sym, ap, ◌∙◌}
-use mathlib.Core.List.{List}
+use Rattle.std.proofs.Common.{ℕ, ◌/◌, ◌%◌, ◌≤◌, ◌<◌, ◌≡◌, refl, sym, ap, ◌∙◌, List, not-suc-le-zero, arith, length, get_or}
 use mathlib.Core.Option.{Option, none, some}
-use native.Mathlib.Nat.{not-suc-le-zero}
-use native.Mathlib.Omega.{arith}
-use lib.ListN.{length, get_or, length-map}
+use lib.ListN.{length-map}
 use lib.Ieee.{nan}
 use Rattle.tonekit_pack.specs.Pack as pack
 use Rattle.tonekit_pack.proofs.Single as pack-single
@@ -14,15 +10,17 @@ use Rattle.tonekit_sheet.specs.Reader as sheet
 use Rattle.tonekit_sheet.specs.Sheet.{no_carried}
 use Rattle.tonekit_sheet.specs.FromSheet.{source_of_sheet}
 use Rattle.tonekit_sheet.specs.FromSheet as from_sheet
-use Rattle.tonekit_sheet_read.proofs.Single as sheet-single
+use Rattle.tonekit_sheet.proofs.Turns as sheet-single
 use Rattle.tonekit_expect.specs.Source.{Carried, Source, source_of_pack}
 use Rattle.tonekit_expect.specs.Source as source
 use Rattle.tonekit_expect.specs.declared.Context.{Context}
 use Rattle.tonekit_score.specs.Score.{scoring_of, point_at}
-use Rattle.tonekit_judge.specs.Judge.{distance_at, part_of}
+use Rattle.std.specs.Prelude.{Some}
+use Rattle.tonekit_judge.specs.Judge.{Placed, entry_at, distance_at, part_of, nearest_at, judgement_of}
+use Rattle.tonekit_judge.specs.declared.Targets.{Targets}
 use Rattle.tonekit_judge.proofs.Winner.{winner_among, winner_named}
 use Rattle.tonekit_inventory.specs.Gather.{given_of, listings}
-use Rattle.tonekit_inventory.proofs.Listed.{Entered, components_at, listings_enter}
+use Rattle.tonekit_inventory.proofs.Listed.{Entered, components_at, listings_enter, listed_tones}
 use Rattle.tonekit_inventory.proofs.Alike.{Alike, named_count, pack_alike}
 use Rattle.tonekit_sheet_inventory.proofs.Few.{tones_few}
 use Rattle.tonekit_sheet_inventory.proofs.Alike.{sheet_alike}
@@ -49,38 +47,44 @@ module _ (src : Source) (few : length src.tones ≤ 8) (alike : (c : Context) (c
     entered : (t : ℕ) → t < length src.tones → Entered no_carried (cs t) t (listings src c)
     entered = listings_enter no_carried src c few (λ t h. (here t).few) (λ t h k l. ((here t).each k l).ten)
 
+    tones_are : (listings src c).inventory.tones ≡ length src.tones
+    tones_are = listed_tones src c
+
+    placed : (g : Targets) → Placed (length src.tones) g → Placed (listings src c).inventory.tones g
+    placed g p = rw tones_are p
+
   pub source_names : NamesWinner src
-  unfolding part_of
+  unfolding part_of nearest_at
   source_names c x temperature threshold t g issues ok p ll d2 slot e =
       let l = listings src c in
       let s = scoring_of temperature t issues in
-      let a = winner_among (length src.tones) l.inventory.counts s l.weights (distance_at x s l.inventory.regions l.points) g p ll d2 slot e in
+      let a = winner_among l.inventory s l.slots.weights (distance_at x s l.inventory l.slots) g (placed c g p) ll d2 slot e in
       let n = winner_named x temperature threshold t l g issues ok ll d2 slot e in
       let given = cs c a.tone in
-      let en = entered c a.tone a.listed in
+      let listed : a.tone < length src.tones = rw (tones_are c) at a.listed in
+      let en = entered c a.tone listed in
       let has : a.component < length given = omega (arith, a.has, en.count, named_count given) in
       let small : a.component < 4 = omega (arith, (here c a.tone).few) in
       let tone : slot / 4 ≡ a.tone = omega (arith, a.is) in
       let place : slot % 4 ≡ a.component = omega (arith, a.is) in
       let u = (here c a.tone).each a.component has in
-      let owner = rw tone at n.owner ∙ en.owner ∙ sym u.owner in
-      let form = rw tone at n.form ∙ en.form ∙ sym u.form in
-      let label = rw tone at n.label ∙ en.label ∙ sym u.label in
-      let part = rw (tone, place, en.form) at n.part ∙ sym u.part in (
+      let nearest = nearest_at (entry_at l.inventory a.tone) slot d2 in
+      let is : (judgement_of x temperature threshold t l g issues).nearest ≡ Some nearest = rw tone at n in
+      let part : part_of (entry_at l.inventory a.tone).form slot ≡ (get_or given a.component no_carried).part = rw (en.form, place) (sym u.part) in (
         get_or given a.component no_carried,
         record {
           tone = a.tone;
           component = a.component;
           at = a.is;
-          listed = a.listed;
+          listed = listed;
           given = given;
           looked = given_some _ a.component has;
           has = has;
           is = refl;
-          weight = ap (λ (n : ℕ). get_or l.weights n nan) a.is ∙ en.weight a.component has;
-          points = λ i h. ap (λ (n : ℕ). point_at l.points n i) a.is ∙ en.point a.component i has h;
+          weight = ap (λ (n : ℕ). get_or l.slots.weights n nan) a.is ∙ en.weight a.component has;
+          points = λ i h. ap (λ (n : ℕ). point_at l.slots.points n i) a.is ∙ en.point a.component i has h;
         },
-        record { owner = owner; form = form; label = label; part = part },
+        record { nearest = nearest; is = is; owner = en.owner ∙ sym u.owner; form = en.form ∙ sym u.form; label = en.label ∙ sym u.label; part = part },
       )
 
 -- a pack that loads, and a sheet

@@ -1,12 +1,11 @@
 -- Demand 2's last sentence, "Every log-likelihood is within ±1,000,000, never NaN", of what a station writes: statements on the definitions that the contracts of
 -- `judge` and `judge_sheet` cite. They ask nothing of pack, sheet, query or buffer. proofs/Demand2.antt proves them.
-use Rattle.std.specs.Prelude.{ℕ, ◌+◌, ◌*◌, ◌<◌, ◌≡◌, refl, true, false, List, T, length, take, Float}
+use Rattle.std.specs.Prelude.{ℕ, ◌+◌, ◌*◌, ◌<◌, ◌≡◌, refl, true, false, Result, Ok, List, T, length, take, Float}
 use Rattle.std.specs.Float.{binary32}
 use Rattle.std.specs.Float.Ieee.{is_nan, neg, le, of_bits}
 use Rattle.tonekit_core.specs.Layout.{f32_size, judgement_size, judgement_loglik, judgement_llr}
 use Rattle.tonekit_core.specs.Calls.{Outcome, written, Delivers}
-use Rattle.tonekit_core.specs.declared.Answer.{Answer}
-use Rattle.tonekit_core.specs.declared.Answer.TheVariants.{Written}
+use Rattle.tonekit_core.specs.declared.Rejection.{Rejection}
 use Rattle.tonekit_bytes.specs.Fields.{f32_at}
 use Rattle.tonekit_score.specs.Score.{million}
 use Rattle.tonekit_station.specs.Judgement.{judge_outcome, judge_sheet_outcome}
@@ -32,7 +31,7 @@ OutcomesBounded =
 
 -- a call that owes this outcome, lent any buffer: where it answers that it wrote n bytes, the buffer's first n are such a record
 abbrev pub LeavesBounded : Outcome → Type 0
-LeavesBounded o = (before after : List ℕ) (a : Answer) (n : ℕ) → Delivers o before a after → a ≡ Written n → BoundedRecord (take n after)
+LeavesBounded o = (before after : List ℕ) (a : Result ℕ Rejection) (n : ℕ) → Delivers o before a after → a ≡ Ok n → BoundedRecord (take n after)
 
 abbrev pub BuffersBounded : Type 0
 BuffersBounded = (held q : List ℕ) → LeavesBounded (judge_outcome held q) × LeavesBounded (judge_sheet_outcome held q)

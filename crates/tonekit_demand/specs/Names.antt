@@ -1,5 +1,5 @@
 -- What a record names: owner, form, label and part of kind 49 are those that the lookup carried for the component that won.
-use Rattle.std.specs.Prelude.{ℕ, ◌+◌, ◌*◌, ◌<◌, ◌≡◌, true, List, length, get_or, Float}
+use Rattle.std.specs.Prelude.{ℕ, ◌+◌, ◌*◌, ◌<◌, ◌≡◌, true, Some, List, length, get_or, Float}
 use Rattle.std.proofs.Math.Option.{some}
 use Rattle.std.specs.Float.{nan}
 use Rattle.tonekit_pack.specs.Pack as pack
@@ -15,6 +15,7 @@ use Rattle.tonekit_score.specs.declared.Mixture.{Mixture}
 use Rattle.tonekit_score.specs.declared.Mixture.TheVariants.{Scored}
 use Rattle.tonekit_judge.specs.Judge.{Listed, Placed, usable, distance_at, target_mixing, judgement_of}
 use Rattle.tonekit_judge.specs.declared.Targets.{Targets}
+use Rattle.tonekit_judge.specs.declared.Nearest.{Nearest}
 use Rattle.tonekit_judge.specs.declared.ToneJudgement.{ToneJudgement}
 use Rattle.tonekit_inventory.specs.Gather.{f32, no_tone, in_context, listings}
 
@@ -28,21 +29,23 @@ pub record Carries (src : Source) (c : Context) (slot : ℕ) (won : Carried) : T
   pub looked : src.look (in_context c (get_or src.tones tone no_tone).number) ≡ some given
   pub has : component < length given
   pub is : get_or given component no_carried ≡ won
-  pub weight : get_or (listings src c).weights slot nan ≡ f32 won.weight
-  pub points : (i : ℕ) → i < 10 → point_at (listings src c).points slot i ≡ f32 (get_or won.points i 0)
+  pub weight : get_or (listings src c).slots.weights slot nan ≡ f32 won.weight
+  pub points : (i : ℕ) → i < 10 → point_at (listings src c).slots.points slot i ≡ f32 (get_or won.points i 0)
 
 -- a judgement's owner, form, label and part are a component's
 pub record Names (won : Carried) (j : ToneJudgement) : Type 0 where
-  pub owner : j.owner ≡ won.owner
-  pub form : j.form ≡ won.form
-  pub label : j.label ≡ won.label
-  pub part : j.part ≡ won.part
+  pub nearest : Nearest
+  pub is : j.nearest ≡ Some nearest
+  pub owner : nearest.owner ≡ won.owner
+  pub form : nearest.form ≡ won.form
+  pub label : nearest.label ≡ won.label
+  pub part : nearest.part ≡ won.part
 
 -- the target's mixture, of which the best component is the one that won
 abbrev pub target_mixture : ToneShape → Float → Tolerance → Listed → Targets → ℕ → Mixture
 target_mixture x temperature t l g issues =
     let s = scoring_of temperature t issues in
-    mixture_of (target_mixing s l.inventory.counts l.weights (distance_at x s l.inventory.regions l.points) g)
+    mixture_of (target_mixing s l.inventory l.slots.weights (distance_at x s l.inventory l.slots) g)
 
 -- whatever a source's listings are judged by, in any context: the judgement names what the lookup carried for the component that won
 abbrev pub NamesWinner : Source → Type 0

@@ -6,13 +6,16 @@ ghost use Rattle.std.specs.Prelude.{◌<◌, ◌≤◌, length, take, IfOk};
 ghost use Rattle.std.specs.Io.{ReadsAtMost};
 ghost use Rattle.std.specs.Io.KnownBytes.{Consumes, IsAtEnd};
 
+use arrayvec::ArrayString;
+use std::convert::AsSlice;
 use std::env::{Env, FillError};
-use std::fmt::Display;
-use std::io::{Read, Write};
-use std::{io, str};
+use std::fmt::{Display, Write};
+use std::io;
+use std::io::Read;
 
 // Reads until the buffer is full or the input ends, and answers how many bytes it put at the buffer's front. So it
 // answers less than the buffer's length only where nothing is left of the input; a read that fails is the error.
+// Stays: how far it has come is what each read answers, and std's read_exact says little after an error.
 pub fn read_full<R: Read>(reader: &mut R, buf: &mut [u8]) -> io::Result<usize>
     ensures bound { ReadsAtMost result buf.new }
     ensures bytes { IfOk result (λ n.
@@ -43,38 +46,55 @@ pub fn arg_count(rt: &impl Env) -> usize {
 
 // Writes a line to standard error: what failed, as the caller names it, a colon and the reason.
 pub fn fail(rt: &impl Eprint, what: impl Display + Drop, error: io::Error) {
-    let mut text = [0u8; 128];
-    let n = put_text(&mut text, error);
-    let words = reason(str::from_utf8(&text[..n]).unwrap_or(""));
+    let mut text = ArrayString::<128>::new();
+    let _ = write!(text, "{error}");
+    let words = reason(text.as_str());
     let _ = eprintln!(rt; "{what}: {words}");
 }
 
 // An error's text without the number that the text of a system's error ends in.
 fn reason(text: &str) -> &str {
-    match text.split_once(" (os error ") {
-        Some((words, _)) => words,
-        None => text,
-    }
+    text.split_once(" (os error ")
+        .map_or(text, |(words, _)| words)
 }
 
-// Puts an error's text at the buffer's front, as far as there is room, and answers how many bytes that is.
-fn put_text(buf: &mut [u8; 128], error: io::Error) -> usize
-    ensures { result ≤ 128 }
-{
-    let mut rest: &mut [u8] = buf;
-    let _ = write!(rest, "{error}");
-    128usize.saturating_sub(rest.len())
-}
-
-// Writes to standard output, and tells on standard error where not all could be written.
-pub fn write_out(rt: &(impl Print + Eprint), program: &str, bytes: &[u8]) {
-    if let Err(error) = Print::write_all(rt, bytes) {
+// Tells on standard error where not all could be written to standard output.
+fn told(rt: &impl Eprint, program: &str, written: io::Result<()>) {
+    if let Err(error) = written {
         fail(
             rt,
             format_args!("{program}: not all bytes could be written"),
             error,
         );
     }
+}
+
+// Writes bytes to standard output, and tells on standard error where not all could be written.
+pub fn write_out(rt: &(impl Print + Eprint), program: &str, bytes: &[u8]) {
+    told(rt, program, Print::write_all(rt, bytes));
+}
+
+// Writes a text to standard output, and tells on standard error where not all could be written.
+pub fn say(rt: &(impl Print + Eprint), program: &str, text: impl Display + Drop) {
+    told(rt, program, print!(rt; "{text}"));
+}
+
+// A program's work: reads standard input, as far as there is space, and writes to standard output as many bytes as
+// `answer` says that it put at the front of what is lent to it.
+pub fn run<B: AsSlice<u8>, F: Fn(&[u8], &mut B) -> usize>(
+    rt: &(impl Input + Print + Eprint),
+    program: &str,
+    space: &mut [u8],
+    out: &mut B,
+    answer: F,
+) -> io::Result<()>
+    requires { F.IsAlwaysCallable answer }
+{
+    let n = read_full(&mut rt.reader(), space)?;
+    let m = answer(&space[..n], out);
+    let bytes = out.as_slice();
+    write_out(rt, program, &bytes[..m.min(bytes.len())]);
+    Ok(())
 }
 
 #[cfg(test)]
@@ -122,15 +142,15 @@ mod tests {
     }
 
     #[test]
-    fn tells_the_reason_in_words(rt: HostRuntime) {
-        let mut text = [0u8; 128];
-        let n = put_text(&mut text, io::Error::from_raw_os_error(28));
-        let words = str::from_utf8(&text[..n]).unwrap_or("");
-        assert_eq!(rt; words, "No space left on device (os error 28)");
-        assert_eq!(rt; reason(words), "No space left on device");
+    fn tells_the_reason_in_words(rt: HostRuntime) -> Result<(), Fail> {
+        let mut text = ArrayString::<128>::new();
+        write!(text, "{}", io::Error::from_raw_os_error(28))?;
+        assert_eq!(rt; text.as_str(), "No space left on device (os error 28)");
+        assert_eq!(rt; reason(text.as_str()), "No space left on device");
         assert_eq!(rt;
             reason("failed to write whole buffer"),
             "failed to write whole buffer"
         );
+        Ok(())
     }
 }

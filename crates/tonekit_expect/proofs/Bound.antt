@@ -1,18 +1,9 @@
 -- Knots of size at most 100 give points of size at most 128 (`bounded`): the first knot of a line lies in one of eight parts of -100 to 100, each 25 wide,
 -- and in each part the bounds of the point compute.
-use Prim.Native.Nat.{ℕ, zero, suc, ◌+◌, ◌-◌, ◌≤◌, ◌<◌}
-use mathlib.Core.Path.{◌≡◌, refl, sym, subst, ◌∙◌}
-use mathlib.Core.Logic.{⊎_elim}
-use mathlib.Core.Bool.{Bool, true, false, ◌&&◌, cond}
-use mathlib.Core.List.{List, [], ◌∷◌}
-use native.Mathlib.Numerals.{add-one}
+use Rattle.std.proofs.Common.{ℕ, zero, suc, ◌+◌, ◌-◌, ◌≤◌, ◌<◌, ◌≡◌, refl, sym, subst, ◌∙◌, ⊎_elim, Bool, true, false, ◌&&◌, cond, List, [], ◌∷◌, add-one, arith, le_of_suc-le-suc, eq-or-lt_of_le, lt_irrefl, T, eqb, eqb→eq, T_not, pos, length, get_or, length-append, Float}
 use lib.Seq.{get_or_at}
-use native.Mathlib.Omega.{arith}
-use native.Mathlib.Nat.{le_of_suc-le-suc, eq-or-lt_of_le, lt_irrefl}
-use lib.Dec.{T, ltb, eqb, ltb→lt, eqb→eq, T_not}
-use lib.IntN.{pos}
-use lib.ListN.{length, get_or, length-append, get_or-append}
-use lib.Ieee.{Float, nan, fin, binary32, binary64, add, sub, mul, div, neg, le, lt, eq, of_int, of_bits, round}
+use lib.ListN.{get_or-append}
+use lib.Ieee.{nan, fin, binary32, binary64, add, sub, mul, div, neg, le, lt, eq, of_int, of_bits, round}
 use Rattle.tonekit_float.specs.Whole.{whole_part}
 use lib.Ieee.Fits.{and_l, and_r, eq→eqb}
 use lib.Ieee.Scale.{finite}
@@ -91,14 +82,7 @@ fraction_in i last h l k =
 
 pub segment_lt : (i last : ℕ) → 1 ≤ last → segment i last + 1 ≤ last
 unfolding segment
-segment_lt i last h = go (ltb w (last - 1)) (ltb→lt w (last - 1))
-  where
-    w : ℕ
-    w = whole_part (position i last)
-
-    go : (b : Bool) → (T b → w < last - 1) → cond b w (last - 1) + 1 ≤ last
-    go true k = let z = k tt in omega arith
-    go false k = omega arith
+segment_lt i last h = omega arith
 
 cond_point : (b : Bool) (x y : Float) → (b ≡ true → Point x) → (b ≡ false → Point y) → Point (cond b x y)
 cond_point true x y f g = f refl

@@ -1,17 +1,8 @@
 -- What the components of a listing carry: the listing's owner, form and label; a part number in a mixture only; a citation's weight is 1.
-use Prim.Native.Nat.{ℕ, zero, suc, ◌<◌}
-use mathlib.Core.Path.{◌≡◌, refl, ◌∙◌}
-use mathlib.Core.Logic.{⊎_elim}
-use mathlib.Core.Bool.{cond}
-use mathlib.Core.List.{List, [], ◌∷◌}
-use native.Mathlib.Omega.{arith}
-use native.Mathlib.Numerals.{add-one}
-use native.Mathlib.Nat.{le_of_suc-le-suc, eq-or-lt_of_le}
-use lib.Dec.{eqb}
-use lib.ListN.{length, get_or, length-append, get_or-append}
-use lib.Seq.{get_or_at}
+use Rattle.std.proofs.Common.{ℕ, zero, suc, ◌<◌, ◌≡◌, refl, ◌∙◌, ⊎_elim, cond, List, [], ◌∷◌, arith, add-one, le_of_suc-le-suc, eq-or-lt_of_le, eqb, length, get_or, length-append, eqb-true, eq-eqb}
 use lib.Ieee.{to_bits}
-use borrow.Author.Tests.{eqb-true, eq-eqb}
+use lib.ListN.{get_or-append}
+use lib.Seq.{get_or_at}
 use Rattle.tonekit_expect.specs.declared.Listing.{Listing}
 use Rattle.tonekit_expect.specs.Lookup.{component_of}
 use Rattle.tonekit_expect.specs.Source.{Carried, carried, components}

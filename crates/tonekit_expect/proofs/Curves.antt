@@ -1,33 +1,21 @@
 -- Every component that a lookup in a pack that loads lists has a curve (`listed_fine`), and its points are finite and of size at most 128
 -- (`points_fine_lem`).
-use Prim.Native.Nat.{ℕ, zero, suc, ◌+◌, ◌*◌, ◌≤◌, ◌<◌}
-use mathlib.Core.Path.{◌≡◌, refl, sym, ◌∙◌, subst}
-use mathlib.Core.Logic.{⊎_elim}
-use mathlib.Core.Bool.{Bool, true, false, ◌&&◌}
-use mathlib.Core.List.{List, [], ◌∷◌}
-use native.Mathlib.Omega.{arith}
-use native.Mathlib.Nat.{le_of_suc-le-suc, eq-or-lt_of_le}
-use lib.Dec.{T, eqb, ltb}
-use lib.IntN.{pos}
-use lib.ListN.{length, get_or, get_or-append}
+use Rattle.std.proofs.Common.{ℕ, zero, suc, ◌+◌, ◌*◌, ◌≤◌, ◌<◌, ◌≡◌, refl, sym, ◌∙◌, subst, ⊎_elim, Bool, true, false, ◌&&◌, List, [], ◌∷◌, arith, le_of_suc-le-suc, eq-or-lt_of_le, T, eqb, ltb, pos, length, get_or, eqb-true, ltb-true, ne_eqb, lt-ltb}
+use lib.ListN.{get_or-append}
 use lib.Seq.{get_or_at}
 use lib.Ieee.{nan, fin, le}
 use lib.Ieee.Fits.{and_l, and_r}
-use borrow.Author.Tests.{eqb-true, eqb-false, ltb-true, ne_eqb, lt-ltb}
+use borrow.Author.Tests.{eqb-false}
 use Rattle.tonekit_core.specs.Loop.{turns, range}
 use Rattle.tonekit_float.proofs.Order.{yes}
 use Rattle.tonekit_bytes.specs.Fields.{byte_at, f32_at}
 use Rattle.tonekit_pack.specs.Ranges.{knot_fine, slot_fine, slot_turn, knots_fine}
 use Rattle.tonekit_pack.specs.Pack.{Pst, loaded, read_pack, number_at, parts_from}
-use Rattle.tonekit_expect.specs.declared.Found.{Found}
-use Rattle.tonekit_expect.specs.declared.Found.TheVariants as found
-use Rattle.tonekit_expect.specs.declared.Winner.{Winner}
-use Rattle.tonekit_expect.specs.declared.Winner.TheVariants as winner
+use Rattle.std.specs.Prelude.{Some, None}
 use Rattle.tonekit_expect.specs.declared.Context.{Context}
 use Rattle.tonekit_expect.specs.declared.Listing.{Listing}
-use Rattle.tonekit_expect.specs.declared.Look.TheVariants as look
 use Rattle.tonekit_expect.specs.Knots.{Knot, Point, Knots, knots_at}
-use Rattle.tonekit_expect.specs.Lookup.{index_of, to_rule, find_rule, rule_listing, citation, listed, look_at, look_up, knots_of, component_of, Listed}
+use Rattle.tonekit_expect.specs.Lookup.{Found, Walked, index_of, to_rule, find_rule, rule_listing, citation, listed, look_at, look_up, knots_of, component_of, Listed}
 use Rattle.tonekit_core.proofs.Split.{split}
 use Rattle.tonekit_pack.proofs.Loads.{RuleFine, Loads, loads, firsts_bound}
 use Rattle.tonekit_expect.proofs.Bound.{length_knots, points_bounded}
@@ -100,13 +88,15 @@ module _ (s : List ℕ) (st : Pst) (e : ℕ) (l : Loads s st e) (c : Context) wh
       let o = get_or st.tones t 0 in
       record { inside = omega (arith, f.whole); few = omega arith; curve = slots_knots s (o + 7) (byte_at s (o + 6)) (omega (arith, n)) f.few f.knots }
 
-  of_winner : (m : Listing) (i t j : ℕ) → i < length st.accents → t < length st.tones → (w : Winner) → find_rule s st c i ≡ w
-      → listed s st c (get_or st.tones t 0) w ≡ look.Found m → j < m.count → Listed s m j
-  of_winner m i t j hi ht (winner.Rule a r) q g h =
+  of_winner : (m : Listing) (i t j : ℕ) → i < length st.accents → t < length st.tones → (w : Walked) → find_rule s st c i ≡ w
+      → listed s st c (get_or st.tones t 0) w ≡ Some m → j < m.count → Listed s m j
+  of_winner m i t j hi ht (Some w) q g h =
+      let a = w.accent in
+      let r = w.rule in
       let is : rule_listing s (number_at s (get_or st.accents a 0)) r ≡ m = cc in
       let fine = (winner_is s st c Own own i a r hi q).1 in
       subst (λ (l : Listing). Listed s l j) is (of_rule (number_at s (get_or st.accents a 0)) r j fine (subst (λ (l : Listing). j < l.count) (sym is) h))
-  of_winner m i t j hi ht winner.Nothing q g h =
+  of_winner m i t j hi ht None q g h =
       let o = get_or st.tones t 0 in
       split (eqb (byte_at s (o + 6)) 0)
       (λ z. let g' = rw z at g in let n : ◌≡◌ {A = ℕ} 0 1 = cc in absurd (omega arith))
@@ -115,14 +105,14 @@ module _ (s : List ℕ) (st : Pst) (e : ℕ) (l : Loads s st e) (c : Context) wh
       subst (λ (l : Listing). Listed s l j) is (of_citation t j ht (eqb-false (byte_at s (o + 6)) 0 z) (subst (λ (l : Listing). j < l.count) (sym is) h)))
 
   of_places : (m : Listing) (j : ℕ) (f g : Found) → index_of s st.accents c.accent ≡ f → index_of s st.tones c.tone ≡ g
-      → look_at s st c f g ≡ look.Found m → j < m.count → Listed s m j
-  of_places m j (found.At i) (found.At t) a b q h =
+      → look_at s st c f g ≡ Some m → j < m.count → Listed s m j
+  of_places m j (Some i) (Some t) a b q h =
       of_winner m i t j (index_found _ _ _ i a).inside (index_found _ _ _ t b).inside (find_rule s st c i) refl q h
-  of_places m j found.Nothing g a b q h = let n : ◌≡◌ {A = ℕ} 0 1 = cc in absurd (omega arith)
-  of_places m j (found.At i) found.Nothing a b q h = let n : ◌≡◌ {A = ℕ} 0 1 = cc in absurd (omega arith)
+  of_places m j None g a b q h = let n : ◌≡◌ {A = ℕ} 0 1 = cc in absurd (omega arith)
+  of_places m j (Some i) None a b q h = let n : ◌≡◌ {A = ℕ} 0 1 = cc in absurd (omega arith)
 
 -- `component_at` takes every component of a lookup in a pack that loads
-pub listed_fine : (s : List ℕ) (st : Pst) (e : ℕ) → read_pack s ≡ loaded st e → (c : Context) (l : Listing) (j : ℕ) → look_up s st c ≡ look.Found l → j < l.count → Listed s l j
+pub listed_fine : (s : List ℕ) (st : Pst) (e : ℕ) → read_pack s ≡ loaded st e → (c : Context) (l : Listing) (j : ℕ) → look_up s st c ≡ Some l → j < l.count → Listed s l j
 unfolding look_up
 listed_fine s st e p c l j q h = of_places s st e (loads s st e p) c l j (index_of s st.accents c.accent) (index_of s st.tones c.tone) refl refl q h
 
@@ -133,6 +123,6 @@ listed_points s l j L k h =
     let b = points_bounded (knots_of s l j) L.curve k h in
     split (eqb l.form 1) (λ t. rw t (rw t at b)) (λ t. rw t (rw t at b))
 
-pub points_fine_lem : (s : List ℕ) (st : Pst) (e : ℕ) → read_pack s ≡ loaded st e → (c : Context) (l : Listing) (j : ℕ) → look_up s st c ≡ look.Found l → j < l.count
+pub points_fine_lem : (s : List ℕ) (st : Pst) (e : ℕ) → read_pack s ≡ loaded st e → (c : Context) (l : Listing) (j : ℕ) → look_up s st c ≡ Some l → j < l.count
     → (k : ℕ) → k < 10 → Point (get_or (component_of s l j).points k nan)
 points_fine_lem s st e p c l j q h = listed_points s l j (listed_fine s st e p c l j q h)

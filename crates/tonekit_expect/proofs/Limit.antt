@@ -1,24 +1,13 @@
 -- The limit on the walk's steps never ends it: where a chain of parents ends at all, it has no more accents than there are (`limit_idle`),
 -- and where parents stand earlier, every chain ends (`earlier_ends`).
-use Prim.Native.Nat.{ℕ, zero, suc, ◌+◌, ◌-◌, ◌≤◌, ◌<◌}
-use mathlib.Core.Path.{◌≡◌, refl, sym, ◌∙◌, ap, subst}
-use mathlib.Core.Logic.{⊎_elim}
-use mathlib.Core.Bool.{cond}
-use mathlib.Core.List.{List}
-use native.Mathlib.Omega.{arith}
-use native.Mathlib.Numerals.{sub-one}
-use lib.Dec.{eqb, ltb}
-use lib.ListN.{length, get_or}
-use borrow.Author.Tests.{eqb-true, eqb-false, ltb-true, ltb-false, eq-eqb}
+use Rattle.std.proofs.Common.{ℕ, zero, suc, ◌+◌, ◌-◌, ◌≤◌, ◌<◌, ◌≡◌, refl, sym, ◌∙◌, ap, subst, ⊎_elim, cond, List, arith, sub-one, eqb, ltb, length, get_or, eqb-true, ltb-true, ltb-false, eq-eqb}
+use borrow.Author.Tests.{eqb-false}
 use Rattle.tonekit_core.specs.Loop.{range_to, to_again, to_stop, loop_to, loop_again, loop_stop}
 use Rattle.tonekit_bytes.specs.Fields.{byte_at}
 use Rattle.tonekit_pack.specs.Pack.{Pst, loaded, read_pack, number_at}
-use Rattle.tonekit_expect.specs.declared.Found.{Found}
-use Rattle.tonekit_expect.specs.declared.Found.TheVariants as found
-use Rattle.tonekit_expect.specs.declared.Winner.{Winner}
-use Rattle.tonekit_expect.specs.declared.Winner.TheVariants as winner
+use Rattle.std.specs.Prelude.{Some, None}
 use Rattle.tonekit_expect.specs.declared.Context.{Context}
-use Rattle.tonekit_expect.specs.Lookup.{index_turn, index_of, best_rule, parent_of, climb_turn, find_rule}
+use Rattle.tonekit_expect.specs.Lookup.{Found, Walked, index_turn, index_of, best_rule, parent_of, climb_turn, find_rule}
 use Rattle.tonekit_expect.specs.Chain.{Earlier, Ends, top, up}
 use Rattle.tonekit_core.proofs.Split.{split}
 use Rattle.tonekit_pack.proofs.Loads.{loads, parent_before}
@@ -26,24 +15,24 @@ use Rattle.tonekit_expect.proofs.Walk.{index_found, climb_hit, climb_top, climb_
 
 -- ---- a limit past the chain's end changes nothing
 module _ (s : List ℕ) (st : Pst) (c : Context) where
-  abbrev walk : ℕ → ℕ → Winner
-  walk n i = loop_to (climb_turn s st c) winner.Nothing n i
+  abbrev walk : ℕ → ℕ → Walked
+  walk n i = loop_to (climb_turn s st c) None n i
 
   same : {n i : ℕ} → Ends s st n i → (m : ℕ) → n ≤ m → (f : Found) → best_rule s st c i ≡ f → walk m i ≡ walk n i
-  same {i = i} (top p) m h (found.At r) e = sym (loop_stop _ _ {n = m} refl (omega arith) (climb_hit s st c i r e)) ∙ loop_stop _ _ refl (omega arith) (climb_hit s st c i r e)
-  same {i = i} (top p) m h found.Nothing e = sym (loop_stop _ _ {n = m} refl (omega arith) (climb_top s st c i e p)) ∙ loop_stop _ _ refl (omega arith) (climb_top s st c i e p)
-  same {i = i} (up p x) m h (found.At r) e = sym (loop_stop _ _ {n = m} refl (omega arith) (climb_hit s st c i r e)) ∙ loop_stop _ _ refl (omega arith) (climb_hit s st c i r e)
-  same {n} {i} (up {j = j} p x) m h found.Nothing e =
+  same {i = i} (top p) m h (Some r) e = sym (loop_stop _ _ {n = m} refl (omega arith) (climb_hit s st c i r e)) ∙ loop_stop _ _ refl (omega arith) (climb_hit s st c i r e)
+  same {i = i} (top p) m h None e = sym (loop_stop _ _ {n = m} refl (omega arith) (climb_top s st c i e p)) ∙ loop_stop _ _ refl (omega arith) (climb_top s st c i e p)
+  same {i = i} (up p x) m h (Some r) e = sym (loop_stop _ _ {n = m} refl (omega arith) (climb_hit s st c i r e)) ∙ loop_stop _ _ refl (omega arith) (climb_hit s st c i r e)
+  same {n} {i} (up {j = j} p x) m h None e =
       sym (loop_again _ _ {n = m} refl (omega arith) (climb_on s st c i j e p))
       ∙ (same x (m - 1) (omega arith) (best_rule s st c j) refl ∙ (ap (λ (k : ℕ). walk k j) (sym (sub-one _)) ∙ loop_again _ _ {n = n} refl (omega arith) (climb_on s st c i j e p)))
 
 -- ---- where parents stand earlier, every chain ends
 module _ (s os : List ℕ) (n : ℕ) where
   abbrev search-from : ℕ → Found
-  search-from i = range_to (index_turn s os n) (λ u. found.Nothing) i (length os) 0
+  search-from i = range_to (index_turn s os n) (λ u. None) i (length os) 0
 
   -- the search stops no later than at a record with the number
-  stops_by : (d i m : ℕ) → i + d ≡ m → m < length os → number_at s (get_or os m 0) ≡ n → (j : ℕ) × (search-from i ≡ found.At j) × (j ≤ m)
+  stops_by : (d i m : ℕ) → i + d ≡ m → m < length os → number_at s (get_or os m 0) ≡ n → (j : ℕ) × (search-from i ≡ Some j) × (j ≤ m)
   stops_by zero i m e h q =
       let g : i ≡ m = omega arith in
       (i, sym (to_stop _ _ {i = i} refl (omega arith) (rw (g, eq-eqb (number_at s (get_or os m 0)) n q))), omega arith)
@@ -52,13 +41,13 @@ module _ (s os : List ℕ) (n : ℕ) where
       (λ t. (i, sym (to_stop _ _ {i = i} refl (omega arith) (rw t)), omega arith))
       (λ f. let r = stops_by d (i + 1) m (omega arith) h q in (r.0, sym (to_again _ _ {i = i} refl (omega arith) (rw f)) ∙ r.1, r.2))
 
-  first : (m : ℕ) → m < length os → number_at s (get_or os m 0) ≡ n → (j : ℕ) × (index_of s os n ≡ found.At j) × (j ≤ m)
+  first : (m : ℕ) → m < length os → number_at s (get_or os m 0) ≡ n → (j : ℕ) × (index_of s os n ≡ Some j) × (j ≤ m)
   unfolding index_of
   first m h q = stops_by m 0 m (omega arith) h q
 
-  none : ((m : ℕ) → m < length os → number_at s (get_or os m 0) ≡ n → ⊥) → (f : Found) → index_of s os n ≡ f → index_of s os n ≡ found.Nothing
-  none h found.Nothing e = e
-  none h (found.At i) e = let x = index_found s os n i e in absurd (h i x.inside x.number)
+  none : ((m : ℕ) → m < length os → number_at s (get_or os m 0) ≡ n → ⊥) → (f : Found) → index_of s os n ≡ f → index_of s os n ≡ None
+  none h None e = e
+  none h (Some i) e = let x = index_found s os n i e in absurd (h i x.inside x.number)
 
 module _ (s : List ℕ) (st : Pst) (E : Earlier s st.accents) where
   within : (k i : ℕ) → i < k → i < length st.accents → Ends s st k i
@@ -75,8 +64,8 @@ module _ (s : List ℕ) (st : Pst) (E : Earlier s st.accents) where
 
 -- ---- a chain that ends has no more accents than there are: its accents differ, as each has its own distance from the end
 pub data Exact (s : List ℕ) (st : Pst) : ℕ → ℕ → Type 0 where
-  last : {i : ℕ} → parent_of s st i ≡ found.Nothing → Exact s st 1 i
-  more : {n i j : ℕ} → parent_of s st i ≡ found.At j → Exact s st n j → Exact s st (suc n) i
+  last : {i : ℕ} → parent_of s st i ≡ None → Exact s st 1 i
+  more : {n i j : ℕ} → parent_of s st i ≡ Some j → Exact s st n j → Exact s st (suc n) i
 
 module _ (s : List ℕ) (st : Pst) where
   exactly : {n i : ℕ} → Ends s st n i → (k : ℕ) × (k ≤ n) × Exact s st k i
@@ -160,7 +149,7 @@ module _ (s : List ℕ) (st : Pst) where
 
   -- a walk that is given more steps ends as `find_rule` does
   pub limit_idle : (c : Context) {n i : ℕ} (m : ℕ) → i < length st.accents → Ends s st n i → length st.accents ≤ m
-      → loop_to (climb_turn s st c) winner.Nothing m i ≡ find_rule s st c i
+      → loop_to (climb_turn s st c) None m i ≡ find_rule s st c i
   unfolding find_rule
   limit_idle c {i = i} m h x l = same s st c (ends_within h x) m l (best_rule s st c i) refl
 
@@ -172,5 +161,5 @@ loads_earlier s st e p =
 
 -- in a pack that loads a walk with any greater limit ends as `find_rule` does
 pub loads_idle : (s : List ℕ) (st : Pst) (e : ℕ) → read_pack s ≡ loaded st e → (c : Context) (m i : ℕ) → i < length st.accents → length st.accents ≤ m
-    → loop_to (climb_turn s st c) winner.Nothing m i ≡ find_rule s st c i
+    → loop_to (climb_turn s st c) None m i ≡ find_rule s st c i
 loads_idle s st e p c m i h l = limit_idle s st c m h (earlier_ends s st (loads_earlier s st e p) i h) l

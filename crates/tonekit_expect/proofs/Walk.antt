@@ -1,21 +1,12 @@
 -- The search by number, and one step of the walk up the parents.
-use Prim.Native.Nat.{ℕ, zero, suc, ◌+◌, ◌-◌, ◌≤◌, ◌<◌}
-use mathlib.Core.Path.{◌≡◌, refl, sym, ◌∙◌, ap, subst}
-use mathlib.Core.Bool.{◌&&◌}
-use mathlib.Core.List.{List}
-use native.Mathlib.Omega.{arith}
-use lib.Dec.{eqb}
-use lib.ListN.{length, get_or}
-use borrow.Author.Tests.{eqb-true}
+use Rattle.std.proofs.Common.{ℕ, zero, suc, ◌+◌, ◌-◌, ◌≤◌, ◌<◌, ◌≡◌, refl, sym, ◌∙◌, ap, subst, ◌&&◌, List, arith, eqb, length, get_or, eqb-true}
 use Rattle.tonekit_core.specs.Loop.{Turn, next, stop, turns, range, turns_to, range_to, loop_on, loop_to}
 use Rattle.tonekit_pack.specs.Pack.{Pst, number_at}
 use Rattle.tonekit_core.proofs.Split.{split}
-use Rattle.tonekit_expect.specs.declared.Found.{Found}
-use Rattle.tonekit_expect.specs.declared.Found.TheVariants as found
+use Rattle.std.specs.Prelude.{Some, None}
 use Rattle.tonekit_expect.specs.declared.Winner.{Winner}
-use Rattle.tonekit_expect.specs.declared.Winner.TheVariants as winner
 use Rattle.tonekit_expect.specs.declared.Context.{Context}
-use Rattle.tonekit_expect.specs.Lookup.{index_turn, index_of, matches, more_than, better_of, from_rule, to_rule, best_turn, best_rule, parent_of, or_parent, to_parent, climb_turn, find_rule, listed, look_at, look_up}
+use Rattle.tonekit_expect.specs.Lookup.{Found, Walked, won, index_turn, index_of, matches, more_than, better_of, from_rule, to_rule, best_turn, best_rule, parent_of, or_parent, to_parent, climb_turn, find_rule, listed, look_at, look_up}
 
 -- ---- the search
 module _ (s os : List ℕ) (n : ℕ) where
@@ -24,13 +15,13 @@ module _ (s os : List ℕ) (n : ℕ) where
     pub inside : i < length os
     pub number : number_at s (get_or os i 0) ≡ n
 
-  hit : (j u r : ℕ) → j < length os → index_turn s os n j u ≡ stop (found.At r) → Numbered r
+  hit : (j u r : ℕ) → j < length os → index_turn s os n j u ≡ stop (Some r) → Numbered r
   hit j u r h e =
       split (eqb (number_at s (get_or os j 0)) n)
       (λ t. let q : j ≡ r = let e' = rw t at e in cc in subst Numbered q (record { inside = h; number = eqb-true (number_at s (get_or os j 0)) n t }))
       (λ f. let z : ◌≡◌ {A = ℕ} 0 1 = let e' = rw f at e in cc in absurd (omega arith))
 
-  from : (k j i : ℕ) (t : Turn ℕ Found) → k + j ≤ length os → ((r : ℕ) → t ≡ stop (found.At r) → Numbered r) → turns_to (index_turn s os n) (λ u. found.Nothing) k j t ≡ found.At i → Numbered i
+  from : (k j i : ℕ) (t : Turn ℕ Found) → k + j ≤ length os → ((r : ℕ) → t ≡ stop (Some r) → Numbered r) → turns_to (index_turn s os n) (λ u. None) k j t ≡ Some i → Numbered i
   unfolding turns_to
   from zero j i (next u) h p e = let z : ◌≡◌ {A = ℕ} 0 1 = cc in absurd (omega arith)
   from zero j i (stop f) h p e = p i (ap stop e)
@@ -38,21 +29,21 @@ module _ (s os : List ℕ) (n : ℕ) where
   from (suc k) j i (stop f) h p e = p i (ap stop e)
 
   -- what is found has the number
-  pub index_found : (i : ℕ) → index_of s os n ≡ found.At i → Numbered i
+  pub index_found : (i : ℕ) → index_of s os n ≡ Some i → Numbered i
   unfolding index_of range_to
   index_found i e = from (length os - 0) 0 i (next 0) (omega arith) (λ r q. let z : ◌≡◌ {A = ℕ} 0 1 = cc in absurd (omega arith)) e
 
 -- ---- a step
 module _ (s : List ℕ) (st : Pst) (c : Context) (i : ℕ) where
-  pub climb_hit : (r : ℕ) → best_rule s st c i ≡ found.At r → climb_turn s st c i ≡ stop (winner.Rule i r)
+  pub climb_hit : (r : ℕ) → best_rule s st c i ≡ Some r → climb_turn s st c i ≡ stop (Some (won i r))
   unfolding climb_turn
   climb_hit r e = ap (or_parent s st i) e
 
-  pub climb_top : best_rule s st c i ≡ found.Nothing → parent_of s st i ≡ found.Nothing → climb_turn s st c i ≡ stop winner.Nothing
+  pub climb_top : best_rule s st c i ≡ None → parent_of s st i ≡ None → climb_turn s st c i ≡ stop None
   unfolding climb_turn
   climb_top e p = ap (or_parent s st i) e ∙ ap to_parent p
 
-  pub climb_on : (j : ℕ) → best_rule s st c i ≡ found.Nothing → parent_of s st i ≡ found.At j → climb_turn s st c i ≡ next j
+  pub climb_on : (j : ℕ) → best_rule s st c i ≡ None → parent_of s st i ≡ Some j → climb_turn s st c i ≡ next j
   unfolding climb_turn
   climb_on j e p = ap (or_parent s st i) e ∙ ap to_parent p
 
@@ -62,69 +53,77 @@ unfolding loop_to loop_on
 loop_out f d zero s z r h = r
 loop_out f d (suc n) s z r h = absurd (omega arith)
 
--- ---- what a walk ends with: a rule of one of the accents, of which P holds if it holds of every rule
-module _ (s : List ℕ) (st : Pst) (c : Context) (P : ℕ → Type 0) (each : (i k : ℕ) → k < to_rule st i → P (get_or st.rules k 0)) where
-  Best : Found → Type 0
-  Best f = (r : ℕ) → f ≡ found.At r → P r
+-- ---- what a walk ends with: a rule of one of the accents, of which P holds if it holds of every accent's own rules
+module _ (s : List ℕ) (st : Pst) (c : Context) (P : ℕ → ℕ → Type 0) (each : (i k : ℕ) → from_rule st i ≤ k → k < to_rule st i → P i (get_or st.rules k 0)) where
+  Best : ℕ → Found → Type 0
+  Best i f = (r : ℕ) → f ≡ Some r → P i r
 
-  better_is : (i k : ℕ) (f : Found) → k < to_rule st i → Best f → Best (best_turn s st.rules c k f)
+  better_is : (i k : ℕ) (f : Found) → from_rule st i ≤ k → k < to_rule st i → Best i f → Best i (best_turn s st.rules c k f)
   unfolding Best better_of
-  better_is i k f h b =
+  better_is i k f l h b =
       split (matches s c (get_or st.rules k 0) && more_than s f (get_or st.rules k 0))
-      (λ t r e. let q : get_or st.rules k 0 ≡ r = let e' = rw t at e in cc in subst P q (each i k h))
+      (λ t r e. let q : get_or st.rules k 0 ≡ r = let e' = rw t at e in cc in subst (P i) q (each i k l h))
       (λ t r e. b r (rw t at e))
 
-  best_turns : (i k j : ℕ) (f : Found) → (0 < k → k + j ≤ to_rule st i) → Best f → Best (turns (best_turn s st.rules c) k j f)
+  best_turns : (i k j : ℕ) (f : Found) → from_rule st i ≤ j → (0 < k → k + j ≤ to_rule st i) → Best i f → Best i (turns (best_turn s st.rules c) k j f)
   unfolding turns
-  best_turns i zero j f h b = b
-  best_turns i (suc k) j f h b =
+  best_turns i zero j f l h b = b
+  best_turns i (suc k) j f l h b =
       let g = h (omega arith) in
-      best_turns i k (j + 1) (best_turn s st.rules c j f) (λ p. omega arith) (better_is i j f (omega arith) b)
+      best_turns i k (j + 1) (best_turn s st.rules c j f) (omega arith) (λ p. omega arith) (better_is i j f l (omega arith) b)
 
-  pub best_is : (i r : ℕ) → best_rule s st c i ≡ found.At r → P r
+  best_is : (i r : ℕ) → best_rule s st c i ≡ Some r → P i r
   unfolding best_rule range Best
-  best_is i r e = best_turns i (to_rule st i - from_rule st i) (from_rule st i) found.Nothing (λ p. omega arith) (λ r q. let z : ◌≡◌ {A = ℕ} 0 1 = cc in absurd (omega arith)) r e
+  best_is i r e = best_turns i (to_rule st i - from_rule st i) (from_rule st i) None (omega arith) (λ p. omega arith) (λ r q. let z : ◌≡◌ {A = ℕ} 0 1 = cc in absurd (omega arith)) r e
 
   -- a turn goes on to an accent, or stops with such a rule
-  record Right (t : Turn ℕ Winner) : Type 0 where
+  record Right (t : Turn ℕ Walked) : Type 0 where
     onward : (j : ℕ) → t ≡ next j → j < length st.accents
-    ending : (a r : ℕ) → t ≡ stop (winner.Rule a r) → (a < length st.accents) × P r
+    ending : (a r : ℕ) → t ≡ stop (Some (won a r)) → (a < length st.accents) × P a r
 
   parent_right : (i : ℕ) (f : Found) → parent_of s st i ≡ f → Right (to_parent f)
-  parent_right i (found.At j) e = record {
+  parent_right i (Some j) e = record {
     onward = λ k q. let h : j ≡ k = cc in subst (λ (n : ℕ). n < length st.accents) h (index_found _ _ _ j e).inside;
     ending = λ a r q. let z : ◌≡◌ {A = ℕ} 0 1 = cc in absurd (omega arith);
   }
-  parent_right i found.Nothing e = record {
+  parent_right i None e = record {
     onward = λ k q. let z : ◌≡◌ {A = ℕ} 0 1 = cc in absurd (omega arith);
     ending = λ a r q. let z : ◌≡◌ {A = ℕ} 0 1 = cc in absurd (omega arith);
   }
 
   turn_right : (i : ℕ) → i < length st.accents → (f : Found) → best_rule s st c i ≡ f → Right (or_parent s st i f)
-  turn_right i h (found.At r) e = record {
+  turn_right i h (Some r) e = record {
     onward = λ k q. let z : ◌≡◌ {A = ℕ} 0 1 = cc in absurd (omega arith);
-    ending = λ a b q. let g : i ≡ a = cc in let k : r ≡ b = cc in (subst (λ (n : ℕ). n < length st.accents) g h, subst P k (best_is i r e));
+    ending = λ a b q.
+        let same : won i r ≡ won a b = cc in
+        let g : i ≡ a = ap (λ (w : Winner). w.accent) same in
+        let k : r ≡ b = ap (λ (w : Winner). w.rule) same in
+        (subst (λ (n : ℕ). n < length st.accents) g h, subst (λ (n : ℕ). P n b) g (subst (P i) k (best_is i r e)));
   }
-  turn_right i h found.Nothing e = parent_right i (parent_of s st i) refl
+  turn_right i h None e = parent_right i (parent_of s st i) refl
 
-  walk_right : (n : ℕ) (t : Turn ℕ Winner) (a r : ℕ) → Right t → loop_on (climb_turn s st c) winner.Nothing n t ≡ winner.Rule a r → (a < length st.accents) × P r
+  walk_right : (n : ℕ) (t : Turn ℕ Walked) (a r : ℕ) → Right t → loop_on (climb_turn s st c) None n t ≡ Some (won a r) → (a < length st.accents) × P a r
   unfolding loop_on climb_turn
   walk_right zero (next j) a r R e = let z : ◌≡◌ {A = ℕ} 0 1 = cc in absurd (omega arith)
   walk_right zero (stop w) a r R e = R.ending a r (ap stop e)
   walk_right (suc n) (next j) a r R e = walk_right n (climb_turn s st c j) a r (turn_right j (R.onward j refl) (best_rule s st c j) refl) e
   walk_right (suc n) (stop w) a r R e = R.ending a r (ap stop e)
 
-  found_is : (n i a r : ℕ) → i < length st.accents → loop_to (climb_turn s st c) winner.Nothing n i ≡ winner.Rule a r → (a < length st.accents) × P r
+  found_is : (n i a r : ℕ) → i < length st.accents → loop_to (climb_turn s st c) None n i ≡ Some (won a r) → (a < length st.accents) × P a r
   unfolding loop_to
   found_is n i a r h e =
       walk_right n (next i) a r
       (record { onward = λ j q. let g : i ≡ j = cc in subst (λ (n : ℕ). n < length st.accents) g h; ending = λ a r q. let z : ◌≡◌ {A = ℕ} 0 1 = cc in absurd (omega arith) }) e
 
-  pub winner_is : (i a r : ℕ) → i < length st.accents → find_rule s st c i ≡ winner.Rule a r → (a < length st.accents) × P r
+  pub winner_of : (i a r : ℕ) → i < length st.accents → find_rule s st c i ≡ Some (won a r) → (a < length st.accents) × P a r
   unfolding find_rule
-  winner_is i a r h e = found_is (length st.accents) i a r h e
+  winner_of i a r h e = found_is (length st.accents) i a r h e
+
+-- the same of what holds of every rule, whichever accent's
+pub winner_is : (s : List ℕ) (st : Pst) (c : Context) (P : ℕ → Type 0) → ((i k : ℕ) → k < to_rule st i → P (get_or st.rules k 0)) → (i a r : ℕ) → i < length st.accents → find_rule s st c i ≡ Some (won a r) → (a < length st.accents) × P r
+winner_is s st c P each = winner_of s st c (λ a. P) (λ i k l. each i k)
 
 -- what a lookup gives whose accent and tone are held: the listing of the tone's record and of the rule that was found
-pub look_found : (s : List ℕ) (st : Pst) (c : Context) (i t o : ℕ) (w : Winner) → index_of s st.accents c.accent ≡ found.At i → index_of s st.tones c.tone ≡ found.At t → o ≡ get_or st.tones t 0 → w ≡ find_rule s st c i → listed s st c o w ≡ look_up s st c
+pub look_found : (s : List ℕ) (st : Pst) (c : Context) (i t o : ℕ) (w : Walked) → index_of s st.accents c.accent ≡ Some i → index_of s st.tones c.tone ≡ Some t → o ≡ get_or st.tones t 0 → w ≡ find_rule s st c i → listed s st c o w ≡ look_up s st c
 unfolding look_up
-look_found s st c i t o w a b p q = ap (λ n. listed s st c n w) p ∙ ap (listed s st c (get_or st.tones t 0)) q ∙ sym (ap (λ f. look_at s st c f (index_of s st.tones c.tone)) a ∙ ap (look_at s st c (found.At i)) b)
+look_found s st c i t o w a b p q = ap (λ n. listed s st c n w) p ∙ ap (listed s st c (get_or st.tones t 0)) q ∙ sym (ap (λ f. look_at s st c f (index_of s st.tones c.tone)) a ∙ ap (look_at s st c (Some i)) b)

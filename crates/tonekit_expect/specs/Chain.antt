@@ -1,9 +1,8 @@
 -- Chains of parents that end, as those of a pack that loads do.
-use Rattle.std.specs.Prelude.{ℕ, suc, ◌+◌, ◌<◌, ◌≡◌, ◌⊎◌, List, length, get_or}
+use Rattle.std.specs.Prelude.{ℕ, suc, ◌+◌, ◌<◌, ◌≡◌, ◌⊎◌, List, Some, None, length, get_or}
 use Rattle.tonekit_core.specs.Layout.{accent_parent}
 use Rattle.tonekit_bytes.specs.Fields.{byte_at}
 use Rattle.tonekit_pack.specs.Pack.{Pst, number_at}
-use Rattle.tonekit_expect.specs.declared.Found.TheVariants as found
 use Rattle.tonekit_expect.specs.Lookup.{parent_of}
 
 -- "A parent stands earlier in the file": each accent's parent is 0 or the number of an earlier one; no number is 0
@@ -15,5 +14,5 @@ pub record Earlier (s accents : List ℕ) : Type 0 where
 
 -- the chain from accent i up its parents has at most n accents
 pub data Ends (s : List ℕ) (st : Pst) : ℕ → ℕ → Type 0 where
-  top : {n i : ℕ} → parent_of s st i ≡ found.Nothing → Ends s st (suc n) i
-  up : {n i j : ℕ} → parent_of s st i ≡ found.At j → Ends s st n j → Ends s st (suc n) i
+  top : {n i : ℕ} → parent_of s st i ≡ None → Ends s st (suc n) i
+  up : {n i j : ℕ} → parent_of s st i ≡ Some j → Ends s st n j → Ends s st (suc n) i

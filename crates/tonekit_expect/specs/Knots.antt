@@ -1,5 +1,5 @@
 -- `expand_knots` of the Rust: the knots, at equal distances, drawn out to ten points by straight lines. The operations are the Rust's, in its order.
-use Rattle.std.specs.Prelude.{ℕ, zero, suc, ◌+◌, ◌-◌, ◌*◌, ◌≤◌, ◌<◌, true, false, cond, List, [], ◌∷◌, ◌++◌, pos, eqb, ltb, length, get_or, Float}
+use Rattle.std.specs.Prelude.{ℕ, zero, suc, ◌+◌, ◌-◌, ◌*◌, ◌≤◌, ◌<◌, true, false, cond, List, [], ◌∷◌, ◌++◌, pos, eqb, min, length, get_or, Float}
 use Rattle.std.specs.Float.{nan, fin, binary32, binary64}
 use Rattle.std.specs.Float.Ieee.{add, sub, mul}
 use Rattle.tonekit_core.specs.Layout.{f32_size}
@@ -11,7 +11,7 @@ use Rattle.tonekit_contour.specs.Position.{whole64, position}
 
 -- the knot at or before a position, but never the last one
 abbrev pub knot_before : Float → ℕ → ℕ
-knot_before x last = let w = whole_part x in cond (ltb w (last - 1)) w (last - 1)
+knot_before x last = min (whole_part x) (last - 1)
 
 unfoldable pub segment : ℕ → ℕ → ℕ
 unfolding position

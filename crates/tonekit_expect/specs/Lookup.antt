@@ -1,5 +1,5 @@
 -- Document 01's section Lookup, on a pack that was read: which curves a context takes. Names follow `expect.rs`.
-use Rattle.std.specs.Prelude.{ℕ, ◌+◌, ◌*◌, ◌≤◌, ◌<◌, Bool, true, cond, ◌&&◌, ◌||◌, ◌≡◌, List, eqb, ltb, length, get_or, Float}
+use Rattle.std.specs.Prelude.{ℕ, ◌+◌, ◌*◌, ◌≤◌, ◌<◌, Bool, true, cond, ◌&&◌, ◌||◌, ◌≡◌, List, Option, Some, None, eqb, ltb, length, get_or, Float}
 use Rattle.tonekit_core.specs.Loop.{Turn, next, stop, range, range_to, loop_to}
 use Rattle.tonekit_core.specs.Layout.{accent_parent, rule_size, rule_label, rule_tone, rule_prev, rule_final, rule_form}
 use Rattle.tonekit_core.specs.Layout.{tone_knot_count, tone_knots, part_size, part_weight, part_knot_count, part_knots}
@@ -7,22 +7,33 @@ use Rattle.tonekit_bytes.specs.Fields.{byte_at, u16_at, f32_at}
 use Rattle.tonekit_pack.specs.Ranges.{one_f}
 use Rattle.tonekit_pack.specs.Pack.{Pst, number_at, parts_from}
 use Rattle.tonekit_expect.specs.Knots.{Knots, knots_at, expanded}
-use Rattle.tonekit_expect.specs.declared.Found.{Found}
-use Rattle.tonekit_expect.specs.declared.Found.TheVariants as found
 use Rattle.tonekit_expect.specs.declared.Winner.{Winner}
-use Rattle.tonekit_expect.specs.declared.Winner.TheVariants as winner
 use Rattle.tonekit_expect.specs.declared.Context.{Context}
 use Rattle.tonekit_expect.specs.declared.Listing.{Listing}
-use Rattle.tonekit_expect.specs.declared.Look.{Look}
-use Rattle.tonekit_expect.specs.declared.Look.TheVariants as look
 use Rattle.tonekit_expect.specs.declared.Component.{Component}
+
+-- where a search ended: at an index or an offset, or nowhere
+abbrev pub Found : Type 0
+Found = Option ℕ
+
+-- what a lookup gives: curves, or nothing
+abbrev pub Look : Type 0
+Look = Option Listing
+
+-- what a walk up the parents ends with: a rule of one of the accents, or none
+abbrev pub Walked : Type 0
+Walked = Option Winner
+
+-- the rule at offset r, of accent i
+abbrev pub won : ℕ → ℕ → Winner
+won i r = record { accent = i; rule = r }
 
 -- the place of the record with number n among the records at these offsets
 abbrev pub index_turn : List ℕ → List ℕ → ℕ → ℕ → ℕ → Turn ℕ Found
-index_turn s os n i u = cond (eqb (number_at s (get_or os i 0)) n) (stop (found.At i)) (next u)
+index_turn s os n i u = cond (eqb (number_at s (get_or os i 0)) n) (stop (Some i)) (next u)
 
 unfoldable pub index_of : List ℕ → List ℕ → ℕ → Found
-index_of s os n = range_to (index_turn s os n) (λ u. found.Nothing) 0 (length os) 0
+index_of s os n = range_to (index_turn s os n) (λ u. None) 0 (length os) 0
 
 -- a rule's final that asks for this phrase position: 1 is no, 2 is yes
 abbrev pub final_of : Context → ℕ
@@ -48,12 +59,12 @@ specificity s r =
 
 -- "its most specific one (conditions stated), the first among equals": a later rule must state more
 abbrev pub more_than : List ℕ → Found → ℕ → Bool
-more_than s found.Nothing r = true
-more_than s (found.At b) r = ltb (specificity s b) (specificity s r)
+more_than s None r = true
+more_than s (Some b) r = ltb (specificity s b) (specificity s r)
 
 unfoldable pub better_of : List ℕ → Context → Found → ℕ → Found
 unfolding matches specificity
-better_of s c best r = cond (matches s c r && more_than s best r) (found.At r) best
+better_of s c best r = cond (matches s c r && more_than s best r) (Some r) best
 
 -- the rules of accent i: from those that stood before it to those before the next accent
 abbrev pub from_rule : Pst → ℕ → ℕ
@@ -68,33 +79,33 @@ best_turn s rules c k best = better_of s c best (get_or rules k 0)
 -- the best of them that match
 unfoldable pub best_rule : List ℕ → Pst → Context → ℕ → Found
 unfolding better_of
-best_rule s st c i = range (best_turn s st.rules c) (from_rule st i) (to_rule st i) found.Nothing
+best_rule s st c i = range (best_turn s st.rules c) (from_rule st i) (to_rule st i) None
 
 -- "from the graded accent up its parents, the first accent with any matching rule gives its most specific one"
-abbrev pub to_parent : Found → Turn ℕ Winner
-to_parent found.Nothing = stop winner.Nothing
-to_parent (found.At j) = next j
+abbrev pub to_parent : Found → Turn ℕ Walked
+to_parent None = stop None
+to_parent (Some j) = next j
 
 -- the place of accent i's parent
 abbrev pub parent_of : List ℕ → Pst → ℕ → Found
 parent_of s st i = index_of s st.accents (byte_at s (get_or st.accents i 0 + accent_parent))
 
-abbrev pub or_parent : List ℕ → Pst → ℕ → Found → Turn ℕ Winner
-or_parent s st i (found.At r) = stop (winner.Rule i r)
-or_parent s st i found.Nothing = to_parent (parent_of s st i)
+abbrev pub or_parent : List ℕ → Pst → ℕ → Found → Turn ℕ Walked
+or_parent s st i (Some r) = stop (Some (won i r))
+or_parent s st i None = to_parent (parent_of s st i)
 
-unfoldable pub climb_turn : List ℕ → Pst → Context → ℕ → Turn ℕ Winner
+unfoldable pub climb_turn : List ℕ → Pst → Context → ℕ → Turn ℕ Walked
 unfolding best_rule index_of
 climb_turn s st c i = or_parent s st i (best_rule s st c i)
 
 -- `find_rule`: a walk of at most as many steps as there are accents
-unfoldable pub find_rule : List ℕ → Pst → Context → ℕ → Winner
+unfoldable pub find_rule : List ℕ → Pst → Context → ℕ → Walked
 unfolding climb_turn
-find_rule s st c i = loop_to (climb_turn s st c) winner.Nothing (length st.accents) i
+find_rule s st c i = loop_to (climb_turn s st c) None (length st.accents) i
 
 -- a winner is the rule of one of n accents, at an offset as offsets are held
-abbrev pub Placed : ℕ → Winner → Type 0
-Placed n w = (i r : ℕ) → w ≡ winner.Rule i r → (i < n) × (r < 65536)
+abbrev pub Placed : ℕ → Walked → Type 0
+Placed n w = (x : Winner) → w ≡ Some x → (x.accent < n) × (x.rule < 65536)
 
 -- the rule at r, under the number of the accent whose it is, with the parts that follow it
 abbrev pub rule_listing : List ℕ → ℕ → ℕ → Listing
@@ -111,15 +122,15 @@ abbrev pub citation : ℕ → ℕ → Listing
 citation owner o = record { owner = owner; form = 1; label = 0; at = o; count = 1 }
 
 -- "If none matches on the chain, the tone's citation; if context only, nothing."
-abbrev pub listed : List ℕ → Pst → Context → ℕ → Winner → Look
-listed s st c o (winner.Rule i r) = look.Found (rule_listing s (number_at s (get_or st.accents i 0)) r)
-listed s st c o winner.Nothing = cond (eqb (byte_at s (o + tone_knot_count)) 0) look.Nothing (look.Found (citation c.accent o))
+abbrev pub listed : List ℕ → Pst → Context → ℕ → Walked → Look
+listed s st c o (Some w) = Some (rule_listing s (number_at s (get_or st.accents w.accent 0)) w.rule)
+listed s st c o None = cond (eqb (byte_at s (o + tone_knot_count)) 0) None (Some (citation c.accent o))
 
 -- the lookup, once accent and tone are found at their places
 abbrev pub look_at : List ℕ → Pst → Context → Found → Found → Look
-look_at s st c (found.At i) (found.At t) = listed s st c (get_or st.tones t 0) (find_rule s st c i)
-look_at s st c found.Nothing t = look.Nothing
-look_at s st c (found.At i) found.Nothing = look.Nothing
+look_at s st c (Some i) (Some t) = listed s st c (get_or st.tones t 0) (find_rule s st c i)
+look_at s st c None t = None
+look_at s st c (Some i) None = None
 
 unfoldable pub look_up : List ℕ → Pst → Context → Look
 unfolding find_rule index_of parts_from

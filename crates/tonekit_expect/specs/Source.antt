@@ -1,5 +1,5 @@
 -- What a station holds, whichever bytes it was read from: settings, tones in order, accents with tolerances, and what each lookup gives. Floats by their bits.
-use Rattle.std.specs.Prelude.{ℕ, zero, suc, ◌+◌, Bool, false, cond, ◌||◌, List, [], ◌∷◌, ◌++◌, map, eqb}
+use Rattle.std.specs.Prelude.{ℕ, zero, suc, ◌+◌, Bool, false, cond, ◌||◌, List, [], ◌∷◌, ◌++◌, Some, None, map, eqb}
 use Rattle.std.proofs.Math.Option.{Option, none, some}
 use Rattle.std.specs.Float.{binary32}
 use Rattle.std.specs.Float.Ieee.{to_bits}
@@ -7,11 +7,9 @@ use Rattle.tonekit_core.specs.Layout.{settings_temperature, settings_threshold, 
 use Rattle.tonekit_core.specs.Layout.{accent_contour, accent_onset, accent_offset, accent_turning}
 use Rattle.tonekit_bytes.specs.Fields.{byte_at, u32_at}
 use Rattle.tonekit_pack.specs.Pack.{Pst, number_at}
-use Rattle.tonekit_expect.specs.Lookup.{look_up, component_of}
+use Rattle.tonekit_expect.specs.Lookup.{Look, look_up, component_of}
 use Rattle.tonekit_expect.specs.declared.Context.{Context}
 use Rattle.tonekit_expect.specs.declared.Listing.{Listing}
-use Rattle.tonekit_expect.specs.declared.Look.{Look}
-use Rattle.tonekit_expect.specs.declared.Look.TheVariants as look
 use Rattle.tonekit_expect.specs.declared.Component.{Component}
 
 -- "Settings are the two values of kind 1."
@@ -71,8 +69,8 @@ components s l zero = []
 components s l (suc n) = components s l n ++ (carried (component_of s l n) ∷ [])
 
 abbrev pub given : List ℕ → Look → Option (List Carried)
-given s look.Nothing = none
-given s (look.Found l) = some (components s l l.count)
+given s None = none
+given s (Some l) = some (components s l l.count)
 
 abbrev pub settings_at : List ℕ → ℕ → Settings
 settings_at s o = record { temperature = u32_at s (o + settings_temperature); threshold = u32_at s (o + settings_threshold) }

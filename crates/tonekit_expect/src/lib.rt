@@ -1,36 +1,30 @@
 // The lookup, as in the Rust's expect.rs: which curves a context takes, each drawn out to ten points.
 #![tactic(auto)]
 
-ghost use Rattle.std.specs.Prelude.{◌≡◌, ℕ, ◌+◌, ◌*◌, ◌≤◌, ◌<◌, false, cond, T, eqb, pos, get_or};
+ghost use Rattle.std.specs.Prelude.{◌≡◌, ℕ, ◌+◌, ◌*◌, ◌≤◌, ◌<◌, None, false, cond, T, eqb, pos, get_or};
 ghost use Rattle.std.specs.Float.{fin, nan};
 ghost use Rattle.std.specs.Float.Ieee.{le, lt};
 ghost use Rattle.tonekit_core.specs.Loop.{range};
-ghost use Rattle.tonekit_pack.specs.Held.{in_order, shown, Roomy};
+ghost use Rattle.tonekit_pack.specs.Held.{shown};
 ghost use Rattle.tonekit_expect.specs.Knots.{knot_before, on_line, point_at, expanded, knots_at, Point, Knots};
 ghost use Rattle.tonekit_pack.specs.Pack.{parts_from};
 ghost use Rattle.tonekit_expect.specs.Lookup.{index_of, final_of, meets, matches, one_if, specificity, better_of, best_turn, best_rule, parent_of, find_rule, Placed, rule_listing, listed, look_up, component_of, Listed};
 
 use tonekit_bytes::{byte_at, f32_at, u16_at};
 use tonekit_core::layout;
-use tonekit_float::{f64_of, floor_index, narrow, widen};
+use tonekit_float::{f64_of, floor_index, narrow};
 use tonekit_pack::Pack;
 
-// Where a search ended: at an index or an offset, or nowhere.
-#[derive(Drop)]
-pub enum Found {
-    At(usize),
-    Nothing,
-}
-
-// The rule that a walk up the parents found: its accent's index and its own offset; or none.
-#[derive(Drop)]
-pub enum Winner {
-    Rule(usize, usize),
-    Nothing,
+// The rule that a walk up the parents found: its accent's index and its own offset.
+#[derive(Clone, Copy)]
+pub struct Winner {
+    pub accent: usize,
+    pub rule: usize,
 }
 
 // A context, by the numbers of its accent, tone and previous tone (0 none), and 1 at the end of a
 // phrase.
+// Stays: final is handed over as the format's number, and any but 0 is the end of a phrase.
 #[derive(Clone, Copy)]
 pub struct Context {
     pub accent: u8,
@@ -40,6 +34,7 @@ pub struct Context {
 }
 
 // The curves of a context: owner, form, label, and how many components stand at an offset.
+// Stays: the form is the format's number, which goes into sheets and reports as it stands.
 #[derive(Clone, Copy)]
 pub struct Listing {
     pub owner: u8,
@@ -47,13 +42,6 @@ pub struct Listing {
     pub label: u16,
     pub at: usize,
     pub count: usize,
-}
-
-// What a lookup gives: curves, or nothing.
-#[derive(Drop)]
-pub enum Look {
-    Found(Listing),
-    Nothing,
 }
 
 // One weighted curve, as in the Rust: what it is called, its weight and its ten points.
@@ -67,54 +55,46 @@ pub struct Component {
     pub points: [f32; 10],
 }
 
-// An offset, as it is held, at the type of an index.
-fn wide(x: u16) -> usize
-    ensures { result ≡ x }
+// The place of the record with number n among those at these offsets.
+fn index_of(s: &[u8], at: &[u16], n: u8) -> Option<usize>
+    ensures { result ≡ index_of s.now at.now n }
 {
-    x as usize
-}
-
-// The place of the record with number n among the first `count` at these offsets.
-fn index_of(s: &[u8], at: &[u16; 8], count: usize, n: u8) -> Found
-    requires { count ≤ 8 }
-    ensures { result ≡ index_of s.now (in_order at.now count) n }
-{
-    for i in 0..count {
-        if byte_at(s, wide(at[i]), layout::OWN_NUMBER) == n {
-            return Found::At(i);
+    for (i, o) in at.iter().enumerate() {
+        if byte_at(s, usize::from(*o), layout::OWN_NUMBER) == n {
+            return Some(i);
         }
     }
-    Found::Nothing
+    None
 }
 
-// The place of the accent with number n among a pack's accents, or none. The pack is one that the
-// reader handed back for these bytes: it has room for what it counts.
-pub fn accent_index(s: &[u8], p: Pack, n: u8) -> Found
-    requires { Roomy p }
+// The place of the accent with number n among a pack's accents, or none.
+// Stays: tones and accents are looked for alike by `index_of`; the two calls say in which of a pack's offsets.
+#[tactic(auto, using(crate::proofs::InOrder::order_take))]
+pub fn accent_index(s: &[u8], p: Pack, n: u8) -> Option<usize>
     ensures { result ≡ index_of s.now (shown p).accents n }
 {
-    index_of(s, &p.accentat, p.accents, n)
+    index_of(s, &p.accentat[..p.accents], n)
 }
 
-// The place of the tone with number n among a pack's tones, or none; the pack as for an accent.
-pub fn tone_index(s: &[u8], p: Pack, n: u8) -> Found
-    requires { Roomy p }
+// The place of the tone with number n among a pack's tones, or none.
+// Stays: see `accent_index`.
+#[tactic(auto, using(crate::proofs::InOrder::order_take))]
+pub fn tone_index(s: &[u8], p: Pack, n: u8) -> Option<usize>
     ensures { result ≡ index_of s.now (shown p).tones n }
 {
-    index_of(s, &p.toneat, p.tones, n)
+    index_of(s, &p.toneat[..p.tones], n)
 }
 
 // Whether a condition allows a value: 0 allows any.
+#[tactic(auto, unfolding(crate::specs::Lookup::meets))]
 fn meets(c: u8, x: u8) -> bool
     ensures { result ≡ meets c x }
 {
-    if c == 0 {
-        return true;
-    }
-    c == x
+    c == 0 || c == x
 }
 
 // What a rule's final says of this phrase position, where it says anything.
+// Stays: the number is the format's, compared with a rule's byte.
 fn final_of(c: Context) -> u8
     ensures { result ≡ final_of c }
 {
@@ -122,15 +102,13 @@ fn final_of(c: Context) -> u8
 }
 
 // Whether the rule at r matches the context.
+#[tactic(auto, unfolding(crate::specs::Lookup::matches))]
 fn matches(s: &[u8], c: Context, r: usize) -> bool
     ensures { result ≡ matches s.now c r }
 {
-    if meets(byte_at(s, r, layout::RULE_TONE), c.tone) {
-        if meets(byte_at(s, r, layout::RULE_PREV), c.prev) {
-            return meets(byte_at(s, r, layout::RULE_FINAL), final_of(c));
-        }
-    }
-    false
+    meets(byte_at(s, r, layout::RULE_TONE), c.tone)
+        && meets(byte_at(s, r, layout::RULE_PREV), c.prev)
+        && meets(byte_at(s, r, layout::RULE_FINAL), final_of(c))
 }
 
 // 1 for a condition that is stated.
@@ -141,6 +119,7 @@ fn one_if(c: u8) -> usize
 }
 
 // How many conditions a rule states.
+#[tactic(auto, unfolding(crate::specs::Lookup::specificity))]
 fn specificity(s: &[u8], r: usize) -> usize
     ensures { result ≡ specificity s.now r }
 {
@@ -150,17 +129,18 @@ fn specificity(s: &[u8], r: usize) -> usize
 }
 
 // The rule at r where it matches and states more than the best so far, else that one.
-fn better(s: &[u8], c: Context, best: Found, r: usize) -> Found
+#[tactic(auto, unfolding(crate::specs::Lookup::better_of))]
+fn better(s: &[u8], c: Context, best: Option<usize>, r: usize) -> Option<usize>
     ensures { result ≡ better_of s.now c best r }
 {
     if matches(s, c, r) {
         match best {
-            Found::Nothing => {
-                return Found::At(r);
+            None => {
+                return Some(r);
             }
-            Found::At(b) => {
+            Some(b) => {
                 if specificity(s, b) < specificity(s, r) {
-                    return Found::At(r);
+                    return Some(r);
                 }
             }
         }
@@ -168,70 +148,65 @@ fn better(s: &[u8], c: Context, best: Found, r: usize) -> Found
     best
 }
 
-// The offset of rule k of n, 0 past the last.
-fn rule_at(at: &[u16; 64], n: usize, k: usize) -> usize
-    requires { n ≤ 64 }
-    ensures { result ≡ get_or (in_order at.now n) k 0 }
+// The offset of rule k, 0 past the last.
+fn rule_at(at: &[u16], k: usize) -> usize
+    ensures { result ≡ get_or at.now k 0 }
 {
-    if k < n { wide(at[k]) } else { 0 }
+    if k < at.len() { usize::from(at[k]) } else { 0 }
 }
 
 // The best of the rules from one place to another.
-fn best_among(s: &[u8], c: Context, at: &[u16; 64], n: usize, from: usize, to: usize) -> Found
-    requires { n ≤ 64 }
-    ensures { result ≡ range (best_turn s.now (in_order at.now n) c) from to Found.Nothing }
+// Stays: rules past the last have none, so `from..to` may go past the array, and no slice of it is given.
+fn best_among(s: &[u8], c: Context, at: &[u16], from: usize, to: usize) -> Option<usize>
+    ensures { result ≡ range (best_turn s.now at.now c) from to None }
 {
-    let mut best = Found::Nothing;
+    let mut best = None;
     for k in from..to {
-        best = better(s, c, best, rule_at(at, n, k));
+        best = better(s, c, best, rule_at(at, k));
     }
     best
 }
 
 // The best of accent i's own rules.
-fn best_rule(s: &[u8], p: Pack, c: Context, i: usize) -> Found
-    requires { Roomy p × (i < p.accents) }
+fn best_rule(s: &[u8], p: Pack, c: Context, i: usize) -> Option<usize>
+    requires { i < p.accents }
     ensures { result ≡ best_rule s.now (shown p) c i }
 {
-    let from = p.firstrule[i] as usize;
-    if i + 1 < p.accents {
-        let to = p.firstrule[i + 1] as usize;
-        return best_among(s, c, &p.ruleat, p.rules, from, to);
-    }
-    best_among(s, c, &p.ruleat, p.rules, from, p.rules)
+    let from = usize::from(p.firstrule[i]);
+    let to = if i + 1 < p.accents {
+        usize::from(p.firstrule[i + 1])
+    } else {
+        p.rules
+    };
+    best_among(s, c, &p.ruleat[..p.rules], from, to)
 }
 
 // The place of accent i's parent, or none.
-fn parent_index(s: &[u8], p: Pack, i: usize) -> Found
-    requires { Roomy p × (i < p.accents) }
+fn parent_index(s: &[u8], p: Pack, i: usize) -> Option<usize>
+    requires { i < p.accents }
     ensures { result ≡ parent_of s.now (shown p) i }
 {
-    let o = p.accentat[i] as usize;
-    index_of(
-        s,
-        &p.accentat,
-        p.accents,
-        byte_at(s, o, layout::ACCENT_PARENT),
-    )
+    let o = usize::from(p.accentat[i]);
+    accent_index(s, p, byte_at(s, o, layout::ACCENT_PARENT))
 }
 
 // The rule that a walk from accent i up its parents ends with: the best of the first accent that has
-// one that matches. The pack is as for `accent_index`, and i the place of one of its accents.
-pub fn find_rule(s: &[u8], p: Pack, c: Context, i: usize) -> Winner
-    requires { Roomy p × (i < p.accents) }
+// one that matches; i is the place of one of the pack's accents.
+pub fn find_rule(s: &[u8], p: Pack, c: Context, i: usize) -> Option<Winner>
+    requires { i < p.accents }
     ensures { result ≡ find_rule s.now (shown p) c i }
 {
     let mut a = i;
     let mut left = p.accents;
     let found = loop {
         if left == 0 {
-            break Winner::Nothing;
+            break None;
         }
-        if let Found::At(r) = best_rule(s, p, c, a) {
-            break Winner::Rule(a, r);
+        if let Some(r) = best_rule(s, p, c, a) {
+            break Some(Winner { accent: a, rule: r });
         }
-        let Found::At(parent) = parent_index(s, p, a) else {
-            break Winner::Nothing;
+        let Some(parent) = parent_index(s, p, a) else {
+            break None;
         };
         a = parent;
         left -= 1;
@@ -243,15 +218,12 @@ pub fn find_rule(s: &[u8], p: Pack, c: Context, i: usize) -> Winner
 fn parts_from(s: &[u8], o: usize) -> usize
     ensures { result ≡ parts_from 4 s.now o }
 {
-    let mut n: usize = 0;
-    while n < 4 {
-        if byte_at(s, o, layout::PART_SIZE * n) == layout::PART_KIND {
-            n += 1;
-        } else {
+    for n in 0..4 {
+        if byte_at(s, o, layout::PART_SIZE * n) != layout::PART_KIND {
             return n;
         }
     }
-    n
+    4
 }
 
 // The rule at r with its parts, under its owner's number. A pack's offsets fit 16 bits.
@@ -264,29 +236,29 @@ pub fn rule_listing(s: &[u8], owner: u8, r: usize) -> Listing
     let at = r + layout::RULE_SIZE;
     let count = parts_from(s, at);
     Listing {
-        owner: owner,
-        form: form,
-        label: label,
-        at: at,
-        count: count,
+        owner,
+        form,
+        label,
+        at,
+        count,
     }
 }
 
 // What the winning rule gives, or the citation of the tone at o.
-fn listing_of(s: &[u8], p: Pack, c: Context, o: usize, w: Winner) -> Look
-    requires { Roomy p × Placed p.accents w }
+fn listing_of(s: &[u8], p: Pack, c: Context, o: usize, w: Option<Winner>) -> Option<Listing>
+    requires { Placed p.accents w }
     ensures { result ≡ listed s.now (shown p) c o w }
 {
     match w {
-        Winner::Rule(i, r) => {
-            let a = p.accentat[i] as usize;
-            Look::Found(rule_listing(s, byte_at(s, a, layout::OWN_NUMBER), r))
+        Some(w) => {
+            let a = usize::from(p.accentat[w.accent]);
+            Some(rule_listing(s, byte_at(s, a, layout::OWN_NUMBER), w.rule))
         }
-        Winner::Nothing => {
+        None => {
             if byte_at(s, o, layout::TONE_KNOT_COUNT) == 0 {
-                return Look::Nothing;
+                return None;
             }
-            Look::Found(Listing {
+            Some(Listing {
                 owner: c.accent,
                 form: 1,
                 label: 0,
@@ -298,18 +270,13 @@ fn listing_of(s: &[u8], p: Pack, c: Context, o: usize, w: Winner) -> Look
 }
 
 // The curves of a context: those of the rule that its walk found, else the tone's citation; nothing
-// where that is for contexts only, or accent or tone is not held. The pack is as for `accent_index`.
-pub fn look_up(s: &[u8], p: Pack, c: Context) -> Look
-    requires { Roomy p }
+// where that is for contexts only, or accent or tone is not held.
+pub fn look_up(s: &[u8], p: Pack, c: Context) -> Option<Listing>
     ensures { result ≡ look_up s.now (shown p) c }
 {
-    let Found::At(i) = index_of(s, &p.accentat, p.accents, c.accent) else {
-        return Look::Nothing;
-    };
-    let Found::At(t) = index_of(s, &p.toneat, p.tones, c.tone) else {
-        return Look::Nothing;
-    };
-    let o = wide(p.toneat[t]);
+    let i = accent_index(s, p, c.accent)?;
+    let t = tone_index(s, p, c.tone)?;
+    let o = usize::from(p.toneat[t]);
     listing_of(s, p, c, o, find_rule(s, p, c, i))
 }
 
@@ -318,8 +285,7 @@ fn segment(x: f64, last: usize) -> usize
     requires { T (le (fin false 0 (pos 0)) x) × T (lt x (fin false 1 (pos 53))) × (1 ≤ last) }
     ensures { (result ≡ knot_before x last) × (result + 1 ≤ last) }
 {
-    let w = floor_index(x);
-    if w < last - 1 { w } else { last - 1 }
+    floor_index(x).min(last - 1)
 }
 
 // The point at t of the line from a to b.
@@ -327,10 +293,11 @@ fn segment(x: f64, last: usize) -> usize
 fn on_line(a: f32, b: f32, t: f64) -> f32
     ensures { result ≡ on_line a b t }
 {
-    narrow(widen(a) + t * widen(b - a))
+    narrow(f64::from(a) + t * f64::from(b - a))
 }
 
 // Point i of ten.
+#[tactic(auto, unfolding(crate::specs::Knots::point_at, crate::specs::Knots::fraction, crate::specs::Knots::segment))]
 fn point(knots: &[f32], i: usize) -> f32
     requires { Knots knots.now × (i < 10) }
     ensures { result ≡ point_at knots.now i }
@@ -357,13 +324,14 @@ pub fn expand_knots(knots: &[f32]) -> [f32; 10]
     ensures { (result ≡ expanded knots.now) × ((k : ℕ) → k < 10 → Point (get_or result k nan)) }
 {
     let mut out = [0.0f32; 10];
-    for i in 0..10 {
-        out[i] = point(knots, i);
+    for (i, x) in out.iter_mut().enumerate() {
+        *x = point(knots, i);
     }
     out
 }
 
 // A part's number: its place in a mixture.
+// Stays: the form is the format's number.
 fn part_number(form: u8, j: usize) -> u8
     requires { j < 4 }
     ensures { result ≡ cond (eqb form 3) j 0 }
@@ -377,42 +345,40 @@ fn points_at(s: &[u8], o: usize, n: usize) -> [f32; 10]
     ensures { (result ≡ expanded (knots_at s.now o n)) × ((k : ℕ) → k < 10 → Point (get_or result k nan)) }
 {
     let mut knots = [0.0f32; 10];
-    for k in 0..n {
-        knots[k] = f32_at(s, o, layout::F32_SIZE * k);
+    for (k, x) in knots[..n].iter_mut().enumerate() {
+        *x = f32_at(s, o, layout::F32_SIZE * k);
     }
     expand_knots(&knots[..n])
 }
 
 // Component j of a listing: a citation's, with weight 1, or a part of the rule. The listing is one
 // that `look_up` gave for these bytes, and j below its count: no other has curves.
+#[tactic(auto, unfolding(crate::specs::Lookup::component_of))]
 pub fn component_at(s: &[u8], l: Listing, j: usize) -> Component
     requires { Listed s.now l j }
     ensures { (result ≡ component_of s.now l j) × ((k : ℕ) → k < 10 → Point (get_or result.points k nan)) }
 {
-    let owner = l.owner;
-    let form = l.form;
-    let label = l.label;
-    if form == 1 {
-        let n = byte_at(s, l.at, layout::TONE_KNOT_COUNT) as usize;
+    if l.form == 1 {
+        let n = usize::from(byte_at(s, l.at, layout::TONE_KNOT_COUNT));
         let points = points_at(s, l.at + layout::TONE_KNOTS, n);
         return Component {
-            owner: owner,
-            form: form,
-            label: label,
+            owner: l.owner,
+            form: l.form,
+            label: l.label,
             part: 0,
             weight: 1.0,
             points: points,
         };
     }
     let o = l.at + layout::PART_SIZE * j;
-    let n = byte_at(s, o, layout::PART_KNOT_COUNT) as usize;
+    let n = usize::from(byte_at(s, o, layout::PART_KNOT_COUNT));
     let points = points_at(s, o + layout::PART_KNOTS, n);
     let weight = f32_at(s, o, layout::PART_WEIGHT);
     Component {
-        owner: owner,
-        form: form,
-        label: label,
-        part: part_number(form, j),
+        owner: l.owner,
+        form: l.form,
+        label: l.label,
+        part: part_number(l.form, j),
         weight: weight,
         points: points,
     }

@@ -1,9 +1,9 @@
 -- Worked examples, computed: document 01's bench cases for semitones and registers, and the pivots of the fit.
 use Rattle.std.specs.Prelude.{ℕ, ◌≡◌, refl, [], ◌∷◌, pos, negsuc, Float}
-use Rattle.std.specs.Float.{binary64}
+use Rattle.std.specs.Float.{binary64, float_with_sign}
 use Rattle.std.specs.Float.Ieee.{add, sub, mul, div, neg, lt, le, of_bits, of_int, round, is_nan}
 use Rattle.tonekit_core.specs.Loop.{range, turns}
-use Rattle.tonekit_float.specs.Magnitude.{magnitude, total_le}
+use Rattle.tonekit_float.specs.Magnitude.{total_le}
 use Rattle.tonekit_log.specs.Log.{log2_of}
 use Rattle.tonekit_fit.specs.Chao.{hz_to_st, width_of, st_to_chao}
 use Rattle.tonekit_fit.specs.Fit.{pivot_of}
@@ -35,9 +35,9 @@ register_5_5 = refl
 
 -- the pivot of 2, -2, 2 is the last, all being of one size; a row above, whose column is done, is none
 pivot_last : pivot_of ((num 2 ∷ []) ∷ (neg (num 2) ∷ []) ∷ (num 2 ∷ []) ∷ []) 0 ≡ 2
-unfolding range turns total_le magnitude is_nan lt le neg of_int round
+unfolding range turns total_le float_with_sign is_nan lt le neg of_int round
 pivot_last = refl
 
 pivot_below : pivot_of ((num 9 ∷ num 9 ∷ []) ∷ (num 0 ∷ num 1 ∷ []) ∷ (num 0 ∷ num 0 ∷ []) ∷ []) 1 ≡ 1
-unfolding range turns total_le magnitude is_nan lt le neg of_int round
+unfolding range turns total_le float_with_sign is_nan lt le neg of_int round
 pivot_below = refl

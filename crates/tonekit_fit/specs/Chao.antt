@@ -1,12 +1,11 @@
 -- chao.rs: semitones, Chao values, and the definition of a voiced frame. The operations are the Rust's, in its order.
-use Rattle.std.specs.Prelude.{ℕ, Bool, cond, ◌&&◌, List, Float}
+use Rattle.std.specs.Prelude.{ℕ, Bool, cond, ◌&&◌, List, Float, Option, Some, None}
 use Rattle.std.specs.Float.{binary64}
 use Rattle.std.specs.Float.Ieee.{add, sub, mul, div, lt, of_bits}
 use Rattle.std.specs.Float.Ieee.Scale.{finite}
 use Rattle.tonekit_log.specs.Log.{log2_of}
 use Rattle.tonekit_query.specs.Frames.{frame_at, voiced_of}
-use Rattle.tonekit_query.specs.declared.Frame.{Frame}
-use Rattle.tonekit_query.specs.declared.Frame.TheVariants.{Voiced, Unvoiced}
+use Rattle.tonekit_query.specs.declared.Voiced.{Voiced}
 
 -- +0, 1, 4, 12 and 55
 abbrev pub zero64 : Float
@@ -39,13 +38,13 @@ unfoldable pub st_to_chao : Float → Float → Float → Float
 st_to_chao floor width st = add binary64 one64 (div binary64 (mul binary64 four (sub binary64 st floor)) width)
 
 -- a frame's semitones and its voiced_p, +0 where it is unvoiced; and whether it is voiced
-abbrev pub semitones_of : Frame → Float
-semitones_of (Voiced hz p) = hz_to_st hz
-semitones_of Unvoiced = zero64
+abbrev pub semitones_of : Option Voiced → Float
+semitones_of (Some v) = hz_to_st v.hz
+semitones_of None = zero64
 
-abbrev pub confidence_of : Frame → Float
-confidence_of (Voiced hz p) = p
-confidence_of Unvoiced = zero64
+abbrev pub confidence_of : Option Voiced → Float
+confidence_of (Some v) = v.voiced_p
+confidence_of None = zero64
 
 abbrev pub voiced : List ℕ → ℕ → Bool
 voiced frames i = voiced_of (frame_at frames i)

@@ -1,5 +1,5 @@
 -- fit.rs: least-squares fits over the truly voiced frames of the voiced part. Frame j of the part is frame first + j of the query. Sums begin at +0.
-use Rattle.std.specs.Prelude.{ℕ, ◌+◌, ◌-◌, cond, List, [], ◌∷◌, ltb, length, get_or, set, replicate, Float}
+use Rattle.std.specs.Prelude.{ℕ, ◌+◌, ◌-◌, ◌<◌, ◌^◌, ◌≡◌, cond, List, [], ◌∷◌, ltb, length, get_or, set, replicate, Float}
 use Rattle.std.specs.Float.{nan, binary64}
 use Rattle.std.specs.Float.Ieee.{add, sub, mul, div, lt, of_bits}
 use Rattle.tonekit_core.specs.Loop.{Turn, next, stop, range, range_to}
@@ -23,15 +23,27 @@ voiced_turn p term j t = cond (voiced p.frames (p.first + j)) (add binary64 t (t
 abbrev pub voiced_sum : Part → (ℕ → Float) → Float
 voiced_sum p term = range (voiced_turn p term) 0 (length p.chao) zero64
 
+-- a walk over the voiced frames: a step goes from the state before it, by the frame's place in the part and its Chao value
+abbrev pub chao_at : Part → ℕ → Float
+chao_at p j = get_or p.chao j nan
+
+abbrev pub voiced_step : {S : Type 0} → Part → (S → ℕ → Float → S) → ℕ → S → S
+voiced_step p step j s = cond (voiced p.frames (p.first + j)) (step s j (chao_at p j)) s
+
+abbrev pub walk : {S : Type 0} → Part → (S → ℕ → Float → S) → S → S
+walk p step s = range (voiced_step p step) 0 (length p.chao) s
+
+-- where R says what a step may give, z is where the walk from s ends: that of each function that gives the same
+abbrev pub Walks : {S : Type 0} → (S → ℕ → Float → S → Type 0) → Part → S → S → Type 0
+Walks {S} R p s z =
+    (step : S → ℕ → Float → S) → ((t : S) (j : ℕ) (y : Float) (r : S) → j < 2 ^ 60 → R t j y r → r ≡ step t j y) → z ≡ walk p step s
+
 -- time in seconds, at 10 ms a frame; and as a fraction of the part, whose last frame is given
 abbrev pub seconds : ℕ → Float
 seconds j = mul binary64 (whole64 j) (of_bits binary64 0x3f84_7ae1_47ae_147b)
 
 abbrev pub fraction : Float → ℕ → Float
 fraction last j = div binary64 (whole64 j) last
-
-abbrev pub chao_at : Part → ℕ → Float
-chao_at p j = get_or p.chao j nan
 
 -- `line_slope`: count is the number of voiced frames; 0 when the times do not vary
 abbrev pub square : Float → ℕ → Float

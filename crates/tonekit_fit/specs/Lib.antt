@@ -1,3 +1,4 @@
 pub mod Chao
 pub mod Fit
+pub mod Lent
 pub mod Bench

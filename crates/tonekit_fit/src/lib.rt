@@ -1,29 +1,44 @@
 // `chao` and `fit` of the Rust: semitones and Chao values, least-squares fits over voiced frames.
-// Where a function takes frames, they are the part of a query's bytes that holds its frames; `first`
-// is the first frame of the voiced part, and `chao` its curve. A query has at most 1,024 frames,
-// which the caller has read: the bounds that are required say no more.
+// Where a function takes frames, they are the part of a query's bytes that holds its frames.
 #![tactic(auto)]
 
-ghost use Rattle.std.specs.Prelude.{◌≡◌, ℕ, ◌+◌, ◌≤◌, ◌<◌, length};
+ghost use Rattle.std.specs.Prelude.{◌≡◌, ℕ, ◌+◌, ◌≤◌, ◌<◌, ◌^◌, length};
 ghost use Rattle.tonekit_query.specs.Frames.{frame_at};
 ghost use Rattle.tonekit_fit.specs.Chao.{hz_to_st, width_of, st_to_chao, voiced, semitones_of};
-ghost use Rattle.tonekit_fit.specs.Fit.{Part, voiced_sum, seconds, fraction, point_sums, product_sums, line_slope, point_added, moments_of, normal_equations, pivot_of, swap_rows, row_cleared, below_cleared, first_unknown, lead_of, quadratic_coefficient};
+ghost use Rattle.tonekit_fit.specs.Fit.{seconds, point_added, normal_equations, pivot_of, row_cleared, below_cleared, first_unknown, lead_of};
+
+// The frames of a query from one of them on: the bytes that hold them all, and that first one. A
+// query has at most 1,024 frames.
+#[derive(Clone, Copy)]
+pub struct Frames<'a> {
+    pub bytes: &'a [u8],
+    pub first: usize,
+    ghost first_in: { first ≤ 1024 },
+}
+
+// A voiced part: its frames from its first on, and its curve in Chao values, one a frame.
+#[derive(Clone, Copy)]
+pub struct Part<'f, 'c> {
+    pub frames: Frames<'f>,
+    pub chao: &'c [f64],
+}
 
 // A sum along the times, and one with the Chao values.
-#[derive(Drop)]
+#[derive(Clone, Copy)]
 pub struct Sums {
     pub x: f64,
     pub y: f64,
 }
 
 // Sums of powers of x, and of y times powers of x.
-#[derive(Drop)]
+#[derive(Clone, Copy)]
 pub struct Moments {
     pub s: [f64; 5],
     pub t: [f64; 3],
 }
 
 // Semitones re 55 Hz.
+#[tactic(auto, unfolding(crate::specs::Chao::hz_to_st))]
 pub fn hz_to_st(hz: f64) -> f64
     ensures { result ≡ hz_to_st hz }
 {
@@ -31,19 +46,20 @@ pub fn hz_to_st(hz: f64) -> f64
 }
 
 // The register's width, or 4 where that is not a finite number above 0.
+#[tactic(auto, unfolding(crate::specs::Chao::width_of))]
 pub fn width_of(floor: f32, ceil: f32) -> f64
     ensures { result ≡ width_of floor ceil }
 {
-    let width = tonekit_float::widen(ceil) - tonekit_float::widen(floor);
-    if tonekit_float::is_finite_f64(width) {
-        if 0.0 < width {
-            return width;
-        }
+    let width = f64::from(ceil) - f64::from(floor);
+    if tonekit_float::is_finite(width) && 0.0 < width {
+        width
+    } else {
+        4.0
     }
-    4.0
 }
 
 // The Chao value of a semitone value in the register, unclamped.
+#[tactic(auto, unfolding(crate::specs::Chao::st_to_chao))]
 pub fn st_to_chao(floor: f64, width: f64, st: f64) -> f64
     ensures { result ≡ st_to_chao floor width st }
 {
@@ -51,18 +67,20 @@ pub fn st_to_chao(floor: f64, width: f64, st: f64) -> f64
 }
 
 // Whether frame i is voiced.
+#[tactic(auto, using(tonekit_query::proofs::Steps::frame_voiced_lem))]
 pub fn voiced(frames: &[u8], i: usize) -> bool
     ensures { result ≡ voiced frames.now i }
 {
-    tonekit_query::voiced(frames, i)
+    tonekit_query::is_voiced(frames, i)
 }
 
 // The semitones of frame i, 0 where it is unvoiced.
+#[tactic(auto, using(tonekit_query::proofs::Steps::frame_then, tonekit_query::proofs::Steps::frame_else))]
 pub fn semitones_of(frames: &[u8], i: usize) -> f64
     ensures { result ≡ semitones_of (frame_at frames.now i) }
 {
-    if tonekit_query::voiced(frames, i) {
-        hz_to_st(tonekit_float::widen(tonekit_query::frame_hz(frames, i)))
+    if tonekit_query::is_voiced(frames, i) {
+        hz_to_st(f64::from(tonekit_query::frame_hz(frames, i)))
     } else {
         0.0
     }
@@ -75,82 +93,126 @@ fn seconds(j: usize) -> f64
     tonekit_float::f64_of(j) * 0.01
 }
 
-// The sums of the voiced frames' times and of their Chao values.
-fn sum_points(frames: &[u8], first: usize, chao: &[f64]) -> Sums
-    requires { (first ≤ 1024) × (length chao.now ≤ 1024) }
-    ensures { result ≡ point_sums
-        (record { frames = frames.now; first = first; chao = chao.now }) }
-{
-    let mut x = 0.0;
-    let mut y = 0.0;
-    for j in 0..chao.len() {
-        if voiced(frames, first + j) {
-            x = x + seconds(j);
-            y = y + chao[j];
-        }
+impl Frames<'_> {
+    // Whether frame j from the first on is voiced.
+    pub fn voiced(self, j: usize) -> bool
+        requires { j < 2 ^ 60 }
+        ensures { result ≡ voiced self.entry.bytes.now (self.entry.first + j) }
+    {
+        voiced(self.bytes, self.first + j)
     }
-    Sums { x, y }
+
+    // The semitones of frame j from the first on, 0 where it is unvoiced.
+    pub fn semitones(self, j: usize) -> f64
+        requires { j < 2 ^ 60 }
+        ensures { result ≡ semitones_of (frame_at self.entry.bytes.now (self.entry.first + j)) }
+    {
+        semitones_of(self.bytes, self.first + j)
+    }
 }
 
-// The sums of the squares of the times, and of their products with the Chao values, each from its
-// mean.
-fn sum_products(frames: &[u8], first: usize, chao: &[f64], mx: f64, my: f64) -> Sums
-    requires { (first ≤ 1024) × (length chao.now ≤ 1024) }
-    ensures { result ≡ product_sums
-        (record { frames = frames.now; first = first; chao = chao.now }) mx my }
-{
-    let mut x = 0.0;
-    let mut y = 0.0;
-    for j in 0..chao.len() {
-        if voiced(frames, first + j) {
+impl Part<'_, '_> {
+    ghost use Rattle.tonekit_fit.specs.Fit.{Walks, voiced_sum, fraction, point_sums, product_sums, line_slope, moments_of, quadratic_coefficient};
+    ghost use Rattle.tonekit_fit.specs.Lent.{part_of};
+
+    // What a step makes of the voiced frames, one after the other. It is given what the earlier
+    // frames gave, the frame's index in the part, and its Chao value.
+    fn over_voiced<S, F: Fn(S, usize, f64) -> S>(self, start: S, step: F) -> S
+        requires { F.IsAlwaysCallable step }
+        ensures { Walks (F.post step) (part_of self.entry) start result }
+    {
+        let mut state = start;
+        for (j, y) in self.chao.iter().enumerate() {
+            if self.frames.voiced(j) {
+                state = step(state, j, *y);
+            }
+        }
+        state
+    }
+
+    // The sums of the voiced frames' times and of their Chao values.
+    fn sum_points(self) -> Sums
+        ensures { result ≡ point_sums (part_of self.entry) }
+    {
+        self.over_voiced(
+            Sums { x: 0.0, y: 0.0 },
+            |s, j, y| Sums {
+                x: s.x + seconds(j),
+                y: s.y + y,
+            },
+        )
+    }
+
+    // The sums of the squares of the times, and of their products with the Chao values, each from
+    // its mean.
+    fn sum_products(self, mx: f64, my: f64) -> Sums
+        ensures { result ≡ product_sums (part_of self.entry) mx my }
+    {
+        self.over_voiced(Sums { x: 0.0, y: 0.0 }, |s, j, y| {
             let d = seconds(j) - mx;
-            x = x + d * d;
-            y = y + d * (chao[j] - my);
-        }
+            Sums {
+                x: s.x + d * d,
+                y: s.y + d * (y - my),
+            }
+        })
     }
-    Sums { x, y }
-}
 
-// The least-squares slope of Chao values against seconds over the voiced frames, of which there are
-// `count`; 0 where the times do not vary.
-pub fn line_slope(frames: &[u8], first: usize, count: usize, chao: &[f64]) -> f64
-    requires { (first ≤ 1024) × (length chao.now ≤ 1024) }
-    ensures { result ≡ line_slope (record { frames = frames.now; first = first; chao = chao.now })
-        count }
-{
-    let n = tonekit_float::f64_of(count);
-    let sums = sum_points(frames, first, chao);
-    let s = sum_products(frames, first, chao, sums.x / n, sums.y / n);
-    if 0.0 < s.x {
-        return s.y / s.x;
+    // The least-squares slope of Chao values against seconds over the voiced frames, of which there
+    // are `count`; 0 where the times do not vary.
+    #[tactic(auto, unfolding(crate::specs::Fit::line_slope))]
+    pub fn line_slope(self, count: usize) -> f64
+        ensures { result ≡ line_slope (part_of self.entry) count }
+    {
+        let n = tonekit_float::f64_of(count);
+        let sums = self.sum_points();
+        let s = self.sum_products(sums.x / n, sums.y / n);
+        if 0.0 < s.x { s.y / s.x } else { 0.0 }
     }
-    0.0
-}
 
-// The sum of the voiced frames' fractions of the part; last is one less than its frames.
-fn sum_fractions(frames: &[u8], first: usize, chao: &[f64], last: f64) -> f64
-    requires { (first ≤ 1024) × (length chao.now ≤ 1024) }
-    ensures { result ≡ voiced_sum (record { frames = frames.now; first = first; chao = chao.now })
-        (fraction last) }
-{
-    let mut t = 0.0;
-    for j in 0..chao.len() {
-        if voiced(frames, first + j) {
-            t = t + tonekit_float::f64_of(j) / last;
-        }
+    // The sum of the voiced frames' fractions of the part; last is one less than its frames.
+    fn sum_fractions(self, last: f64) -> f64
+        ensures { result ≡ voiced_sum (part_of self.entry) (fraction last) }
+    {
+        self.over_voiced(0.0, |t, j, _| t + tonekit_float::f64_of(j) / last)
     }
-    t
+
+    // The sums of powers over the voiced frames, each fraction of the part from the mean.
+    fn moments(self, last: f64, mx: f64) -> Moments
+        ensures { result ≡ moments_of (part_of self.entry) last mx }
+    {
+        let none = Moments {
+            s: [0.0; 5],
+            t: [0.0; 3],
+        };
+        self.over_voiced(none, |m, j, y| {
+            point_added(m, tonekit_float::f64_of(j) / last - mx, y)
+        })
+    }
+
+    // The leading coefficient of the least-squares quadratic of Chao values against the fraction of
+    // the part, over the voiced frames, of which there are `count`; 0 where they determine no
+    // parabola.
+    #[tactic(auto, unfolding(crate::specs::Fit::quadratic_coefficient))]
+    pub fn quadratic_coefficient(self, count: usize) -> f64
+        requires { 1 ≤ length self.chao.now }
+        ensures { result ≡ quadratic_coefficient (part_of self.entry) count }
+    {
+        let last = tonekit_float::f64_of(self.chao.len() - 1);
+        let mx = self.sum_fractions(last) / tonekit_float::f64_of(count);
+        lead(normal_equations(self.moments(last, mx)))
+    }
 }
 
 // One point more, x from the mean.
+#[tactic(auto, using(tonekit_core::specs::Loop::again, tonekit_core::specs::Loop::ended), unfolding(crate::specs::Fit::point_added))]
 fn point_added(m: Moments, x: f64, y: f64) -> Moments
     ensures { result ≡ point_added x y m }
 {
     let mut s = m.s;
     let mut t = m.t;
     let mut pow = 1.0;
-    for k in 0..5usize {
-        s[k] = s[k] + pow;
+    for (k, sum) in s.iter_mut().enumerate() {
+        *sum = *sum + pow;
         if k < 3 {
             t[k] = t[k] + pow * y;
         }
@@ -159,25 +221,8 @@ fn point_added(m: Moments, x: f64, y: f64) -> Moments
     Moments { s, t }
 }
 
-// The sums over the voiced frames.
-fn moments_of(frames: &[u8], first: usize, chao: &[f64], last: f64, mx: f64) -> Moments
-    requires { (first ≤ 1024) × (length chao.now ≤ 1024) }
-    ensures { result ≡ moments_of (record { frames = frames.now; first = first; chao = chao.now })
-        last mx }
-{
-    let mut m = Moments {
-        s: [0.0; 5],
-        t: [0.0; 3],
-    };
-    for j in 0..chao.len() {
-        if voiced(frames, first + j) {
-            m = point_added(m, tonekit_float::f64_of(j) / last - mx, chao[j]);
-        }
-    }
-    m
-}
-
 // The normal equations for the quadratic's three coefficients.
+#[tactic(auto, unfolding(crate::specs::Fit::normal_equations))]
 fn normal_equations(m: Moments) -> [[f64; 4]; 3]
     ensures { result ≡ normal_equations m }
 {
@@ -190,42 +235,32 @@ fn normal_equations(m: Moments) -> [[f64; 4]; 3]
     ]
 }
 
+// Stays: rows and columns are numbers below 3, in three contracts: a type of three cases for them would index by a match.
 // The row at or below col with the greatest size in that column, the later of equals.
+#[tactic(auto, using(tonekit_core::specs::Loop::again, tonekit_core::specs::Loop::ended))]
 fn pivot_of(m: [[f64; 4]; 3], col: usize) -> usize
     requires { col < 3 }
     ensures { (result ≡ pivot_of m col) × (result < 3) }
 {
     let mut best = col;
+    // Stays: the number of a row is what is sought, and its value is compared with that of the best so far.
     for i in col + 1..3 {
-        if tonekit_float::total_le(
-            tonekit_float::abs_f64(m[best][col]),
-            tonekit_float::abs_f64(m[i][col]),
-        ) {
+        if tonekit_float::total_le(m[best][col].abs(), m[i][col].abs()) {
             best = i;
         }
     }
     best
 }
 
-// The grid with two rows in each other's place.
-fn swapped(m: [[f64; 4]; 3], i: usize, j: usize) -> [[f64; 4]; 3]
-    requires { (i < 3) × (j < 3) }
-    ensures { result ≡ swap_rows i j m }
-{
-    let mut t = m;
-    let a = t[i];
-    t[i] = t[j];
-    t[j] = a;
-    t
-}
-
 // Row `row` less the multiple of row `col` that clears its column `col`.
+#[tactic(auto, using(tonekit_core::specs::Loop::again, tonekit_core::specs::Loop::ended))]
 fn row_cleared(m: [[f64; 4]; 3], col: usize, row: usize) -> [[f64; 4]; 3]
     requires { (col < 3) × (row < 3) }
     ensures { result ≡ row_cleared col row m }
 {
     let mut t = m;
     let f = t[row][col] / t[col][col];
+    // Stays: a cell of one row is written by that of another in its column.
     for k in col..4 {
         t[row][k] = t[row][k] - f * t[col][k];
     }
@@ -233,6 +268,7 @@ fn row_cleared(m: [[f64; 4]; 3], col: usize, row: usize) -> [[f64; 4]; 3]
 }
 
 // Every row below `col` cleared in that column.
+#[tactic(auto, using(tonekit_core::specs::Loop::again, tonekit_core::specs::Loop::ended))]
 fn below_cleared(m: [[f64; 4]; 3], col: usize) -> [[f64; 4]; 3]
     requires { col < 3 }
     ensures { result ≡ below_cleared col m }
@@ -246,6 +282,7 @@ fn below_cleared(m: [[f64; 4]; 3], col: usize) -> [[f64; 4]; 3]
 }
 
 // The first unknown, from the triangle.
+#[tactic(auto, unfolding(crate::specs::Fit::first_unknown))]
 fn first_of(m: [[f64; 4]; 3]) -> f64
     ensures { result ≡ first_unknown m }
 {
@@ -255,31 +292,20 @@ fn first_of(m: [[f64; 4]; 3]) -> f64
 }
 
 // The first unknown of three equations; 0 where they do not determine it.
+#[tactic(auto, using(tonekit_core::specs::Loop::to_again, tonekit_core::specs::Loop::to_stop, tonekit_core::specs::Loop::to_ended, std::proofs::lemmas::List::Edits::swap_is), unfolding(crate::specs::Fit::lead_of))]
 pub fn lead(start: [[f64; 4]; 3]) -> f64
     ensures { result ≡ lead_of start }
 {
     let mut m = start;
+    // Stays: each turn works on the whole grid, by the number of the column.
     for col in 0..3usize {
         let p = pivot_of(m, col);
-        if tonekit_float::abs_f64(m[p][col]) < 1e-12 {
+        if m[p][col].abs() < 1e-12 {
             return 0.0;
         }
-        let swap = swapped(m, col, p);
-        let next = below_cleared(swap, col);
+        m.swap(col, p);
+        let next = below_cleared(m, col);
         m = next;
     }
     first_of(m)
-}
-
-// The leading coefficient of the least-squares quadratic of Chao values against the fraction of the
-// part, over the voiced frames, of which there are `count`; 0 where they determine no parabola.
-pub fn quadratic_coefficient(frames: &[u8], first: usize, count: usize, chao: &[f64]) -> f64
-    requires { (first ≤ 1024) × (length chao.now ≤ 1024) × (1 ≤ length chao.now) }
-    ensures { result ≡ quadratic_coefficient
-        (record { frames = frames.now; first = first; chao = chao.now }) count }
-{
-    let last = tonekit_float::f64_of(chao.len() - 1);
-    let mx = sum_fractions(frames, first, chao, last) / tonekit_float::f64_of(count);
-    let m = moments_of(frames, first, chao, last, mx);
-    lead(normal_equations(m))
 }

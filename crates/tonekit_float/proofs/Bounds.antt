@@ -1,7 +1,7 @@
 -- Bounds that compute: `In lo hi x` says that x lies from lo to hi, and each law gives a result's bounds as the operation's values at the
 -- operands' bounds. Where the bounds are written out, the new bounds compute, and every side condition is `tt`.
-use Rattle.std.proofs.Common.{Bool, ◌&&◌, T, ◌⊎◌, inl, inr, ⊎_elim}
-use lib.Ieee.{Float, Format, add, sub, mul, div, le}
+use Rattle.std.proofs.Common.{Bool, ◌&&◌, T, ◌⊎◌, inl, inr, ⊎_elim, Float}
+use lib.Ieee.{Format, add, sub, mul, div, le}
 use lib.Ieee.Fits.{and_l, and_r}
 use lib.Ieee.Positive.{positive}
 use lib.Ieee.Scale.{finite}

@@ -1,8 +1,8 @@
 -- Where rounding changes nothing: a value that fits its format is its own rounding, whole numbers up to 2 ^ prec add and subtract exactly, and so does
 -- x - y for y ≤ x ≤ 2 y.
-use Rattle.std.proofs.Common.{◌≡◌, ℕ, zero, suc, ◌+◌, ◌-◌, ◌*◌, ◌%◌, ◌^◌, ◌<◌, ◌≤◌, Bool, true, false, not, ◌&&◌, T, eqb, ltb, leb, ℤ, pos, negsuc, sym, refl, ap, ◌∙◌, subst, true≢false, le_trans, le_of_eq, lt_of_lt_of_le, lt_of_le_of_lt, le_of_lt, lt_irrefl, mul-le-mul_right, zero-lt-suc, mul_assoc, mul_comm, add-mul, lt_of_mul-lt-mul_right, mul-lt-mul_of_pos_right, mul-pos, one-mul, mul-zero, zero-add, zero-mul, mul-one, mul_right_comm, le_of_mul-le-mul_right, mul_left_comm, sub-le, arith, ltb→lt, lt→ltb, leb→le, pow_pos, pow_mono, pow-add, shl_lt}
+use Rattle.std.proofs.Common.{◌≡◌, ℕ, zero, suc, ◌+◌, ◌-◌, ◌*◌, ◌%◌, ◌^◌, ◌<◌, ◌≤◌, Bool, true, false, not, ◌&&◌, T, eqb, ltb, leb, ℤ, pos, negsuc, sym, refl, ap, ◌∙◌, subst, true≢false, le_trans, le_of_eq, lt_of_lt_of_le, lt_of_le_of_lt, le_of_lt, lt_irrefl, mul-le-mul_right, zero-lt-suc, mul_assoc, mul_comm, add-mul, lt_of_mul-lt-mul_right, mul-lt-mul_of_pos_right, mul-pos, one-mul, mul-zero, zero-add, zero-mul, mul-one, mul_right_comm, le_of_mul-le-mul_right, mul_left_comm, sub-le, arith, ltb→lt, lt→ltb, leb→le, pow_pos, pow_mono, pow-add, shl_lt, Float}
 use lib.Dec.{nleb→lt}
-use lib.Ieee.{Float, nan, inf, fin, Format, prec, emax, low, unlike, up, down, round, neg, add, sub, mul, le, of_int, fits}
+use lib.Ieee.{nan, inf, fin, Format, prec, emax, low, unlike, up, down, round, neg, add, sub, mul, le, of_int, fits}
 use lib.Ieee.Fits.{down_pos, and_l, and_r, reach, round-fits}
 use lib.Ieee.Exact.{HasValue, round_exact}
 use lib.Ieee.Back.{round_whole}

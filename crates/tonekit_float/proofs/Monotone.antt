@@ -1,9 +1,9 @@
 -- Sums, differences, products, quotients and narrowing keep the order of floats, of any sign. Each result is the rounding of a fraction (p - n) / d
 -- (`Rounds`), and rounding keeps the order (`rounds_le`).
-use Rattle.std.proofs.Common.{◌≡◌, ℕ, zero, suc, ◌+◌, ◌-◌, ◌*◌, ◌^◌, ◌<◌, ◌≤◌, Bool, true, false, cond, not, ◌&&◌, T, eqb, ltb, ℤ, pos, sym, refl, ap, ◌∙◌, subst, le_trans, le_of_eq, mul-le-mul_right, zero-lt-suc, mul_assoc, mul_comm, add-mul, mul-pos, mul-zero, zero-mul, le_of_mul-le-mul_right, mul_left_comm, arith, ltb→lt, nltb→le}
+use Rattle.std.proofs.Common.{◌≡◌, ℕ, zero, suc, ◌+◌, ◌-◌, ◌*◌, ◌^◌, ◌<◌, ◌≤◌, Bool, true, false, cond, not, ◌&&◌, T, eqb, ltb, ℤ, pos, sym, refl, ap, ◌∙◌, subst, le_trans, le_of_eq, mul-le-mul_right, zero-lt-suc, mul_assoc, mul_comm, add-mul, mul-pos, mul-zero, zero-mul, le_of_mul-le-mul_right, mul_left_comm, arith, ltb→lt, nltb→le, Float}
 use native.Mathlib.Nat.{mul-sub}
 use lib.Dec.{eqb-suc-zero}
-use lib.Ieee.{Float, nan, inf, fin, Format, binary32, binary64, prec, emax, low, unlike, up, down, units, odd, round, neg, sum, add, sub, mul, div, lt, le, eq, of_int}
+use lib.Ieee.{nan, inf, fin, Format, binary32, binary64, prec, emax, low, unlike, up, down, units, odd, round, neg, sum, add, sub, mul, div, lt, le, eq, of_int}
 use lib.Ieee.Fits.{up_pos}
 use lib.Ieee.Order.{round_mono}
 use lib.Ieee.Positive.{den, den_pos, positive}

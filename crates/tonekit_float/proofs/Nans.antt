@@ -1,7 +1,7 @@
 -- Where a float, or a bit pattern, is the NaN, and where a float is finite.
-use Rattle.std.proofs.Common.{◌≡◌, ℕ, ◌*◌, ◌%◌, Bool, true, false, not, ◌&&◌, ◌||◌, T, eqb, ltb, sym, refl, ap, ◌∙◌}
+use Rattle.std.proofs.Common.{◌≡◌, ℕ, ◌*◌, ◌%◌, Bool, true, false, not, ◌&&◌, ◌||◌, T, eqb, ltb, sym, refl, ap, ◌∙◌, Float}
 use lib.Dec.{eqb_refl}
-use lib.Ieee.{Float, Format, nan, inf, fin, is_nan, ne, eq, lt, up, down, of_bits, nan_bits, ones, hid, top}
+use lib.Ieee.{Format, nan, inf, fin, is_nan, ne, eq, lt, up, down, of_bits, nan_bits, ones, hid, top}
 use lib.Ieee.Compare.{differs_from_itself}
 use lib.Ieee.Bits.{nan_bits_is, nan_bits_above, is_true}
 use lib.Ieee.Scale.{finite}

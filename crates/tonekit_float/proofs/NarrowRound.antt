@@ -1,8 +1,8 @@
 -- x + c - c in binary64, with c the power of two whose last digit is an f32's near x, is x rounded to binary32.
-use Rattle.std.proofs.Common.{◌≡◌, ℕ, suc, ◌+◌, ◌-◌, ◌*◌, ◌/◌, ◌%◌, ◌^◌, ◌<◌, ◌≤◌, Bool, true, false, cond, not, T, ltb, leb, ◌⊎◌, sym, refl, ap, ◌∙◌, subst, inl, inr, ⊎_elim, le_trans, le_of_eq, lt_of_lt_of_le, le_of_suc-le-suc, lt_of_le_of_lt, mul-le-mul_right, mod-eq_of_lt, mul_assoc, mul_comm, add-mul, mul-le-mul, le_antisymm, mul-pos, le-div_iff_mul-le, mul_right_comm, div-one, mul-div_cancel, mul_left_comm, add-sub_cancel, arith, lit<, lit≤, ltb→lt, nltb→le, pow_pos, pow_mono, pow-add, ne_eqb}
+use Rattle.std.proofs.Common.{◌≡◌, ℕ, suc, ◌+◌, ◌-◌, ◌*◌, ◌/◌, ◌%◌, ◌^◌, ◌<◌, ◌≤◌, Bool, true, false, cond, not, T, ltb, leb, ◌⊎◌, sym, refl, ap, ◌∙◌, subst, inl, inr, ⊎_elim, le_trans, le_of_eq, lt_of_lt_of_le, le_of_suc-le-suc, lt_of_le_of_lt, mul-le-mul_right, mod-eq_of_lt, mul_assoc, mul_comm, add-mul, mul-le-mul, le_antisymm, mul-pos, le-div_iff_mul-le, mul_right_comm, div-one, mul-div_cancel, mul_left_comm, add-sub_cancel, arith, lit<, lit≤, ltb→lt, nltb→le, pow_pos, pow_mono, pow-add, ne_eqb, Float}
 use native.Mathlib.Nat.{eq_of_mul-eq-mul_right, mul-mod_left}
 use borrow.Author.Tests.{lt-leb}
-use lib.Ieee.{Float, nan, inf, fin, binary32, binary64, up, down, size, round, add, sub, le, of_bits, of_fields, odd}
+use lib.Ieee.{nan, inf, fin, binary32, binary64, up, down, size, round, add, sub, le, of_bits, of_fields, odd}
 use lib.Ieee.Digits.{size-lt, size-le, size_reaches}
 use lib.Ieee.Fits.{kept-lt, round-fits, sub-fits, fits_widens}
 use lib.Ieee.Exact.{HasValue, odd_sign, round_exact}

@@ -1,6 +1,6 @@
 -- What the code of `narrow` and `narrow_above` needs, by the cases of x.
-use Rattle.std.proofs.Common.{◌≡◌, ℕ, zero, suc, ◌+◌, ◌-◌, ◌*◌, ◌/◌, ◌^◌, ◌<◌, ◌≤◌, Bool, true, false, cond, not, ◌&&◌, T, eqb, ltb, ℤ, pos, sym, refl, ap, ◌∙◌, subst, le_trans, le_of_eq, lt_of_lt_of_le, lt_of_le_of_lt, lt_irrefl, mul-le-mul_right, mod-eq_of_lt, zero-lt-suc, lt_of_mul-lt-mul_right, mul-lt-mul_of_pos_right, mul-pos, mul-one, mul_right_comm, le_of_mul-le-mul_right, arith, lit≤, eqb→eq, ltb→lt, lt→ltb, nltb→le, T_not, pow_pos, le-ltb}
-use lib.Ieee.{Float, nan, inf, fin, Format, binary32, binary64, prec, emax, low, up, down, size, round, add, sub, lt, eq, fits, to_bits, of_bits, units, odd, neg, is_nan, nan_bits}
+use Rattle.std.proofs.Common.{◌≡◌, ℕ, zero, suc, ◌+◌, ◌-◌, ◌*◌, ◌/◌, ◌^◌, ◌<◌, ◌≤◌, Bool, true, false, cond, not, ◌&&◌, T, eqb, ltb, ℤ, pos, sym, refl, ap, ◌∙◌, subst, le_trans, le_of_eq, lt_of_lt_of_le, lt_of_le_of_lt, lt_irrefl, mul-le-mul_right, mod-eq_of_lt, zero-lt-suc, lt_of_mul-lt-mul_right, mul-lt-mul_of_pos_right, mul-pos, mul-one, mul_right_comm, le_of_mul-le-mul_right, arith, lit≤, eqb→eq, ltb→lt, lt→ltb, nltb→le, T_not, pow_pos, le-ltb, Float, to_bits}
+use lib.Ieee.{nan, inf, fin, Format, binary32, binary64, prec, emax, low, up, down, size, round, add, sub, lt, eq, fits, of_bits, units, odd, neg, is_nan, nan_bits}
 use lib.Ieee.Digits.{size-le}
 use lib.Ieee.Fits.{up_pos, down_pos, and_l, and_i, round-fits, nan-fits, inf-fits, eq→eqb}
 use lib.Ieee.Bits.{nan_bits_above}

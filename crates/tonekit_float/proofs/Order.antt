@@ -1,8 +1,8 @@
 -- The order of floats, of any sign, and the operations that keep it. A finite value is the fraction (plus - minus) / den.
 -- Every law is stated with the library's `le`, which computes at closed values: to bound a result, compute the operation at the bounds.
-use Rattle.std.proofs.Common.{◌≡◌, ℕ, ◌+◌, ◌*◌, ◌<◌, ◌≤◌, Bool, true, false, not, ◌&&◌, ◌||◌, T, eqb, ltb, leb, ◌⊎◌, ℤ, sym, refl, subst, inl, inr, ⊎_elim, le_of_eq, le_refl, lt_irrefl, mul-le-mul_right, mul_assoc, mul_comm, add-mul, le_of_mul-le-mul_right, mul_left_comm, arith, eqb→eq, ltb→lt, leb→le, nltb→le}
+use Rattle.std.proofs.Common.{◌≡◌, ℕ, ◌+◌, ◌*◌, ◌<◌, ◌≤◌, Bool, true, false, not, ◌&&◌, ◌||◌, T, eqb, ltb, leb, ◌⊎◌, ℤ, sym, refl, subst, inl, inr, ⊎_elim, le_of_eq, le_refl, lt_irrefl, mul-le-mul_right, mul_assoc, mul_comm, add-mul, le_of_mul-le-mul_right, mul_left_comm, arith, eqb→eq, ltb→lt, leb→le, nltb→le, Float}
 use lib.Dec.{nleb→lt}
-use lib.Ieee.{Float, nan, inf, fin, up, down, neg, lt, le, eq}
+use lib.Ieee.{nan, inf, fin, up, down, neg, lt, le, eq}
 use lib.Ieee.Fits.{and_l, and_r, and_i, eq→eqb}
 use lib.Ieee.Positive.{den, den_pos}
 use lib.Ieee.Scale.{finite}

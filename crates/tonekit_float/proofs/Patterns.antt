@@ -1,8 +1,8 @@
 -- An f64 by the fields of its pattern, and by its number of units of 2 ^ -1074. Assumes nothing.
-use Rattle.std.proofs.Common.{◌≡◌, ℕ, suc, ◌+◌, ◌-◌, ◌*◌, ◌/◌, ◌%◌, ◌^◌, ◌<◌, Bool, false, cond, T, eqb, ℤ, sym, refl, ap, ◌∙◌, subst, le_trans, le_of_eq, lt_of_lt_of_le, lt_of_le_of_lt, mul-le-mul_right, mod-eq_of_lt, zero-lt-suc, lt_of_mul-lt-mul_right, mul-lt-mul_of_pos_right, mul-pos, one-mul, zero-mul, mul-one, mul_right_comm, mul-div_cancel, arith, pow_pos, ne_eqb}
+use Rattle.std.proofs.Common.{◌≡◌, ℕ, suc, ◌+◌, ◌-◌, ◌*◌, ◌/◌, ◌%◌, ◌^◌, ◌<◌, Bool, false, cond, T, eqb, ℤ, sym, refl, ap, ◌∙◌, subst, le_trans, le_of_eq, lt_of_lt_of_le, lt_of_le_of_lt, mul-le-mul_right, mod-eq_of_lt, zero-lt-suc, lt_of_mul-lt-mul_right, mul-lt-mul_of_pos_right, mul-pos, one-mul, zero-mul, mul-one, mul_right_comm, mul-div_cancel, arith, pow_pos, ne_eqb, Float, to_bits}
 use native.Mathlib.Nat.{eq_of_mul-eq-mul_right}
 use borrow.Author.Tests.{lt-leb}
-use lib.Ieee.{Float, nan, inf, fin, up, down, binary64, size, of_bits, to_bits, of_fields, odd, fits}
+use lib.Ieee.{nan, inf, fin, up, down, binary64, size, of_bits, of_fields, odd, fits}
 use lib.Ieee.Digits.{size-le}
 use lib.Ieee.Fits.{down_pos, up_pos}
 use lib.Ieee.Exact.{HasValue, odd_sign}

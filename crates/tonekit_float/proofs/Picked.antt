@@ -1,10 +1,29 @@
 -- Minimum and maximum: the code's three ways out, and for finite values that the lesser and the greater are bounds of both, and one of the two.
-use Rattle.std.proofs.Common.{◌≡◌, Bool, true, false, cond, T, refl}
-use lib.Ieee.{Float, is_nan, ne, lt, le}
+use Rattle.std.proofs.Common.{◌≡◌, Bool, true, false, not, cond, T, refl, sym, ap, ◌∙◌, Float, is_nan}
+use Rattle.std.proofs.Common.{Option, Some, None, Ordering, Less, Equal, Greater}
+use Rattle.std.specs.Ordering.{is_some_and, is_lt, partial_lt, float_partial_cmp}
+use lib.Ieee.{ne, eq, lt, le}
 use lib.Ieee.Scale.{finite}
 use Rattle.tonekit_float.specs.Pick.{lesser, greater}
 use Rattle.tonekit_float.proofs.Order.{yes, lt→le, not-lt→le, le_refl_finite}
 use Rattle.tonekit_float.proofs.Nans.{ne_self, finite_number}
+
+-- ---- the tests of a type whose comparisons are those of floats
+from_order : (l e g : Bool) → is_some_and is_lt (cond l (Some Less) (cond e (Some Equal) (cond g (Some Greater) None))) ≡ l
+from_order true e g = refl
+from_order false true g = refl
+from_order false false true = refl
+from_order false false false = refl
+
+module _ {X : Type 0} (float : X → Float) (a b : X) {t v : Bool} where
+  -- `a < b`
+  pub less : (cmp : X → X → Option Ordering) → ((a b : X) → cmp a b ≡ float_partial_cmp (float a) (float b)) → t ≡ partial_lt cmp a b → t ≡ v → lt (float a) (float b) ≡ v
+  less cmp law e k = sym (sym k ∙ e ∙ ap (is_some_and is_lt) (law a b) ∙ from_order (lt (float a) (float b)) (eq (float a) (float b)) (lt (float b) (float a)))
+
+  -- `a != b`
+  pub differs : (same : X → X → Bool) → ((a b : X) → same a b ≡ eq (float a) (float b)) → t ≡ not (same a b) → t ≡ v → ne (float a) (float b) ≡ v
+  unfolding ne
+  differs same law e k = sym (sym k ∙ e ∙ ap not (law a b))
 
 -- ---- the ways out: b where a is a NaN, else by the test l
 pub of_nan : (a b c : Float) → ne a a ≡ true → b ≡ cond (is_nan a) b c

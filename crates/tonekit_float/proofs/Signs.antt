@@ -1,6 +1,6 @@
 -- The cases of a float by the tests `x > 0.0`, `x < 1.0 / 0.0` and `x == 0.0`, in this order. Assumes nothing.
-use Rattle.std.proofs.Common.{◌≡◌, ℕ, zero, suc, ◌+◌, ◌*◌, ◌<◌, Bool, true, false, ◌&&◌, T, eqb, ℤ, refl, lt_irrefl, zero-lt-suc, mul-pos, arith, eqb→eq, ltb→lt, lt→ltb, T_not}
-use lib.Ieee.{Float, nan, inf, fin, up, down, binary64, lt, eq, of_bits, div}
+use Rattle.std.proofs.Common.{◌≡◌, ℕ, zero, suc, ◌+◌, ◌*◌, ◌<◌, Bool, true, false, ◌&&◌, T, eqb, ℤ, refl, lt_irrefl, zero-lt-suc, mul-pos, arith, eqb→eq, ltb→lt, lt→ltb, T_not, Float}
+use lib.Ieee.{nan, inf, fin, up, down, binary64, lt, eq, of_bits, div}
 use lib.Ieee.Fits.{up_pos, and_l, and_i, eq→eqb}
 use Rattle.tonekit_float.proofs.Order.{yes, no}
 use Rattle.tonekit_float.proofs.Monotone.{zero_f}

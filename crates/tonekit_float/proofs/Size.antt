@@ -1,7 +1,7 @@
 -- Sizes by whole numbers: `Within n x` says that x is finite and of size at most n. Up to 2 ^ prec such bounds add and multiply with no loss to
 -- rounding, since whole numbers are exact and rounding keeps the order. So a loop's bound is a number that grows with its turns.
-use Rattle.std.proofs.Common.{◌≡◌, ℕ, ◌+◌, ◌-◌, ◌*◌, ◌^◌, ◌<◌, ◌≤◌, true, false, ◌&&◌, T, leb, sym, ap, ◌∙◌, subst, zero-le, le_trans, le_of_eq, lt_of_lt_of_le, mul-le-mul_right, zero-lt-suc, mul_assoc, mul_comm, add-mul, mul-le-mul, mul-le-mul_left, mul-pos, one-mul, zero-mul, mul-one, mul-add, mul_right_comm, le_of_mul-le-mul_right, mul_left_comm, arith, leb→le}
-use lib.Ieee.{Float, nan, inf, fin, Format, binary32, prec, up, down, round, neg, add, sub, mul, div, le, of_int}
+use Rattle.std.proofs.Common.{◌≡◌, ℕ, ◌+◌, ◌-◌, ◌*◌, ◌^◌, ◌<◌, ◌≤◌, true, false, ◌&&◌, T, leb, sym, ap, ◌∙◌, subst, zero-le, le_trans, le_of_eq, lt_of_lt_of_le, mul-le-mul_right, zero-lt-suc, mul_assoc, mul_comm, add-mul, mul-le-mul, mul-le-mul_left, mul-pos, one-mul, zero-mul, mul-one, mul-add, mul_right_comm, le_of_mul-le-mul_right, mul_left_comm, arith, leb→le, Float}
+use lib.Ieee.{nan, inf, fin, Format, binary32, prec, up, down, round, neg, add, sub, mul, div, le, of_int}
 use lib.Ieee.Fits.{and_l, and_r}
 use lib.Ieee.Order.{round_mono}
 use lib.Ieee.Positive.{den, den_pos, positive, positive-finite}

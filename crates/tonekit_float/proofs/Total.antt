@@ -1,7 +1,7 @@
 -- `total_le` is the order of the bit patterns of values whose sign is clear, which is how Rust's `total_cmp` orders them; so it is total and transitive.
-use Rattle.std.proofs.Common.{◌≡◌, ℕ, ◌+◌, ◌-◌, ◌*◌, ◌/◌, ◌^◌, ◌<◌, ◌≤◌, Bool, true, false, not, ◌&&◌, ◌||◌, T, ltb, leb, ◌⊎◌, ℤ, sym, refl, ap, ◌∙◌, subst, inl, inr, ⊎_elim, le_trans, le_of_eq, le_refl, lt_of_lt_of_le, lt_of_le_of_lt, mul-le-mul_right, mod-eq_of_lt, add-mul, le_antisymm, one-mul, le-div_iff_mul-le, mul_right_comm, arith, le→leb, leb→le, nltb→le, pow_pos, pow-add}
+use Rattle.std.proofs.Common.{◌≡◌, ℕ, ◌+◌, ◌-◌, ◌*◌, ◌/◌, ◌^◌, ◌<◌, ◌≤◌, Bool, true, false, not, ◌&&◌, ◌||◌, T, ltb, leb, ◌⊎◌, ℤ, sym, refl, ap, ◌∙◌, subst, inl, inr, ⊎_elim, le_trans, le_of_eq, le_refl, lt_of_lt_of_le, lt_of_le_of_lt, mul-le-mul_right, mod-eq_of_lt, add-mul, le_antisymm, one-mul, le-div_iff_mul-le, mul_right_comm, arith, le→leb, leb→le, nltb→le, pow_pos, pow-add, Float}
 use lib.Dec.{nleb→lt}
-use lib.Ieee.{Float, Format, binary32, binary64, nan, inf, fin, is_nan, fits, le, lt, eq, up, down, prec, low, hid, ones, size, to_bits, of_bits}
+use lib.Ieee.{Format, binary32, binary64, nan, inf, fin, is_nan, fits, le, lt, eq, up, down, prec, low, hid, ones, size, to_bits, of_bits}
 use lib.Ieee.Bits.{of_bits-to_bits, nan_bits_is, nan_bits_above, is_true}
 use lib.Ieee.Digits.{size-lt, size-le, size_reaches}
 use lib.Ieee.Fits.{two, down_pos, kept-lt}

@@ -1,9 +1,9 @@
 -- Floats by their number of units, the format's smallest value.
-use Rattle.std.proofs.Common.{◌≡◌, ℕ, zero, suc, ◌+◌, ◌-◌, ◌*◌, ◌/◌, ◌%◌, ◌^◌, ◌<◌, ◌≤◌, Bool, true, false, cond, ◌&&◌, T, eqb, ltb, leb, ℤ, pos, negsuc, sym, refl, ap, ◌∙◌, true≢false, le_trans, le_of_eq, lt_of_lt_of_le, le_of_suc-le-suc, mul-le-mul_right, mul_assoc, mul_comm, div-lt_iff_lt-mul, add-mul, le_antisymm, mul-pos, one-mul, lt_of_not-le, mul-one, mul_right_comm, not-le_of_lt, le_of_mul-le-mul_right, div-one, mul-div_cancel, arith, eqb→eq, ltb→lt, leb→le, pow_pos, pow_mono, pow-add}
+use Rattle.std.proofs.Common.{◌≡◌, ℕ, zero, suc, ◌+◌, ◌-◌, ◌*◌, ◌/◌, ◌%◌, ◌^◌, ◌<◌, ◌≤◌, Bool, true, false, cond, ◌&&◌, T, eqb, ltb, leb, ℤ, pos, negsuc, sym, refl, ap, ◌∙◌, true≢false, le_trans, le_of_eq, lt_of_lt_of_le, le_of_suc-le-suc, mul-le-mul_right, mul_assoc, mul_comm, div-lt_iff_lt-mul, add-mul, le_antisymm, mul-pos, one-mul, lt_of_not-le, mul-one, mul_right_comm, not-le_of_lt, le_of_mul-le-mul_right, div-one, mul-div_cancel, arith, eqb→eq, ltb→lt, leb→le, pow_pos, pow_mono, pow-add, Float}
 use Prim.Native.Nat.{compare, Ordering}
 use native.Mathlib.Nat.{pow-succ', mul-sub, eq_of_mul-eq-mul_right, add-mul-div_right, add-mul-mod_self_right}
 use lib.Pow.{pow-lt}
-use lib.Ieee.{Float, nan, inf, fin, Format, prec, emax, low, hid, top, up, down, size, nearest, round, add, sub, sum, fits, to_bits, of_bits}
+use lib.Ieee.{nan, inf, fin, Format, prec, emax, low, hid, top, up, down, size, nearest, round, add, sub, sum, fits, to_bits, of_bits}
 use lib.Ieee.Digits.{size-lt, size-le}
 use lib.Ieee.Fits.{and_l, and_r, down_pos, nearest-le}
 use lib.Ieee.Bits.{of_bits-to_bits}

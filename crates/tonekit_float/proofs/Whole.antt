@@ -1,7 +1,7 @@
 -- Whole parts and rounding up: what the code of `floor_index` and `ceil_index` needs, and where the results lie.
-use Rattle.std.proofs.Common.{◌≡◌, ℕ, ◌+◌, ◌-◌, ◌*◌, ◌/◌, ◌^◌, ◌<◌, ◌≤◌, true, false, T, ℤ, pos, sym, refl, ap, ◌∙◌, subst, zero-le, le_trans, le_of_eq, le_of_lt, mul-le-mul_right, zero-lt-suc, div-lt_iff_lt-mul, add-mul, lt_of_mul-lt-mul_right, mul-pos, one-mul, le-div_iff_mul-le, zero-mul, mul-one, mul_right_comm, div-mul-le_self, le_of_mul-le-mul_right, mul-div_cancel, arith, le→leb, ltb→lt, lt→ltb, nltb→le}
+use Rattle.std.proofs.Common.{◌≡◌, ℕ, ◌+◌, ◌-◌, ◌*◌, ◌/◌, ◌^◌, ◌<◌, ◌≤◌, true, false, T, ℤ, pos, sym, refl, ap, ◌∙◌, subst, zero-le, le_trans, le_of_eq, le_of_lt, mul-le-mul_right, zero-lt-suc, div-lt_iff_lt-mul, add-mul, lt_of_mul-lt-mul_right, mul-pos, one-mul, le-div_iff_mul-le, zero-mul, mul-one, mul_right_comm, div-mul-le_self, le_of_mul-le-mul_right, mul-div_cancel, arith, le→leb, ltb→lt, lt→ltb, nltb→le, Float}
 use native.Mathlib.Nat.{zero-div, min-eq_left}
-use lib.Ieee.{Float, nan, inf, fin, binary64, up, down, lt, le, eq, sub, of_int, of_bits, in_float, to_unsigned}
+use lib.Ieee.{nan, inf, fin, binary64, up, down, lt, le, eq, sub, of_int, of_bits, in_float, to_unsigned}
 use lib.Ieee.Fits.{down_pos}
 use lib.Ieee.Exact.{HasValue}
 use lib.Ieee.Positive.{den, den_pos}

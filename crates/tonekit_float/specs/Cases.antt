@@ -1,6 +1,6 @@
 -- Cases of the definitions, each by computing it.
 use Rattle.std.specs.Prelude.{◌≡◌, ℕ, true, false, pos, negsuc, refl}
-use Rattle.std.specs.Float.{nan, inf, fin, binary32, binary64}
+use Rattle.std.specs.Float.{nan, inf, fin, binary32, binary64, float_with_sign}
 use Rattle.std.specs.Float.Ieee.{round, of_int, of_bits, to_bits, is_nan, lt}
 use Rattle.tonekit_float.specs.Narrow.{narrowed}
 use Rattle.tonekit_float.specs.Pick.{lesser, greater}
@@ -104,11 +104,11 @@ greater_nan_later = refl
 
 -- ---- the sign cleared
 magnitude_zero : magnitude (of_bits binary64 0x8000_0000_0000_0000) ≡ fin false 0 (pos 0)
-unfolding magnitude of_bits
+unfolding float_with_sign of_bits
 magnitude_zero = refl
 
 magnitude_nan : magnitude nan ≡ nan
-unfolding magnitude
+unfolding float_with_sign
 magnitude_nan = refl
 
 -- a NaN is above infinity, and infinity is not above a NaN

@@ -1,13 +1,11 @@
 -- The Rust's `abs`, and its `total_cmp` among what `abs` gives.
 use Rattle.std.specs.Prelude.{Bool, true, false, not, ◌&&◌, ◌||◌, is_nan, Float}
-use Rattle.std.specs.Float.{nan, inf, fin}
+use Rattle.std.specs.Float.{nan, inf, fin, float_with_sign}
 use Rattle.std.specs.Float.Ieee.{le}
 
 -- `x.abs()`: the sign cleared, that of a zero too
-unfoldable pub magnitude : Float → Float
-magnitude nan = nan
-magnitude (inf s) = inf false
-magnitude (fin s m e) = fin false m e
+abbrev pub magnitude : Float → Float
+magnitude = float_with_sign false
 
 -- a value whose sign is clear, or the NaN
 abbrev pub clear : Float → Bool

@@ -1,62 +1,152 @@
-// Floats of any bit pattern: bits, conversions, minimum and maximum, absolute value, whole parts and
+// Floats of any bit pattern: bits, conversions, minimum and maximum, whole parts and
 // the comparisons that Rust has as methods.
 #![tactic(auto)]
 
-ghost use Rattle.std.specs.Prelude.{◌≡◌, ◌+◌, ◌-◌, true, false, T, pos, from_bits, to_bits};
+ghost use Rattle.std.specs.Prelude.{◌≡◌, ℕ, ◌+◌, ◌-◌, true, false, T, pos, from_bits, to_bits, refl};
 ghost use Rattle.std.specs.Float.Ieee as Ieee;
-ghost use Rattle.std.specs.Float.{binary32, binary64, fin};
+ghost use Rattle.std.specs.Float.{Float, Format, binary32, binary64, inf, fin};
+ghost use Rattle.std.specs.Ordering.{float_partial_cmp};
 ghost use Rattle.std.specs.Float.Ieee.{of_int};
 ghost use Rattle.std.specs.Float.Ieee.Scale.{finite};
 ghost use Rattle.tonekit_float.specs.Narrow.{narrowed};
 ghost use Rattle.tonekit_float.specs.Pick.{lesser, greater};
-ghost use Rattle.tonekit_float.specs.Magnitude.{magnitude, total_le};
+ghost use Rattle.tonekit_float.specs.Magnitude.{total_le};
 ghost use Rattle.tonekit_float.specs.Whole.{whole_part, round_up};
 
-// The f32 of any 32 bits: every NaN pattern gives the one NaN.
-pub fn f32_of_bits(b: u32) -> f32
-    ensures { result ≡ from_bits binary32 b }
-{
-    if 0x7f80_0000 < b % 0x8000_0000 {
-        0.0 / 0.0
-    } else {
-        f32::from_bits(b)
+// A float of either width: its bits, its order, and its infinity.
+pub trait AnyFloat: PartialOrd + Copy {
+    // The whole number of as many bits.
+    type Bits: Copy;
+
+    ghost format: { Format };
+
+    // A value as the clauses see a float, and bits as they see a number.
+    ghost float: { Self → Float };
+
+    ghost number: { Self.Bits → ℕ };
+
+    const INFINITY: Self;
+
+    ghost INFINITY: { Self };
+
+    const MINUS_INFINITY: Self;
+
+    ghost MINUS_INFINITY: { Self };
+
+    // The float of any bits: every NaN pattern gives the one NaN.
+    fn of_bits(b: Self::Bits) -> Self
+        ensures { float result ≡ from_bits format (number b) };
+
+    // The bits of any float: a NaN's are the quiet one's with a clear sign.
+    fn bits(self) -> Self::Bits
+        ensures { number result ≡ to_bits format (float self) };
+
+    // The comparisons are those of floats.
+    ghost eq_law: { (a b : Self) → Self.eq a b ≡ Ieee.eq (float a) (float b) };
+
+    ghost order_law: { (a b : Self)
+        → Self.partial_cmp a b ≡ float_partial_cmp (float a) (float b) };
+
+    ghost infinity_law: { float INFINITY ≡ inf false };
+
+    ghost minus_infinity_law: { float MINUS_INFINITY ≡ inf true };
+}
+
+impl AnyFloat for f32 {
+    type Bits = u32;
+
+    ghost format = { binary32 };
+
+    ghost float = { λ x. x };
+
+    ghost number = { λ b. b };
+
+    const INFINITY: f32 = 1.0 / 0.0;
+
+    ghost INFINITY = { inf false };
+
+    const MINUS_INFINITY: f32 = -1.0 / 0.0;
+
+    ghost MINUS_INFINITY = { inf true };
+
+    fn of_bits(b: u32) -> f32 {
+        std::num::f32_from_bits_with_nan(b)
     }
-}
 
-// The bits of any f32: a NaN's are 0x7FC00000.
-pub fn bits_of_f32(x: f32) -> u32
-    ensures { result ≡ to_bits binary32 x }
-{
-    if x != x { 0x7fc0_0000 } else { f32::to_bits(x) }
-}
-
-// The f64 of any 64 bits: every NaN pattern gives the one NaN.
-pub fn f64_of_bits(b: u64) -> f64
-    ensures { result ≡ from_bits binary64 b }
-{
-    if 0x7ff0_0000_0000_0000 < b % 0x8000_0000_0000_0000 {
-        0.0 / 0.0
-    } else {
-        f64::from_bits(b)
+    fn bits(self) -> u32 {
+        std::num::f32_to_bits_with_nan(self)
     }
+
+    ghost eq_law = { λ a b. refl };
+
+    ghost order_law = { λ a b. refl };
+
+    ghost infinity_law = { refl };
+
+    ghost minus_infinity_law = { refl };
 }
 
-// The bits of any f64: a NaN's are 0x7FF8000000000000.
-pub fn bits_of_f64(x: f64) -> u64
-    ensures { result ≡ to_bits binary64 x }
-{
-    if x != x {
-        0x7ff8_0000_0000_0000
-    } else {
-        f64::to_bits(x)
+impl AnyFloat for f64 {
+    type Bits = u64;
+
+    ghost format = { binary64 };
+
+    ghost float = { λ x. x };
+
+    ghost number = { λ b. b };
+
+    const INFINITY: f64 = 1.0 / 0.0;
+
+    ghost INFINITY = { inf false };
+
+    const MINUS_INFINITY: f64 = -1.0 / 0.0;
+
+    ghost MINUS_INFINITY = { inf true };
+
+    fn of_bits(b: u64) -> f64 {
+        std::num::f64_from_bits_with_nan(b)
     }
+
+    fn bits(self) -> u64 {
+        std::num::f64_to_bits_with_nan(self)
+    }
+
+    ghost eq_law = { λ a b. refl };
+
+    ghost order_law = { λ a b. refl };
+
+    ghost infinity_law = { refl };
+
+    ghost minus_infinity_law = { refl };
 }
 
-// x as an f64, which holds every f32; a NaN gives the NaN.
-pub fn widen(x: f32) -> f64
-    ensures { result ≡ x }
+// The lesser of two: of a NaN and a number the number, of two zeros the earlier.
+// Stays: std's min may give either of two zeros, and the formats name the earlier.
+pub fn lesser<F: AnyFloat>(a: F, b: F) -> F
+    ensures { F.float result ≡ lesser (F.float a) (F.float b) }
 {
-    std::num::f32_to_f64_with_nan(x)
+    if a != a {
+        return b;
+    }
+    if b < a { b } else { a }
+}
+
+// The greater of two, by the same rule.
+// Stays: std's max may give either of two zeros, and the formats name the earlier.
+pub fn greater<F: AnyFloat>(a: F, b: F) -> F
+    ensures { F.float result ≡ greater (F.float a) (F.float b) }
+{
+    if a != a {
+        return b;
+    }
+    if a < b { b } else { a }
+}
+
+// Whether x is a number: neither an infinity nor a NaN.
+pub fn is_finite<F: AnyFloat>(x: F) -> bool
+    ensures { result ≡ finite (F.float x) }
+{
+    F::MINUS_INFINITY < x && x < F::INFINITY
 }
 
 // n as an f32, rounded to nearest, ties to even.
@@ -77,12 +167,8 @@ pub fn f64_of(n: usize) -> f64
     }
 }
 
-// n, and 897 where n is less: the exponent's field of the least f32 that is not subnormal.
-fn no_less(n: u64) -> u64
-    ensures { result ≡ n - 897 + 897 }
-{
-    if n < 897 { 897 } else { n }
-}
+// The exponent's field, in an f64, of the least f32 that is not subnormal.
+const LEAST_FIELD: u64 = 897;
 
 // The nearest f32 to an x above 0. From halfway past the largest f32 on it is infinity. Below that
 // x is added to a power of two so large that the sum's last digit is the last that an f32 near x
@@ -93,7 +179,7 @@ fn narrow_above(x: f64) -> f32
 {
     if x < 340282356779733661637539395458142568448.0 {
         let field = f64::to_bits(x) / 0x10_0000_0000_0000;
-        let c = f64::from_bits((no_less(field) + 29) * 0x10_0000_0000_0000);
+        let c = f64::from_bits((field.max(LEAST_FIELD) + 29) * 0x10_0000_0000_0000);
         ((x + c) - c) as f32
     } else {
         1.0 / 0.0
@@ -113,70 +199,6 @@ pub fn narrow(x: f64) -> f32
     } else {
         0.0 / 0.0
     }
-}
-
-// The lesser of two: of a NaN and a number the number, of two zeros the earlier.
-pub fn min_f32(a: f32, b: f32) -> f32
-    ensures { result ≡ lesser a b }
-{
-    if a != a {
-        return b;
-    }
-    if b < a { b } else { a }
-}
-
-// The greater of two, by the same rule.
-pub fn max_f32(a: f32, b: f32) -> f32
-    ensures { result ≡ greater a b }
-{
-    if a != a {
-        return b;
-    }
-    if a < b { b } else { a }
-}
-
-// The lesser of two, as `min_f32`.
-pub fn min_f64(a: f64, b: f64) -> f64
-    ensures { result ≡ lesser a b }
-{
-    if a != a {
-        return b;
-    }
-    if a > b { b } else { a }
-}
-
-// The greater of two, as `max_f32`.
-pub fn max_f64(a: f64, b: f64) -> f64
-    ensures { result ≡ greater a b }
-{
-    if a != a {
-        return b;
-    }
-    if b > a { b } else { a }
-}
-
-// x with its sign cleared, a zero's too; a NaN gives the NaN.
-pub fn abs_f64(x: f64) -> f64
-    ensures { result ≡ magnitude x }
-{
-    if x != x {
-        return x;
-    }
-    f64::from_bits(f64::to_bits(x) % 0x8000_0000_0000_0000)
-}
-
-// Whether x is a number: neither an infinity nor a NaN.
-pub fn is_finite_f32(x: f32) -> bool
-    ensures { result ≡ finite x }
-{
-    -1.0 / 0.0 < x && x < 1.0 / 0.0
-}
-
-// Whether x is a number: neither an infinity nor a NaN.
-pub fn is_finite_f64(x: f64) -> bool
-    ensures { result ≡ finite x }
-{
-    x > -1.0 / 0.0 && x < 1.0 / 0.0
 }
 
 // Whether a is at most b, a NaN being the greatest. It is the order of Rust's `total_cmp` for values

@@ -1,14 +1,7 @@
 -- The programs' input: two bytes of length, so many of a pack or a sheet, and a query. The parts that are lent to a call, and how many bytes are enough. Assumes nothing.
-use Prim.Native.Nat.{ℕ, zero, suc, ◌+◌, ◌-◌, ◌≤◌, ◌<◌, min}
-use mathlib.Core.Path.{◌≡◌, refl, sym, ◌∙◌}
-use mathlib.Core.Bool.{Bool, true, false}
-use mathlib.Core.List.{List, [], ◌∷◌}
-use native.Mathlib.Nat.{min-eq_left, le_of_suc-le-suc, not-suc-le-zero}
-use native.Mathlib.Omega.{arith}
-use borrow.Author.Tests.{leb-true, leb-false}
-use lib.Dec.{leb}
-use lib.ListN.{length, take, drop, length-drop, drop_of_length-le}
-use lib.Seq.{take_all, take-take, take-nil, drop-drop, get_or-take}
+use Rattle.std.proofs.Common.{ℕ, zero, suc, ◌+◌, ◌-◌, ◌≤◌, ◌<◌, min, ◌≡◌, refl, sym, ◌∙◌, Bool, true, false, List, [], ◌∷◌, le_of_suc-le-suc, not-suc-le-zero, arith, leb-true, leb-false, leb, length, take, drop, length-drop, drop_of_length-le, take_all, take-take, drop-drop, get_or-take}
+use native.Mathlib.Nat.{min-eq_left}
+use lib.Seq.{take-nil}
 use Rattle.tonekit_bytes.specs.Fields.{byte_at, u16_at}
 use Rattle.tonekit_query.proofs.Parts.{cut}
 use Rattle.tonekit_input.specs.Input.{held_of, query_of}

@@ -1,19 +1,13 @@
 -- The components of a listing have one owner, form and label, and in a mixture each its place as its part number. Assumes nothing.
-use Prim.Native.Nat.{ℕ, ◌≤◌, ◌<◌}
-use mathlib.Core.Path.{◌≡◌, refl, ◌∙◌}
-use mathlib.Core.Bool.{cond}
-use mathlib.Core.List.{List, [], ◌∷◌}
+use Rattle.std.proofs.Common.{ℕ, ◌≤◌, ◌<◌, ◌≡◌, refl, ◌∙◌, cond, List, [], ◌∷◌, arith, eqb, length, get_or}
 use mathlib.Core.Option.{some}
-use native.Mathlib.Omega.{arith}
-use lib.Dec.{eqb}
-use lib.ListN.{length, get_or, length-map}
+use Rattle.std.specs.Prelude.{Some, None}
+use lib.ListN.{length-map}
 use Rattle.tonekit_pack.specs.Pack.{Pst, loaded, read_pack}
-use Rattle.tonekit_expect.specs.Lookup.{look_up, component_of}
+use Rattle.tonekit_expect.specs.Lookup.{Look, look_up, component_of}
 use Rattle.tonekit_expect.specs.Source.{Carried, carried, components, given, source_of_pack}
 use Rattle.tonekit_expect.specs.declared.Context.{Context}
 use Rattle.tonekit_expect.specs.declared.Listing.{Listing}
-use Rattle.tonekit_expect.specs.declared.Look.{Look}
-use Rattle.tonekit_expect.specs.declared.Look.TheVariants as look
 use Rattle.tonekit_expect.proofs.Carried.{named, part_number, components_length, components_at}
 use Rattle.tonekit_inventory.specs.declared.Named.{Named}
 use Rattle.tonekit_inventory.specs.Gather.{named_of}
@@ -61,10 +55,10 @@ module _ (s : List ℕ) (l : Listing) (d : Carried) (f : Few l) where
 -- what a lookup in a pack that loads gives
 module _ (s : List ℕ) (st : Pst) (e : ℕ) (p : read_pack s ≡ loaded st e) (d : Carried) where
   of_look : (c : Context) (k : Look) → look_up s st c ≡ k → (cs : List Carried) → given s k ≡ some cs → Alike d cs
-  of_look c (look.Found l) q cs g =
+  of_look c (Some l) q cs g =
       let is : components s l l.count ≡ cs = cc in
       rw (← is) (listing_alike s l d (look_few s st e p c l q))
-  of_look c look.Nothing q cs g = let z : ◌≡◌ {A = ℕ} 0 1 = cc in absurd (omega arith)
+  of_look c None q cs g = let z : ◌≡◌ {A = ℕ} 0 1 = cc in absurd (omega arith)
 
   pub pack_alike : (c : Context) (cs : List Carried) → (source_of_pack s st).look c ≡ some cs → Alike d cs
   unfolding source_of_pack

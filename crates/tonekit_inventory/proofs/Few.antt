@@ -1,29 +1,19 @@
 -- What a lookup in a pack that loads lists: one to four components that can be read. Assumes nothing.
-use Prim.Native.Nat.{ℕ, ◌+◌, ◌≤◌, ◌<◌}
-use mathlib.Core.Path.{◌≡◌, refl, sym, ◌∙◌, subst}
-use mathlib.Core.List.{List}
-use native.Mathlib.Omega.{arith}
-use lib.Dec.{eqb, ltb}
-use lib.ListN.{length, get_or}
-use borrow.Author.Tests.{ltb-true}
+use Rattle.std.proofs.Common.{ℕ, ◌+◌, ◌≤◌, ◌<◌, ◌≡◌, refl, sym, ◌∙◌, subst, List, arith, eqb, ltb, length, get_or, ltb-true}
 use Rattle.tonekit_bytes.specs.Fields.{byte_at}
 use Rattle.tonekit_pack.specs.Pack.{Pst, loaded, read_pack, number_at, parts_from}
 use Rattle.tonekit_pack.specs.declared.Pack.{Pack}
 use Rattle.tonekit_pack.specs.Held.{shown, ReadFrom}
 use Rattle.tonekit_core.proofs.Split.{split}
 use Rattle.tonekit_pack.proofs.Loads.{Loads, loads, firsts_bound, parts_few}
-use Rattle.tonekit_expect.specs.declared.Found.{Found}
-use Rattle.tonekit_expect.specs.declared.Found.TheVariants as found
+use Rattle.std.specs.Prelude.{Option, Some, None}
 use Rattle.tonekit_expect.specs.declared.Winner.{Winner}
-use Rattle.tonekit_expect.specs.declared.Winner.TheVariants as winner
 use Rattle.tonekit_expect.specs.declared.Context.{Context}
 use Rattle.tonekit_expect.specs.declared.Listing.{Listing}
-use Rattle.tonekit_expect.specs.declared.Look.{Look}
-use Rattle.tonekit_expect.specs.declared.Look.TheVariants as look
-use Rattle.tonekit_expect.specs.Lookup.{index_of, to_rule, find_rule, rule_listing, citation, listed, look_at, look_up}
+use Rattle.tonekit_expect.specs.Lookup.{Found, Look, index_of, to_rule, find_rule, rule_listing, citation, listed, look_at, look_up}
 use Rattle.tonekit_expect.proofs.Walk.{index_found, winner_is}
 use Rattle.tonekit_expect.proofs.Curves.{listed_fine}
-use Rattle.tonekit_inventory.specs.Slots.{Looked}
+use Rattle.tonekit_inventory.specs.OfPack.{Looked}
 
 pub record Few (l : Listing) : Type 0 where
   pub some : 1 ≤ l.count
@@ -41,28 +31,30 @@ module _ (s : List ℕ) (st : Pst) (e : ℕ) (l : Loads s st e) (c : Context) wh
       (λ t. let b = firsts_bound s st e l (i + 1) (ltb-true (i + 1) (length st.accents) t) in let g = rw t at h in omega (arith, b, g))
       (λ t. rw t at h))).some_parts
 
-  of_winner : (m : Listing) (i o : ℕ) → i < length st.accents → (w : Winner) → find_rule s st c i ≡ w → listed s st c o w ≡ look.Found m → Few m
-  of_winner m i o h (winner.Rule a r) q g =
+  of_winner : (m : Listing) (i o : ℕ) → i < length st.accents → (w : Option Winner) → find_rule s st c i ≡ w → listed s st c o w ≡ Some m → Few m
+  of_winner m i o h (Some w) q g =
+      let a = w.accent in
+      let r = w.rule in
       let is : rule_listing s (number_at s (get_or st.accents a 0)) r ≡ m = cc in
       subst Few is (record { some = (winner_is s st c Parted parted i a r h q).1; few = parts_few 4 s (r + 7) })
-  of_winner m i o h winner.Nothing q g =
+  of_winner m i o h None q g =
       split (eqb (byte_at s (o + 6)) 0)
       (λ z. let g' = rw z at g in let n : ◌≡◌ {A = ℕ} 0 1 = cc in absurd (omega arith))
       (λ z. let g' = rw z at g in
       let is : citation c.accent o ≡ m = cc in
       subst Few is (record { some = omega arith; few = omega arith }))
 
-  of_places : (m : Listing) (f g : Found) → index_of s st.accents c.accent ≡ f → look_at s st c f g ≡ look.Found m → Few m
-  of_places m (found.At i) (found.At t) a q = of_winner m i (get_or st.tones t 0) (index_found _ _ _ i a).inside (find_rule s st c i) refl q
-  of_places m found.Nothing g a q = let n : ◌≡◌ {A = ℕ} 0 1 = cc in absurd (omega arith)
-  of_places m (found.At i) found.Nothing a q = let n : ◌≡◌ {A = ℕ} 0 1 = cc in absurd (omega arith)
+  of_places : (m : Listing) (f g : Found) → index_of s st.accents c.accent ≡ f → look_at s st c f g ≡ Some m → Few m
+  of_places m (Some i) (Some t) a q = of_winner m i (get_or st.tones t 0) (index_found _ _ _ i a).inside (find_rule s st c i) refl q
+  of_places m None g a q = let n : ◌≡◌ {A = ℕ} 0 1 = cc in absurd (omega arith)
+  of_places m (Some i) None a q = let n : ◌≡◌ {A = ℕ} 0 1 = cc in absurd (omega arith)
 
-pub look_few : (s : List ℕ) (st : Pst) (e : ℕ) → read_pack s ≡ loaded st e → (c : Context) (l : Listing) → look_up s st c ≡ look.Found l → Few l
+pub look_few : (s : List ℕ) (st : Pst) (e : ℕ) → read_pack s ≡ loaded st e → (c : Context) (l : Listing) → look_up s st c ≡ Some l → Few l
 unfolding look_up
 look_few s st e p c l q = of_places s st e (loads s st e p) c l (index_of s st.accents c.accent) (index_of s st.tones c.tone) refl q
 
 pub looked : (s : List ℕ) (p : Pack) → ReadFrom s p → (c : Context) (k : Look) → k ≡ look_up s (shown p) c → Looked s k
 looked s p r c k e l q =
-    let is : look_up s (shown p) c ≡ look.Found l = sym e ∙ q in
+    let is : look_up s (shown p) c ≡ Some l = sym e ∙ q in
     let f = look_few s (shown p) r.end r.reads c l is in
     record { some = f.some; few = f.few; each = λ j h. listed_fine s (shown p) r.end r.reads c l j is h }

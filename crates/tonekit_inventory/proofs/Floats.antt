@@ -1,10 +1,6 @@
 -- A component's floats are f32s, so that the bits that it carries stand for them. Assumes nothing.
-use Prim.Native.Nat.{ℕ, zero, suc, ◌+◌, ◌-◌, ◌*◌}
-use mathlib.Core.Path.{◌≡◌, refl}
-use mathlib.Core.List.{List, [], ◌∷◌, ◌++◌, map}
-use lib.Dec.{T, eqb}
-use lib.ListN.{length, get_or}
-use lib.Ieee.{Float, nan, binary32, binary64, add, sub, mul, to_bits, fits}
+use Rattle.std.proofs.Common.{ℕ, zero, suc, ◌+◌, ◌-◌, ◌*◌, ◌≡◌, refl, List, [], ◌∷◌, ◌++◌, map, T, eqb, length, get_or, Float, to_bits}
+use lib.Ieee.{nan, binary32, binary64, add, sub, mul, fits}
 use lib.Ieee.Bits.{of_bits-to_bits, of_bits-fits}
 use lib.Ieee.Fits.{nan-fits, cond-fits}
 use Rattle.tonekit_float.proofs.Narrowing.{narrow_fits}

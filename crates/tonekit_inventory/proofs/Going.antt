@@ -1,20 +1,14 @@
 -- The loop over the tones of whatever a station holds: from each tone on the definition gives what it gives of the whole. Assumes nothing.
-use Prim.Native.Nat.{ℕ, zero, suc, ◌+◌, ◌*◌, ◌≤◌, ◌<◌}
-use mathlib.Core.Path.{◌≡◌, refl, ap, ◌∙◌}
-use mathlib.Core.List.{List, [], ◌∷◌, map}
-use native.Mathlib.Omega.{arith}
-use lib.Ieee.{Float}
-use lib.ListN.{length, get_or, replicate}
-use lib.Seq.{length-sets}
+use Rattle.std.proofs.Common.{ℕ, zero, suc, ◌+◌, ◌≤◌, ◌<◌, ◌≡◌, refl, List, [], ◌∷◌, map, length, get_or, set, replicate, arith}
 use Rattle.tonekit_core.specs.Loop.{range, again, ended}
-use Rattle.tonekit_pack.proofs.InOrder.{set_bounded, zeros}
-use Rattle.tonekit_expect.specs.Source.{Tone, Carried, Source}
+use Rattle.tonekit_expect.specs.Source.{Carried, Source}
 use Rattle.tonekit_expect.specs.declared.Context.{Context}
-use Rattle.tonekit_score.specs.declared.Region.{Region}
 use Rattle.tonekit_judge.specs.declared.Inventory.{Inventory}
+use Rattle.tonekit_judge.specs.declared.ToneEntry.{ToneEntry}
+use Rattle.tonekit_judge.specs.declared.Slots.{Slots}
 use Rattle.tonekit_inventory.specs.declared.Named.{Named}
-use Rattle.tonekit_inventory.specs.Slots.{InSlots, Lists}
-use Rattle.tonekit_inventory.specs.Gather.{region_of, named_of, with_tone, weights_of, points_of, slotted, no_tone, given_of, in_context, list_tone, listings, f32, no_inventory}
+use Rattle.tonekit_judge.specs.Judge.{listing, no_entry}
+use Rattle.tonekit_inventory.specs.Gather.{Lists, entry_of, named_of, with_tone, put_in, slotted, blank_entry, no_tone, given_of, in_context, list_tone, listings, no_slots, no_inventory}
 
 -- ---- a listing's name is that of its first component
 pub first_named : (cs : List Carried) (d : Carried) → 1 ≤ length cs
@@ -29,71 +23,68 @@ map_at f (x ∷ l) zero d d' h = refl
 map_at f (x ∷ l) (suc n) d d' h = map_at f l n d d' (omega arith)
 
 -- ---- the loop over n tones
+abbrev count_at : List ToneEntry → ℕ → ℕ
+count_at l k = (get_or l k no_entry).count
+
+set_few : (l : List ToneEntry) (t : ℕ) (e : ToneEntry) → ((k : ℕ) → count_at l k ≤ 4) → e.count ≤ 4 → (k : ℕ) → count_at (set l t e) k ≤ 4
+set_few [] t e h l k = h k
+set_few (x ∷ xs) zero e h l zero = l
+set_few (x ∷ xs) zero e h l (suc k) = h (suc k)
+set_few (x ∷ xs) (suc t) e h l zero = h zero
+set_few (x ∷ xs) (suc t) e h l (suc k) = set_few xs t e (λ j. h (suc j)) l k
+
+none_few : (n k : ℕ) → count_at (replicate n blank_entry) k ≤ 4
+none_few zero k = omega arith
+none_few (suc n) zero = omega arith
+none_few (suc n) (suc k) = none_few n k
+
 -- from tone t on the definition gives what it gives of the whole
-abbrev Same : Source → ℕ → Context → List Float → List Float → Inventory → ℕ → Type 0
-Same src n c w ps i t = range (list_tone src c) t n (record { inventory = i; weights = w; points = ps }) ≡ listings src c
-
-pub record Going (src : Source) (n : ℕ) (c : Context) (w ps : List Float) (i : Inventory) (t : ℕ) : Type 0 where
+pub record Going (src : Source) (n : ℕ) (c : Context) (s : Slots) (i : Inventory) (t : ℕ) : Type 0 where
   pub inside : t ≤ n
-  pub weighed : length w ≡ 32
-  pub pointed : length ps ≡ 320
   pub many : i.tones ≡ n
-  pub few : (k : ℕ) → get_or i.counts k 0 ≤ 4
-  pub same : Same src n c w ps i t
-
-no_counts : (n k : ℕ) → get_or (no_inventory n).counts k 0 ≤ 4
-unfolding no_inventory
-no_counts n k = omega (arith, zeros 8 k)
-
-no_tones : (n : ℕ) → (no_inventory n).tones ≡ n
-unfolding no_inventory
-no_tones n = refl
+  pub few : (k : ℕ) → count_at i.entries k ≤ 4
+  pub same : range (list_tone src c) t n (listing i s) ≡ listings src c
 
 module _ (src : Source) (n : ℕ) (c : Context) where
-  from_start : length src.tones ≡ n → Same src n c (replicate 32 (f32 0)) (replicate 320 (f32 0)) (no_inventory n) 0
-  unfolding listings
-  from_start e = rw e
-
-  pub going_starts : length src.tones ≡ n → (w ps : List Float) (i : Inventory) → w ≡ replicate 32 (f32 0) → ps ≡ replicate 320 (f32 0) → i ≡ no_inventory n → Going src n c w ps i 0
-  going_starts e w ps i ew ep ei = record {
+  pub going_starts : n ≡ length src.tones → (s : Slots) → s ≡ no_slots → (i : Inventory) → i ≡ no_inventory n → Going src n c s i 0
+  unfolding listings no_inventory
+  going_starts e s es i ei = record {
     inside = omega arith;
-    weighed = ap length ew;
-    pointed = ap length ep;
-    many = rw ei (no_tones n);
-    few = λ k. rw ei (no_counts n k);
-    same = rw (ew, ep, ei) (from_start e);
+    many = rw ei;
+    few = λ k. rw ei (none_few 8 k);
+    same = rw (es, ei, e);
   }
 
-  module _ (w ps : List Float) (i : Inventory) (t : ℕ) (g : Going src n c w ps i t) where
-    pub going_ends : n ≤ t → n ≤ 8 → Lists src c i w ps
-    going_ends h r = record {
-      is = ended (list_tone src c) g.same h;
-      sound = record { counted = record { few = omega (arith, g.many); each = λ k l. g.few k }; weighed = g.weighed; pointed = g.pointed };
-    }
+  module _ (s : Slots) (i : Inventory) (t : ℕ) (g : Going src n c s i t) where
+    pub going_ends : n ≤ t → n ≤ 8 → Lists src c i s
+    going_ends h r = record { is = ended (list_tone src c) g.same h; counted = record { few = omega (arith, g.many); each = λ k l. g.few k } }
 
-    -- tone t, and what its lookup gives
-    module _ (h : t < n) (tone : Tone) (tone_is : get_or src.tones t no_tone ≡ tone) where
-      with_tones : (number : ℕ) (prior : Float) (r : Region) (name : Named) → (with_tone t number prior r name i).tones ≡ i.tones
-      unfolding with_tone
-      with_tones number prior r name = refl
+    -- the tone as it was read, the name of what was put for it, and the slots after
+    module _ (h : t < n) (e : ToneEntry) (tone : e ≡ entry_of (get_or src.tones t no_tone) (named_of []))
+        (name : Named) (named : name ≡ named_of (given_of (src.look (in_context c e.number)))) (few : name.count ≤ 4)
+        (s' : Slots) (put : s' ≡ put_in t (given_of (src.look (in_context c e.number))) s) where
+      abbrev after : Inventory
+      after = record {
+        tones = i.tones;
+        entries = set i.entries t (record {
+          number = e.number;
+          prior = e.prior;
+          region = e.region;
+          count = name.count;
+          owner = name.owner;
+          form = name.form;
+          label = name.label;
+        });
+      }
 
-      with_counts : (number : ℕ) (prior : Float) (r : Region) (name : Named) → name.count ≤ 4 → (k : ℕ) → get_or (with_tone t number prior r name i).counts k 0 ≤ 4
-      unfolding with_tone
-      with_counts number prior r name l k = set_bounded i.counts t name.count 4 g.few l k
+      turned : list_tone src c t (listing i s) ≡ listing after s'
+      unfolding slotted with_tone
+      turned = rw (put, named, tone)
 
-      -- the code's stores, which are those of the components that were given
-      module _ (cs : List Carried) (gives : given_of (src.look (in_context c tone.number)) ≡ cs) (name : Named) (named : name ≡ named_of cs) (region : Region) (region_is : region ≡ region_of tone)
-          (v qs : List Float) (j : Inventory) (ej : j ≡ with_tone t tone.number (f32 tone.prior) region name i) (put : InSlots t cs w ps v qs) where
-        turned : list_tone src c t (record { inventory = i; weights = w; points = ps }) ≡ record { inventory = j; weights = v; points = qs }
-        unfolding slotted
-        turned = rw (tone_is, gives, ← named, ← region_is, ← ej, ← put.weighed, ← put.pointed)
-
-        pub going_on : name.count ≤ 4 → Going src n c v qs j (t + 1)
-        going_on l = record {
-          inside = omega arith;
-          weighed = ap length put.weighed ∙ length-sets w (4 * t) (weights_of cs) ∙ g.weighed;
-          pointed = ap length put.pointed ∙ length-sets ps (40 * t) (points_of cs) ∙ g.pointed;
-          many = ap (λ (x : Inventory). x.tones) ej ∙ with_tones tone.number (f32 tone.prior) region name ∙ g.many;
-          few = λ k. rw ej (with_counts tone.number (f32 tone.prior) region name l k);
-          same = again (list_tone src c) g.same h turned;
-        }
+      pub going_on : Going src n c s' after (t + 1)
+      going_on = record {
+        inside = omega arith;
+        many = g.many;
+        few = set_few i.entries t _ g.few few;
+        same = again (list_tone src c) g.same h turned;
+      }

@@ -1,18 +1,14 @@
 -- What the listings of a source hold of each tone: its components' number, name, weights and points. Assumes nothing.
-use Prim.Native.Nat.{ℕ, zero, suc, ◌+◌, ◌*◌, ◌≤◌, ◌<◌}
-use mathlib.Core.Path.{◌≡◌, refl, ◌∙◌}
-use mathlib.Core.Logic.{⊎_elim}
-use mathlib.Core.List.{List, [], ◌∷◌, map}
-use native.Mathlib.Nat.{le_of_suc-le-suc, not-suc-le-zero, eq-or-lt_of_le}
-use native.Mathlib.Omega.{arith}
+use Rattle.std.proofs.Common.{ℕ, zero, suc, ◌+◌, ◌*◌, ◌≤◌, ◌<◌, ◌≡◌, refl, ap, ◌∙◌, ⊎_elim, List, [], ◌∷◌, map, le_of_suc-le-suc, not-suc-le-zero, eq-or-lt_of_le, arith, length, get_or, set, length-set, length-append, get_or-set_same, get_or-set_other, get_or-append-add}
 use lib.Ieee.{nan}
-use lib.ListN.{length, get_or, set, length-set, length-append, length-map, get_or-append}
-use lib.Seq.{sets, length-sets, get_or-set_same, get_or-set_other, get_or-append-add}
+use lib.ListN.{length-map, get_or-append}
+use lib.Seq.{sets, length-sets}
 use Rattle.tonekit_core.proofs.LoopLaws.{range_keeps}
 use Rattle.tonekit_expect.specs.Source.{Tone, Carried, Source}
 use Rattle.tonekit_expect.specs.declared.Context.{Context}
-use Rattle.tonekit_judge.specs.Judge.{Listed}
-use Rattle.tonekit_inventory.specs.Gather.{named_of, with_tone, weights_of, points_of, slotted, no_tone, given_of, in_context, list_tone, listings, nothing_yet, no_inventory, f32}
+use Rattle.tonekit_judge.specs.Judge.{Listed, no_entry, entry_at}
+use Rattle.tonekit_judge.specs.declared.ToneEntry.{ToneEntry}
+use Rattle.tonekit_inventory.specs.Gather.{entry_of, named_of, with_tone, put_in, weights_of, points_of, slotted, no_tone, given_of, in_context, list_tone, listings, nothing_yet, no_inventory, f32}
 use Rattle.tonekit_inventory.proofs.Going.{map_at}
 use Rattle.tonekit_inventory.proofs.Slots.{weights_length}
 
@@ -69,69 +65,68 @@ module _ (d : Carried) where
 
 -- ---- listings
 record Room (l : Listed) : Type 0 where
-  counts : length l.inventory.counts ≡ 8
-  owners : length l.inventory.owners ≡ 8
-  forms : length l.inventory.forms ≡ 8
-  labels : length l.inventory.labels ≡ 8
-  weights : length l.weights ≡ 32
-  points : length l.points ≡ 320
+  entries : length l.inventory.entries ≡ 8
+  weights : length l.slots.weights ≡ 32
+  points : length l.slots.points ≡ 320
 
 nothing_room : (n : ℕ) → Room (nothing_yet n)
 unfolding no_inventory
-nothing_room n = record { counts = refl; owners = refl; forms = refl; labels = refl; weights = refl; points = refl }
+nothing_room n = record { entries = refl; weights = refl; points = refl }
 
--- tone t's entries are those of its components
+-- tone t's entry and slots are those of its components
 pub record Entered (d : Carried) (cs : List Carried) (t : ℕ) (l : Listed) : Type 0 where
-  pub count : get_or l.inventory.counts t 0 ≡ (named_of cs).count
-  pub owner : get_or l.inventory.owners t 0 ≡ (named_of cs).owner
-  pub form : get_or l.inventory.forms t 0 ≡ (named_of cs).form
-  pub label : get_or l.inventory.labels t 0 ≡ (named_of cs).label
-  pub weight : (k : ℕ) → k < length cs → get_or l.weights (4 * t + k) nan ≡ f32 (get_or cs k d).weight
-  pub point : (k i : ℕ) → k < length cs → i < 10 → get_or l.points (10 * (4 * t + k) + i) nan ≡ f32 (get_or (get_or cs k d).points i 0)
+  pub count : (entry_at l.inventory t).count ≡ (named_of cs).count
+  pub owner : (entry_at l.inventory t).owner ≡ (named_of cs).owner
+  pub form : (entry_at l.inventory t).form ≡ (named_of cs).form
+  pub label : (entry_at l.inventory t).label ≡ (named_of cs).label
+  pub weight : (k : ℕ) → k < length cs → get_or l.slots.weights (4 * t + k) nan ≡ f32 (get_or cs k d).weight
+  pub point : (k i : ℕ) → k < length cs → i < 10 → get_or l.slots.points (10 * (4 * t + k) + i) nan ≡ f32 (get_or (get_or cs k d).points i 0)
 
 module _ (d : Carried) (t : ℕ) (tone : Tone) (cs : List Carried) (l : Listed) (r : Room l) where
   slotted_room : Room (slotted t tone cs l)
-  unfolding slotted with_tone
+  unfolding slotted with_tone put_in
   slotted_room = record {
-    counts = length-set l.inventory.counts t _ ∙ r.counts;
-    owners = length-set l.inventory.owners t _ ∙ r.owners;
-    forms = length-set l.inventory.forms t _ ∙ r.forms;
-    labels = length-set l.inventory.labels t _ ∙ r.labels;
-    weights = length-sets l.weights (4 * t) (weights_of cs) ∙ r.weights;
-    points = length-sets l.points (40 * t) (points_of cs) ∙ r.points;
+    entries = length-set l.inventory.entries t _ ∙ r.entries;
+    weights = length-sets l.slots.weights (4 * t) (weights_of cs) ∙ r.weights;
+    points = length-sets l.slots.points (40 * t) (points_of cs) ∙ r.points;
   }
 
   module _ (below : t < 8) (few : length cs ≤ 4) (tens : Tens d cs) where
-    entered_here : Entered d cs t (slotted t tone cs l)
+    its_entry : entry_at (slotted t tone cs l).inventory t ≡ entry_of tone (named_of cs)
     unfolding slotted with_tone
+    its_entry = get_or-set_same l.inventory.entries t _ no_entry (omega (arith, r.entries))
+
+    entered_here : Entered d cs t (slotted t tone cs l)
+    unfolding slotted put_in
     entered_here = record {
-      count = get_or-set_same l.inventory.counts t _ 0 (omega (arith, r.counts));
-      owner = get_or-set_same l.inventory.owners t _ 0 (omega (arith, r.owners));
-      form = get_or-set_same l.inventory.forms t _ 0 (omega (arith, r.forms));
-      label = get_or-set_same l.inventory.labels t _ 0 (omega (arith, r.labels));
+      count = ap (λ (e : ToneEntry). e.count) its_entry;
+      owner = ap (λ (e : ToneEntry). e.owner) its_entry;
+      form = ap (λ (e : ToneEntry). e.form) its_entry;
+      label = ap (λ (e : ToneEntry). e.label) its_entry;
       weight = λ k h.
-          sets_at nan l.weights (4 * t) (weights_of cs) k (omega (arith, weights_length cs)) (omega (arith, weights_length cs, r.weights)) ∙ weight_of d cs k h;
+          sets_at nan l.slots.weights (4 * t) (weights_of cs) k (omega (arith, weights_length cs)) (omega (arith, weights_length cs, r.weights)) ∙ weight_of d cs k h;
       point = λ k i h g.
           let e : 10 * (4 * t + k) + i ≡ 40 * t + (10 * k + i) = omega arith in
           rw e
-          (sets_at nan l.points (40 * t) (points_of cs) (10 * k + i) (omega (arith, points_many d cs tens)) (omega (arith, points_many d cs tens, r.points))
+          (sets_at nan l.slots.points (40 * t) (points_of cs) (10 * k + i) (omega (arith, points_many d cs tens)) (omega (arith, points_many d cs tens, r.points))
           ∙ point_of d cs k i tens h g);
     }
 
   -- what was entered before stays
   module _ (u : ℕ) (ds : List Carried) (before : u < t) (few : length ds ≤ 4) (e : Entered d ds u l) where
-    other : u ≡ t → ⊥
-    other q = absurd (omega arith)
+    its_entry_before : entry_at (slotted t tone cs l).inventory u ≡ entry_at l.inventory u
+    unfolding slotted with_tone
+    its_entry_before = get_or-set_other l.inventory.entries t u _ no_entry (λ q. absurd (omega arith))
 
     entered_before : Entered d ds u (slotted t tone cs l)
-    unfolding slotted with_tone
+    unfolding slotted put_in
     entered_before = record {
-      count = get_or-set_other l.inventory.counts t u _ 0 other ∙ e.count;
-      owner = get_or-set_other l.inventory.owners t u _ 0 other ∙ e.owner;
-      form = get_or-set_other l.inventory.forms t u _ 0 other ∙ e.form;
-      label = get_or-set_other l.inventory.labels t u _ 0 other ∙ e.label;
-      weight = λ k h. sets_before nan l.weights (4 * t) (weights_of cs) (4 * u + k) (omega arith) ∙ e.weight k h;
-      point = λ k i h g. sets_before nan l.points (40 * t) (points_of cs) (10 * (4 * u + k) + i) (omega arith) ∙ e.point k i h g;
+      count = ap (λ (x : ToneEntry). x.count) its_entry_before ∙ e.count;
+      owner = ap (λ (x : ToneEntry). x.owner) its_entry_before ∙ e.owner;
+      form = ap (λ (x : ToneEntry). x.form) its_entry_before ∙ e.form;
+      label = ap (λ (x : ToneEntry). x.label) its_entry_before ∙ e.label;
+      weight = λ k h. sets_before nan l.slots.weights (4 * t) (weights_of cs) (4 * u + k) (omega arith) ∙ e.weight k h;
+      point = λ k i h g. sets_before nan l.slots.points (40 * t) (points_of cs) (10 * (4 * u + k) + i) (omega arith) ∙ e.point k i h g;
     }
 
 -- a source whose tones have four components at most, of ten points each, in this context
@@ -160,3 +155,16 @@ module _ (d : Carried) (src : Source) (c : Context) where
 
     pub listings_enter : (t : ℕ) → t < length src.tones → Entered d (components_at t) t (listings src c)
     listings_enter = so_far.each
+
+-- ---- the listings count the source's tones
+module _ (src : Source) (c : Context) where
+  with_same : (t : ℕ) (tone : Tone) (cs : List Carried) (l : Listed) → (slotted t tone cs l).inventory.tones ≡ l.inventory.tones
+  unfolding slotted with_tone
+  with_same t tone cs l = refl
+
+  pub listed_tones : (listings src c).inventory.tones ≡ length src.tones
+  unfolding listings no_inventory
+  listed_tones =
+      range_keeps (list_tone src c) (λ (n : ℕ) (l : Listed). l.inventory.tones ≡ length src.tones) 0 (length src.tones) (nothing_yet (length src.tones)) (omega arith)
+      (λ t l h p. with_same t _ _ l ∙ p)
+      refl

@@ -1,24 +1,15 @@
 -- A search by number among a pack's or a sheet's records finds what a station holds under that number. Assumes nothing.
-use Prim.Native.Nat.{ℕ, zero, suc, ◌+◌, ◌-◌, ◌<◌}
-use mathlib.Core.Path.{◌≡◌, refl, ◌∙◌, ap}
-use mathlib.Core.Bool.{Bool, true, false, cond, ◌||◌}
-use mathlib.Core.List.{List, [], ◌∷◌, map}
+use Rattle.std.proofs.Common.{ℕ, zero, suc, ◌+◌, ◌-◌, ◌<◌, ◌≡◌, refl, ◌∙◌, ap, is_some, Bool, true, false, cond, ◌||◌, List, [], ◌∷◌, map, arith, add-one, eqb, length, get_or, drop, drop_of_length-le, drop-cons}
+use Rattle.std.specs.Prelude.{Some, None}
 use mathlib.Core.Option.{none, some}
-use native.Mathlib.Omega.{arith}
-use native.Mathlib.Numerals.{add-one}
-use lib.Dec.{eqb}
-use lib.ListN.{length, get_or, drop, drop_of_length-le}
-use lib.Seq.{drop-cons}
 use Rattle.tonekit_core.specs.Loop.{Turn, next, stop, turns_to, range_to}
 use Rattle.tonekit_pack.specs.Pack.{number_at}
 use Rattle.tonekit_pack.specs.declared.Pack.{Pack}
 use Rattle.tonekit_pack.specs.Held.{shown}
 use Rattle.tonekit_core.proofs.Split.{split}
 use Rattle.tonekit_pack.proofs.InOrder.{order_length, order_get}
-use Rattle.tonekit_expect.specs.Lookup.{index_turn, index_of}
+use Rattle.tonekit_expect.specs.Lookup.{Found, index_turn, index_of}
 use Rattle.tonekit_expect.specs.Source.{Tone, Accent, accent_at, accent_in, tone_in, source_of_pack}
-use Rattle.tonekit_expect.specs.declared.Found.{Found}
-use Rattle.tonekit_expect.specs.declared.Found.TheVariants as found
 use Rattle.tonekit_expect.proofs.Walk.{index_found}
 use Rattle.tonekit_score.specs.declared.Tolerance.{Tolerance}
 use Rattle.tonekit_inventory.specs.Fields.{tolerance_at}
@@ -26,13 +17,13 @@ use Rattle.tonekit_inventory.specs.Gather.{tolerance_of, graded_of}
 
 -- what is said of the record that a search found: hit of its offset, or miss
 abbrev pick : {R : Type 0} → (ℕ → R) → R → List ℕ → Found → R
-pick hit miss os (found.At i) = hit (get_or os i 0)
-pick hit miss os found.Nothing = miss
+pick hit miss os (Some i) = hit (get_or os i 0)
+pick hit miss os None = miss
 
 -- what a list says of the first record with number n is what the search finds
 module _ {R : Type 0} (s : List ℕ) (n : ℕ) (hit : ℕ → R) (miss : R) (says : List ℕ → R) (ends : says [] ≡ miss) (goes : (o : ℕ) (os : List ℕ) → says (o ∷ os) ≡ cond (eqb (number_at s o) n) (hit o) (says os)) where
   abbrev on : List ℕ → ℕ → ℕ → Turn ℕ Found → Found
-  on os = turns_to (index_turn s os n) (λ u. found.Nothing)
+  on os = turns_to (index_turn s os n) (λ u. None)
 
   stopped : (os : List ℕ) (k j : ℕ) (f : Found) → on os k j (stop f) ≡ f
   unfolding turns_to
@@ -46,7 +37,7 @@ module _ {R : Type 0} (s : List ℕ) (n : ℕ) (hit : ℕ → R) (miss : R) (say
       ap says (drop-cons os j 0 (omega arith))
       ∙ (goes (get_or os j 0) (drop (suc j) os)
       ∙ split (eqb (number_at s (get_or os j 0)) n)
-      (λ t. rw (t, stopped os k (j + 1) (found.At j)))
+      (λ t. rw (t, stopped os k (j + 1) (Some j)))
       (λ f. rw (f, ← add-one j) (from os k (j + 1) (omega arith))))
 
   searched : (os : List ℕ) → says os ≡ pick hit miss os (index_of s os n)
@@ -63,10 +54,10 @@ module _ (s os : List ℕ) (n : ℕ) (accent_of : ℕ → Accent) (number : (o :
   unfolding accent_in
   accents = searched s n (λ o. some (accent_of o)) none (λ l. accent_in (map accent_of l) n) refl (λ o l. rw (number o)) os
 
-  pub accent_found : (i : ℕ) → index_of s os n ≡ found.At i → accent_in (map accent_of os) n ≡ some (accent_of (get_or os i 0))
+  pub accent_found : (i : ℕ) → index_of s os n ≡ Some i → accent_in (map accent_of os) n ≡ some (accent_of (get_or os i 0))
   accent_found i e = accents ∙ rw e
 
-  pub accent_none : index_of s os n ≡ found.Nothing → accent_in (map accent_of os) n ≡ none
+  pub accent_none : index_of s os n ≡ None → accent_in (map accent_of os) n ≡ none
   accent_none e = accents ∙ rw e
 
 module _ (s os : List ℕ) (n : ℕ) (tone_of : ℕ → Tone) (number : (o : ℕ) → (tone_of o).number ≡ number_at s o) where
@@ -74,11 +65,12 @@ module _ (s os : List ℕ) (n : ℕ) (tone_of : ℕ → Tone) (number : (o : ℕ
   unfolding tone_in
   tones = searched s n (λ o. true) false (λ l. tone_in (map tone_of l) n) refl (λ o l. rw (number o) (or_cond (eqb (number_at s o) n) (tone_in (map tone_of l) n))) os
 
-  pub tone_found : (i : ℕ) → index_of s os n ≡ found.At i → tone_in (map tone_of os) n ≡ true
-  tone_found i e = tones ∙ rw e
+  either : (f : Found) → pick (λ o. true) false os f ≡ is_some f
+  either None = refl
+  either (Some i) = refl
 
-  pub tone_none : index_of s os n ≡ found.Nothing → tone_in (map tone_of os) n ≡ false
-  tone_none e = tones ∙ rw e
+  pub tone_held : tone_in (map tone_of os) n ≡ is_some (index_of s os n)
+  tone_held = tones ∙ either (index_of s os n)
 
 -- the tolerances stand behind an accent's kind, number and parent
 pub tolerance : (s : List ℕ) (o : ℕ) → tolerance_at s (o + 3) ≡ tolerance_of (accent_at s o)
@@ -91,16 +83,16 @@ tolerance s o =
 
 -- the accent that a search in a pack finds, with its tolerances
 module _ (s : List ℕ) (p : Pack) (n : ℕ) where
-  pub graded_found : (i : ℕ) → i < p.accents → index_of s (shown p).accents n ≡ found.At i → (t : Tolerance) → t ≡ tolerance_at s (get_or p.accentat i 0 + 3)
-      → record { held = true; tolerance = t } ≡ graded_of (accent_in (source_of_pack s (shown p)).accents n)
+  pub graded_found : (i : ℕ) → i < p.accents → index_of s (shown p).accents n ≡ Some i → (t : Tolerance) → t ≡ tolerance_at s (get_or p.accentat i 0 + 3)
+      → Some t ≡ graded_of (accent_in (source_of_pack s (shown p)).accents n)
   unfolding source_of_pack
   graded_found i h e t q =
       rw (accent_found s (shown p).accents n (accent_at s) (λ o. refl) i e, order_get p.accentat p.accents i h)
-      (ap (λ (x : Tolerance). record { held = true; tolerance = x }) (q ∙ tolerance s (get_or p.accentat i 0)))
+      (ap Some (q ∙ tolerance s (get_or p.accentat i 0)))
 
-  pub graded_none : index_of s (shown p).accents n ≡ found.Nothing → graded_of none ≡ graded_of (accent_in (source_of_pack s (shown p)).accents n)
+  pub graded_none : index_of s (shown p).accents n ≡ None → None ≡ graded_of (accent_in (source_of_pack s (shown p)).accents n)
   unfolding source_of_pack
   graded_none e = rw (accent_none s (shown p).accents n (accent_at s) (λ o. refl) e)
 
-  pub inside : (i : ℕ) → index_of s (shown p).accents n ≡ found.At i → i < p.accents
+  pub inside : (i : ℕ) → index_of s (shown p).accents n ≡ Some i → i < p.accents
   inside i e = omega (arith, (index_found s (shown p).accents n i e).inside, order_length p.accentat p.accents)

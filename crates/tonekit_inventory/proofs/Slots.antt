@@ -1,17 +1,15 @@
 -- Components put into their slots one after the other: what each turn of the loop stores is one component more of the run. Assumes nothing.
-use Prim.Native.Nat.{ℕ, zero, suc, ◌+◌, ◌*◌}
-use mathlib.Core.Path.{◌≡◌, refl, sym, ap, ◌∙◌}
-use mathlib.Core.List.{List, [], ◌∷◌, ◌++◌, map, append_assoc, append-nil}
-use native.Mathlib.Omega.{arith}
-use native.Mathlib.Numerals.{add-one}
-use lib.Ieee.{Float}
-use lib.ListN.{length, set, length-append, length-map}
+use Rattle.std.proofs.Common.{ℕ, zero, suc, ◌+◌, ◌*◌, ◌≡◌, refl, sym, ap, ◌∙◌, List, [], ◌∷◌, ◌++◌, map, append_assoc, append-nil, arith, add-one, Float, length, set, length-append, take, drop, drop-drop, ◌≤◌, ap₂}
+use lib.ListN.{length-map}
 use lib.Seq.{sets}
+use borrow.Rule.Slice.PartMut.{put_mid}
+use Rattle.std.proofs.lemmas.List.Edits.{sets-eq}
 use Rattle.tonekit_bytes.proofs.Write.{more}
 use Rattle.tonekit_expect.specs.Lookup.{component_of}
 use Rattle.tonekit_expect.specs.Source.{Carried, carried, components}
 use Rattle.tonekit_expect.specs.declared.Listing.{Listing}
-use Rattle.tonekit_inventory.specs.Gather.{f32, weights_of, points_of}
+use Rattle.tonekit_judge.specs.declared.Slots.{Slots}
+use Rattle.tonekit_inventory.specs.Gather.{f32, weights_of, points_of, put_in}
 use Rattle.tonekit_inventory.proofs.Floats.{weight_back, points_back, points_ten}
 
 weights_snoc : (cs : List Carried) (c : Carried) → weights_of (cs ++ (c ∷ [])) ≡ weights_of cs ++ (f32 c.weight ∷ [])
@@ -96,3 +94,22 @@ module _ (s : List ℕ) (l : Listing) where
 
   pub points_step : (p : List Float) {out : List Float} (at j : ℕ) → out ≡ sets p at (points_of (components s l j)) → sets out (at + 10 * j) (component_of s l j).points ≡ sets p at (points_of (components s l (j + 1)))
   points_step p {out} at j e = ap (sets out (at + 10 * j)) (sym (points_back s l j)) ∙ run_points (components s l) part none one_more ten p at j e
+
+-- ---- the slots of a tone, of a run of components that grows by one
+module _ (s : List ℕ) (l : Listing) (t : ℕ) (s₀ : Slots) where
+  pub put_none : s₀ ≡ put_in t (components s l 0) s₀
+  unfolding put_in
+  put_none = ap₂ (λ (w p : List Float). record { weights = w; points = p }) (ap (sets s₀.weights (4 * t)) (weights_none s l)) (ap (sets s₀.points (40 * t)) (points_none s l))
+
+  pub put_one : (j : ℕ) {out : Slots} → out ≡ put_in t (components s l j) s₀
+      → record { weights = set out.weights (4 * t + j) (component_of s l j).weight; points = sets out.points (40 * t + 10 * j) (component_of s l j).points } ≡ put_in t (components s l (j + 1)) s₀
+  unfolding put_in
+  put_one j {out} e =
+      ap₂ (λ (w p : List Float). record { weights = w; points = p })
+      (weights_step s l s₀.weights (4 * t) j (ap (λ (x : Slots). x.weights) e))
+      (points_step s l s₀.points (40 * t) j (ap (λ (x : Slots). x.points) e))
+
+-- ---- points that are copied over a part of a list
+module _ {A : Type 0} where
+  pub copied : (a k : ℕ) (l ys bs : List A) → k ≡ length bs → ys ≡ bs → a + length bs ≤ length l → put_mid a k l ys ≡ sets l a bs
+  copied a k l ys bs n e h = rw (n, e) (ap (λ (t : List A). take a l ++ (bs ++ t)) (drop-drop (length bs) a l) ∙ (sym (append_assoc (take a l) bs (drop (a + length bs) l)) ∙ sym (sets-eq bs l a h)))

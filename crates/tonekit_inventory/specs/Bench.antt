@@ -1,16 +1,17 @@
 -- Worked examples, computed: tone 1 with a citation and tone 2 with a mixture of two stand in slots 0, 4 and 5; a tone that nothing is given for has a count of 0;
 -- accent 5 is held and accent 6 is not, nor is tone 7.
-use Rattle.std.specs.Prelude.{ℕ, ◌≡◌, refl, true, false, cond, List, [], ◌∷◌, ◌++◌, eqb, replicate, Float}
+use Rattle.std.specs.Prelude.{ℕ, ◌≡◌, refl, true, false, cond, Some, None, List, [], ◌∷◌, ◌++◌, eqb, replicate, Float}
 use Rattle.std.proofs.Math.Option.{Option, none, some}
 use Rattle.std.specs.Float.Ieee.{of_bits}
 use Rattle.tonekit_core.specs.Loop.{turns, range}
 use Rattle.tonekit_expect.specs.Source.{Tone, Accent, Carried, Source, accent_in, tone_in}
 use Rattle.tonekit_expect.specs.declared.Context.{Context}
 use Rattle.tonekit_judge.specs.declared.Inventory.{Inventory}
+use Rattle.tonekit_judge.specs.declared.ToneEntry.{ToneEntry}
 use Rattle.tonekit_score.specs.declared.Region.{Region}
 use Rattle.tonekit_score.specs.declared.Tolerance.{Tolerance}
 use Rattle.tonekit_judge.specs.Judge.{Listed}
-use Rattle.tonekit_inventory.specs.Gather.{f32, no_region, no_tolerance, with_tone, no_inventory, weights_of, points_of, slotted, listings, gathered}
+use Rattle.tonekit_inventory.specs.Gather.{f32, blank_entry, with_tone, no_inventory, put_in, weights_of, points_of, slotted, listings, gathered}
 
 -- bits: 1, a half, a quarter, 2 and 4
 abbrev one : ℕ
@@ -66,50 +67,46 @@ abbrev here : Context
 here = record { accent = 5; tone = 7; prev = 0; last = 1 }
 
 abbrev its_region : Region
-its_region = record { flag = 1; from = f32 one; to = f32 two }
+its_region = record { from = f32 one; to = f32 two }
+
+-- the two tones' entries, and that of the third, for which nothing is given
+abbrev cited : ToneEntry
+cited = record { number = 1; prior = f32 half; region = None; count = 1; owner = 5; form = 1; label = 0 }
+
+abbrev mixed : ToneEntry
+mixed = record { number = 2; prior = f32 quarter; region = Some its_region; count = 2; owner = 9; form = 3; label = 700 }
+
+abbrev unlisted : ToneEntry
+unlisted = record { number = 3; prior = f32 one; region = None; count = 0; owner = 0; form = 0; label = 0 }
 
 abbrev both : Inventory
-both = record {
-  tones = 2;
-  numbers = 1 ∷ 2 ∷ replicate 6 0;
-  priors = f32 half ∷ f32 quarter ∷ replicate 6 nought;
-  regions = no_region ∷ its_region ∷ replicate 6 no_region;
-  counts = 1 ∷ 2 ∷ replicate 6 0;
-  owners = 5 ∷ 9 ∷ replicate 6 0;
-  forms = 1 ∷ 3 ∷ replicate 6 0;
-  labels = 0 ∷ 700 ∷ replicate 6 0;
-}
+both = record { tones = 2; entries = cited ∷ mixed ∷ replicate 6 blank_entry }
 
 abbrev both_listed : Listed
 both_listed = record {
   inventory = both;
-  weights = f32 one ∷ (replicate 3 nought ++ (f32 half ∷ f32 quarter ∷ replicate 26 nought));
-  points = replicate 10 (f32 two) ++ (replicate 30 nought ++ (replicate 10 (f32 one) ++ (replicate 10 (f32 four) ++ replicate 260 nought)));
+  slots = record {
+    weights = f32 one ∷ (replicate 3 nought ++ (f32 half ∷ f32 quarter ∷ replicate 26 nought));
+    points = replicate 10 (f32 two) ++ (replicate 30 nought ++ (replicate 10 (f32 one) ++ (replicate 10 (f32 four) ++ replicate 260 nought)));
+  };
 }
 
 two_tones : listings (held (first ∷ second ∷ [])) here ≡ both_listed
-unfolding listings range turns slotted with_tone no_inventory weights_of points_of of_bits
+unfolding listings range turns slotted with_tone no_inventory put_in weights_of points_of of_bits
 two_tones = refl
 
 -- tone 3 has nothing, and the tone behind it is there
 abbrev around : Inventory
-around = record {
-  tones = 3;
-  numbers = 1 ∷ 3 ∷ 2 ∷ replicate 5 0;
-  priors = f32 half ∷ f32 one ∷ f32 quarter ∷ replicate 5 nought;
-  regions = no_region ∷ no_region ∷ its_region ∷ replicate 5 no_region;
-  counts = 1 ∷ 0 ∷ 2 ∷ replicate 5 0;
-  owners = 5 ∷ 0 ∷ 9 ∷ replicate 5 0;
-  forms = 1 ∷ 0 ∷ 3 ∷ replicate 5 0;
-  labels = 0 ∷ 0 ∷ 700 ∷ replicate 5 0;
-}
+around = record { tones = 3; entries = cited ∷ unlisted ∷ mixed ∷ replicate 5 blank_entry }
 
 none_for_third : listings (held (first ∷ third ∷ second ∷ [])) here ≡ record {
   inventory = around;
-  weights = f32 one ∷ (replicate 7 nought ++ (f32 half ∷ f32 quarter ∷ replicate 22 nought));
-  points = replicate 10 (f32 two) ++ (replicate 70 nought ++ (replicate 10 (f32 one) ++ (replicate 10 (f32 four) ++ replicate 220 nought)));
+  slots = record {
+    weights = f32 one ∷ (replicate 7 nought ++ (f32 half ∷ f32 quarter ∷ replicate 22 nought));
+    points = replicate 10 (f32 two) ++ (replicate 70 nought ++ (replicate 10 (f32 one) ++ (replicate 10 (f32 four) ++ replicate 220 nought)));
+  };
 }
-unfolding listings range turns slotted with_tone no_inventory weights_of points_of of_bits
+unfolding listings range turns slotted with_tone no_inventory put_in weights_of points_of of_bits
 none_for_third = refl
 
 -- under a held accent, after nothing
@@ -117,14 +114,14 @@ abbrev fifths : Tolerance
 fifths = record { contour = f32 half; onset = f32 one; offset = f32 two; turning = f32 four }
 
 under_fifth : gathered (held (first ∷ second ∷ [])) here
-    ≡ record { accent = true; prev = true; temperature = f32 one; threshold = f32 half; tolerance = fifths; listed = both_listed }
-unfolding gathered accent_in tone_in listings range turns slotted with_tone no_inventory weights_of points_of of_bits
+    ≡ record { prev = true; temperature = f32 one; threshold = f32 half; tolerance = Some fifths; listed = both_listed }
+unfolding gathered accent_in tone_in listings range turns slotted with_tone no_inventory put_in weights_of points_of of_bits
 under_fifth = refl
 
 -- under an accent that is not held, after a tone that is not
 under_none : gathered (held (first ∷ second ∷ [])) (record { accent = 6; tone = 1; prev = 7; last = 0 })
-    ≡ record { accent = false; prev = false; temperature = f32 one; threshold = f32 half; tolerance = no_tolerance; listed = both_listed }
-unfolding gathered accent_in tone_in listings range turns slotted with_tone no_inventory weights_of points_of of_bits
+    ≡ record { prev = false; temperature = f32 one; threshold = f32 half; tolerance = None; listed = both_listed }
+unfolding gathered accent_in tone_in listings range turns slotted with_tone no_inventory put_in weights_of points_of of_bits
 under_none = refl
 
 -- and after one that is
@@ -133,6 +130,6 @@ unfolding gathered tone_in
 after_second = refl
 
 -- "Tolerances are the graded accent's, also for inherited rules": the rule is accent 9's
-owner_elsewhere : (gathered (held (second ∷ [])) here).tolerance ≡ fifths
+owner_elsewhere : (gathered (held (second ∷ [])) here).tolerance ≡ Some fifths
 unfolding gathered accent_in of_bits
 owner_elsewhere = refl

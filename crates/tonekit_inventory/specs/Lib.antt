@@ -1,4 +1,4 @@
 pub mod Gather
 pub mod Fields
-pub mod Slots
+pub mod OfPack
 pub mod Bench

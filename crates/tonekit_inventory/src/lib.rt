@@ -1,62 +1,115 @@
-// What a station gathers for a context, all that a query is judged by: from a pack, and what a sheet
-// shares of it.
+// What a station gathers for a context, all that a query is judged by: from a pack, from a sheet, or from
+// whatever else is held.
 #![tactic(auto)]
 
-ghost use Rattle.std.specs.Prelude.{◌≡◌, ◌||◌, [], ◌+◌, ◌≤◌, ◌<◌, eqb, length};
-ghost use Rattle.std.proofs.Math.Option.{none};
+ghost use Rattle.std.specs.Prelude.{◌≡◌, [], ◌+◌, ◌≤◌, ◌<◌, ℕ, List, Result, Ok, Err, IfOk, IfErr, length, get_or};
 ghost use Rattle.std.proofs.lemmas.List.Edits.{sets};
-ghost use Rattle.tonekit_core.specs.Layout.{own_number, tone_prior, tone_region};
-ghost use Rattle.tonekit_bytes.specs.Fields.{byte_at, f32_at};
-ghost use Rattle.tonekit_pack.specs.Held.{shown, Roomy, ReadFrom};
-ghost use Rattle.tonekit_expect.specs.Source.{components, given, accent_in, tone_in, source_of_pack};
-ghost use Rattle.tonekit_inventory.specs.Fields.{region_at, tolerance_at};
-ghost use Rattle.tonekit_inventory.specs.Gather.{with_tone, no_inventory, named_of, given_of, Blank, graded_of};
-ghost use Rattle.tonekit_inventory.specs.Slots.{Slots, InSlots, Short, Looked, Lists, Gathers, name_of};
+ghost use Rattle.tonekit_core.specs.declared.Rejection.{Rejection};
+ghost use Rattle.tonekit_expect.specs.Source.{Source, accent_in, tone_in};
+ghost use Rattle.tonekit_inventory.specs.Fields.{region_at, tolerance_at, settings_at};
+ghost use Rattle.tonekit_inventory.specs.Gather.{entry_of, named_of, given_of, graded_of, settings_of, no_tone, no_inventory, put_in, no_slots, Lists, Gathers};
+
+mod pack;
 
 use tonekit_bytes::{byte_at, f32_at};
-use tonekit_core::layout;
-use tonekit_expect::{Context, Found, Listing, Look};
-use tonekit_judge::Inventory;
-use tonekit_pack::Pack;
+use tonekit_core::{Rejection, layout};
+use tonekit_expect::Context;
+use tonekit_judge::{Inventory, Slots, ToneEntry};
 use tonekit_score::{Region, Tolerance};
 
 // A listing's name: whose it is, its form and label; and how many components it has.
-#[derive(Drop)]
+#[derive(Clone, Copy)]
 pub struct Named {
     pub owner: u8,
+    // Stays: the form is the number that stands in a pack or a sheet, and a judgement's record tells it as it stands.
     pub form: u8,
     pub label: u16,
     pub count: u8,
 }
 
-// What a query is judged by: whether its accent is held, and what stood before it or nothing did; the
-// settings, the accent's tolerances, and for each tone its listing, or a count of 0 where it has none.
-#[derive(Drop)]
+// The two settings that a judgement scores by.
+#[derive(Clone, Copy)]
+pub struct Settings {
+    pub temperature: f32,
+    pub threshold: f32,
+}
+
+// What a query is judged by: whether what stood before is held, or nothing did; the settings, the
+// accent's tolerances, if it is held, and for each tone its listing, or a count of 0 where it has none.
+#[derive(Clone, Copy)]
 pub struct Gathered {
-    pub accent: bool,
     pub prev: bool,
     pub temperature: f32,
     pub threshold: f32,
-    pub tolerance: Tolerance,
+    pub tolerance: Option<Tolerance>,
     pub inventory: Inventory,
 }
 
-// Whether an accent is held, and its tolerances; zeros where it is not.
-#[derive(Drop)]
-pub struct Graded {
-    pub held: bool,
-    pub tolerance: Tolerance,
+// What a station holds: what was read of some bytes, as of a pack or of a sheet. `source` says what the
+// bytes and what was read of them stand for, and `read` that it was read of these bytes.
+pub trait Held: Drop {
+    ghost source: { List ℕ → Self → Source };
+
+    ghost read: { List ℕ → Self → Type 0 };
+
+    ghost loads: { List ℕ → Result Source Rejection };
+
+    // What the bytes hold, or why they are refused and where.
+    // Stays: the bytes stand beside what was read of them here and below, since the readers hand that back by value.
+    fn load(bytes: &[u8]) -> Result<Self, Rejection>
+        ensures held { IfOk result (λ h. read bytes.now h × (loads bytes.now ≡ Ok (source bytes.now h))) }
+        ensures refused { IfErr result (λ e. loads bytes.now ≡ Err e) };
+
+    // How many tones there are: 8 at most.
+    fn tones(&self, bytes: &[u8]) -> usize
+        requires { read bytes.now self.now }
+        ensures count { result ≡ length (source bytes.now self.now).tones }
+        ensures few { result ≤ 8 };
+
+    // The tone at a place, as an inventory has it before its listing is there.
+    fn tone(&self, bytes: &[u8], t: usize) -> ToneEntry
+        requires read { read bytes.now self.now }
+        requires there { t < length (source bytes.now self.now).tones }
+        ensures { result ≡ entry_of (get_or (source bytes.now self.now).tones t no_tone) (named_of []) };
+
+    // Whether a tone of this number is held.
+    fn holds_tone(&self, bytes: &[u8], number: u8) -> bool
+        requires { read bytes.now self.now }
+        ensures { result ≡ tone_in (source bytes.now self.now).tones number };
+
+    // The tolerances of the accent of this number, if it is held.
+    fn tolerance(&self, bytes: &[u8], number: u8) -> Option<Tolerance>
+        requires { read bytes.now self.now }
+        ensures { result ≡ graded_of (accent_in (source bytes.now self.now).accents number) };
+
+    // Puts the components that a context takes into tone t's slots, and hands back their name; where it
+    // takes none, that of nothing.
+    // Stays: two contracts of one method, the trait's and an impl's, name what it takes.
+    fn put(&self, bytes: &[u8], c: Context, t: usize, slots: &mut Slots) -> Named
+        requires read { read bytes.now self.now }
+        requires there { t < 8 }
+        ensures name { result ≡ named_of (given_of ((source bytes.now self.now).look c)) }
+        ensures few { result.count ≤ 4 }
+        ensures slots { slots.new ≡ put_in t (given_of ((source bytes.now self.now).look c)) slots.old };
+
+    // The settings.
+    fn settings(&self, bytes: &[u8]) -> Settings
+        requires { read bytes.now self.now }
+        ensures { result ≡ settings_of (source bytes.now self.now).settings };
 }
 
-// The region whose flag stands at an offset; of bytes that are not there, 0.
-pub fn region_at(s: &[u8], o: usize) -> Region
+// The region whose flag stands at an offset, if the flag is not 0; bytes that are not there are 0.
+#[tactic(auto, unfolding(crate::specs::Fields::region_at))]
+pub fn region_at(s: &[u8], o: usize) -> Option<Region>
     ensures { result ≡ region_at s.now o }
 {
-    Region {
-        flag: byte_at(s, o, 0),
+    if byte_at(s, o, 0) == 0 {
+        return None;
+    }
+    Some(Region {
         from: f32_at(s, o, layout::REGION_FROM),
         to: f32_at(s, o, layout::REGION_TO),
-    }
+    })
 }
 
 // The four tolerances from an offset on; of bytes that are not there, 0.
@@ -71,88 +124,14 @@ pub fn tolerance_at(s: &[u8], o: usize) -> Tolerance
     }
 }
 
-// An inventory of so many tones, before any of them is there.
-pub fn no_inventory(tones: usize) -> Inventory
-    ensures { result ≡ no_inventory tones }
+// The settings, which stand first in a pack and in a sheet.
+#[tactic(auto, unfolding(crate::specs::Fields::settings_at))]
+pub fn settings_at(s: &[u8]) -> Settings
+    ensures { result ≡ settings_at s.now }
 {
-    let none = Region {
-        flag: 0,
-        from: 0.0,
-        to: 0.0,
-    };
-    Inventory {
-        tones,
-        numbers: [0; 8],
-        priors: [0.0; 8],
-        regions: [none; 8],
-        counts: [0; 8],
-        owners: [0; 8],
-        forms: [0; 8],
-        labels: [0; 8],
-    }
-}
-
-// The inventory with tone t's own values and its listing's name. There are 8 places.
-pub fn with_tone(
-    i: Inventory,
-    t: usize,
-    number: u8,
-    prior: f32,
-    region: Region,
-    name: Named,
-) -> Inventory
-    requires { t < 8 }
-    ensures { result ≡ with_tone t number prior region name i }
-{
-    let mut numbers = i.numbers;
-    let mut priors = i.priors;
-    let mut regions = i.regions;
-    let mut counts = i.counts;
-    let mut owners = i.owners;
-    let mut forms = i.forms;
-    let mut labels = i.labels;
-    numbers[t] = number;
-    priors[t] = prior;
-    regions[t] = region;
-    counts[t] = name.count;
-    owners[t] = name.owner;
-    forms[t] = name.form;
-    labels[t] = name.label;
-    Inventory {
-        tones: i.tones,
-        numbers,
-        priors,
-        regions,
-        counts,
-        owners,
-        forms,
-        labels,
-    }
-}
-
-// Puts ten points from an index on.
-pub fn put_points(points: &mut [f32], at: usize, ten: [f32; 10])
-    requires { at + 10 ≤ length points.old }
-    ensures { points.new ≡ sets points.old at ten }
-{
-    for k in 0..10 {
-        points[at + k] = ten[k];
-    }
-}
-
-// No accent held: no tolerances.
-pub fn not_graded() -> Graded
-    ensures { result ≡ graded_of none }
-{
-    let tolerance = Tolerance {
-        contour: 0.0,
-        onset: 0.0,
-        offset: 0.0,
-        turning: 0.0,
-    };
-    Graded {
-        held: false,
-        tolerance,
+    Settings {
+        temperature: f32_at(s, 0, layout::SETTINGS_TEMPERATURE),
+        threshold: f32_at(s, 0, layout::SETTINGS_THRESHOLD),
     }
 }
 
@@ -168,133 +147,79 @@ pub fn no_name() -> Named
     }
 }
 
-// Puts the components of tone t's listing into its slots.
-fn fill(s: &[u8], l: Listing, t: usize, weights: &mut [f32], points: &mut [f32])
-    requires { (t < 8) × Short s.now l × Slots weights.old points.old }
-    ensures { InSlots t (components s.now l l.count)
-        weights.old points.old weights.new points.new }
+// An inventory of so many tones, before any of them is there.
+#[tactic(auto, unfolding(crate::specs::Gather::no_inventory))]
+pub fn no_inventory(tones: usize) -> Inventory
+    ensures { result ≡ no_inventory tones }
 {
-    for j in 0..l.count {
-        let c = tonekit_expect::component_at(s, l, j);
-        let ten = c.points;
-        weights[4 * t + j] = c.weight;
-        put_points(points, 40 * t + 10 * j, ten);
+    let none = ToneEntry {
+        number: 0,
+        prior: 0.0,
+        region: None,
+        count: 0,
+        owner: 0,
+        form: 0,
+        label: 0,
+    };
+    Inventory {
+        tones,
+        entries: [none; 8],
     }
 }
 
-// Puts what a lookup listed into tone t's slots, and hands back its name; nothing where it found none.
-fn put_listing(s: &[u8], look: Look, t: usize, weights: &mut [f32], points: &mut [f32]) -> Named
-    requires { (t < 8) × Looked s.now look × Slots weights.old points.old }
-    ensures { (result ≡ named_of (given_of (given s.now look)))
-        × InSlots t (given_of (given s.now look))
-        weights.old points.old weights.new points.new }
+// Puts ten points from an index on.
+pub fn put_points(points: &mut [f32], at: usize, ten: [f32; 10])
+    requires { at + 10 ≤ length points.old }
+    ensures { points.new ≡ sets points.old at ten }
 {
-    match look {
-        Look::Found(l) => {
-            fill(s, l, t, weights, points);
-            name_of(l)
-        }
-        Look::Nothing => no_name(),
-    }
+    points[at..at + 10].copy_from_slice(&ten);
 }
 
-// A listing's name.
-fn name_of(l: Listing) -> Named
-    requires { l.count ≤ 4 }
-    ensures { result ≡ name_of l }
+// The listings of all tones that are held, in a context whose tone is not read; the slots hold zeros
+// before, and the components after.
+fn listings<H: Held>(bytes: &[u8], held: &H, c: Context, slots: &mut Slots) -> Inventory
+    requires read { H.read bytes.now held.now }
+    requires blank { slots.old ≡ no_slots }
+    ensures { Lists (H.source bytes.now held.now) c result slots.new }
 {
-    Named {
-        owner: l.owner,
-        form: l.form,
-        label: l.label,
-        count: l.count as u8,
-    }
-}
-
-// The inventory with tone t of a pack, whose record stands at o, and its listing's name.
-fn with_pack_tone(i: Inventory, t: usize, s: &[u8], o: usize, name: Named) -> Inventory
-    requires { (t < 8) × (o < 65536) }
-    ensures { result ≡ with_tone t (byte_at s.now (o + own_number)) (f32_at s.now (o + tone_prior))
-        (region_at s.now (o + tone_region)) name i }
-{
-    with_tone(
-        i,
-        t,
-        byte_at(s, o, layout::OWN_NUMBER),
-        f32_at(s, o, layout::TONE_PRIOR),
-        region_at(s, o + layout::TONE_REGION),
-        name,
-    )
-}
-
-// The listings of all tones of a pack, in a context whose tone is not read; weights and points hold
-// zeros before, and the components in their slots after. The pack is one that was read from s.
-fn listings(s: &[u8], p: Pack, c: Context, weights: &mut [f32], points: &mut [f32]) -> Inventory
-    requires { ReadFrom s.now p × Blank weights.old points.old }
-    ensures { Lists (source_of_pack s.now (shown p)) c result weights.new points.new }
-{
-    let offsets = p.toneat;
-    let mut i = no_inventory(p.tones);
-    for t in 0..p.tones {
-        let o = offsets[t] as usize;
+    let tones = held.tones(bytes);
+    let mut i = no_inventory(tones);
+    // Stays: t is a tone's place among what is held and among the slots, not only among the entries.
+    for t in 0..tones {
+        let tone = held.tone(bytes, t);
         let here = Context {
             accent: c.accent,
-            tone: byte_at(s, o, layout::OWN_NUMBER),
+            tone: tone.number,
             prev: c.prev,
             last: c.last,
         };
-        let name = put_listing(s, tonekit_expect::look_up(s, p, here), t, weights, points);
-        let next = with_pack_tone(i, t, s, o, name);
-        i = next;
+        let name = held.put(bytes, here, t, slots);
+        i.entries[t] = ToneEntry {
+            number: tone.number,
+            prior: tone.prior,
+            region: tone.region,
+            count: name.count,
+            owner: name.owner,
+            form: name.form,
+            label: name.label,
+        };
     }
     i
 }
 
-// Whether a pack holds an accent, and its tolerances.
-fn accent_held(s: &[u8], p: Pack, n: u8) -> Graded
-    requires { Roomy p }
-    ensures { result ≡ graded_of (accent_in (source_of_pack s.now (shown p)).accents n) }
+// What a station gathers for a context, of which the tone is not read. The slots hold zeros before,
+// and the components in their places after. What is held was read from the bytes.
+pub fn gather<H: Held>(bytes: &[u8], held: &H, c: Context, slots: &mut Slots) -> Gathered
+    requires read { H.read bytes.now held.now }
+    requires blank { slots.old ≡ no_slots }
+    ensures { Gathers (H.source bytes.now held.now) c result slots.new }
 {
-    let offsets = p.accentat;
-    match tonekit_expect::accent_index(s, p, n) {
-        Found::At(a) => Graded {
-            held: true,
-            tolerance: tolerance_at(s, offsets[a] as usize + layout::ACCENT_CONTOUR),
-        },
-        Found::Nothing => not_graded(),
-    }
-}
-
-// Whether a pack holds the tone that stood before, or there was none.
-fn prev_held(s: &[u8], p: Pack, prev: u8) -> bool
-    requires { Roomy p }
-    ensures { result ≡ (eqb prev 0 || tone_in (source_of_pack s.now (shown p)).tones prev) }
-{
-    if prev == 0 {
-        return true;
-    }
-    match tonekit_expect::tone_index(s, p, prev) {
-        Found::At(_) => true,
-        Found::Nothing => false,
-    }
-}
-
-// What a station with a pack gathers for a context, of which the tone is not read. Weights and points
-// hold zeros before, and the components in their slots after. The pack is one that was read from s.
-pub fn gather(s: &[u8], p: Pack, c: Context, weights: &mut [f32], points: &mut [f32]) -> Gathered
-    requires { ReadFrom s.now p × Blank weights.old points.old }
-    ensures { Gathers (source_of_pack s.now (shown p)) c result weights.new
-        points.new }
-{
-    let g = accent_held(s, p, c.accent);
-    let tolerance = g.tolerance;
-    let inventory = listings(s, p, c, weights, points);
+    let settings = held.settings(bytes);
     Gathered {
-        accent: g.held,
-        prev: prev_held(s, p, c.prev),
-        temperature: f32_at(s, 0, layout::SETTINGS_TEMPERATURE),
-        threshold: f32_at(s, 0, layout::SETTINGS_THRESHOLD),
-        tolerance,
-        inventory,
+        prev: c.prev == 0 || held.holds_tone(bytes, c.prev),
+        temperature: settings.temperature,
+        threshold: settings.threshold,
+        tolerance: held.tolerance(bytes, c.accent),
+        inventory: listings(bytes, held, c, slots),
     }
 }

@@ -1,16 +1,12 @@
 -- Every log-likelihood of a judgement and its llr are f32s within ±1,000,000 and no NaN; so are they as its record's 64 bytes are read:
 -- for every input. Assumes nothing.
-use Prim.Native.Nat.{ℕ, zero, suc, ◌+◌, ◌*◌, ◌<◌}
-use mathlib.Core.Path.{◌≡◌, refl, sym, subst, ◌∙◌}
-use mathlib.Core.Bool.{cond}
-use mathlib.Core.List.{List, [], ◌∷◌, ◌++◌}
-use native.Mathlib.Nat.{le_of_suc-le-suc, not-suc-le-zero}
-use native.Mathlib.Omega.{arith}
-use lib.Dec.{T}
-use lib.ListN.{length, get_or, set, replicate, length-set}
-use lib.Ieee.{Float, nan, binary32, neg, fits}
+use Rattle.std.proofs.Common.{ℕ, zero, suc, ◌+◌, ◌*◌, ◌<◌, ◌≡◌, refl, sym, subst, ◌∙◌, cond, List, [], ◌∷◌, ◌++◌, le_of_suc-le-suc, not-suc-le-zero, arith, T, length, get_or, set, replicate, length-set, Float}
+use Rattle.std.specs.Float.{nan, binary32}
+use Rattle.std.specs.Float.Ieee.{neg}
+use lib.Ieee.{fits}
 use lib.Ieee.Bits.{of_bits-fits}
 use Rattle.tonekit_core.specs.Loop.{range}
+use Rattle.tonekit_core.specs.Words.{measured_number}
 use Rattle.tonekit_core.specs.Layout.{f32_size, judgement_size, judgement_loglik, judgement_llr}
 use Rattle.tonekit_core.proofs.LoopLaws.{range_keeps}
 use Rattle.tonekit_float.specs.Narrow.{narrowed}
@@ -30,7 +26,7 @@ use Rattle.tonekit_judge.specs.Record.{head_bytes, score_bytes, delta_bytes, tai
 use Rattle.tonekit_judge.specs.declared.Inventory.{Inventory}
 use Rattle.tonekit_judge.specs.declared.Targets.{Targets}
 use Rattle.tonekit_judge.specs.declared.ToneJudgement.{ToneJudgement}
-use Rattle.tonekit_judge.proofs.Slots.{by_bool}
+use Rattle.tonekit_judge.proofs.Cells.{by_bool}
 use Rattle.tonekit_judge.proofs.Parts.{record_length}
 
 -- ---- what holds of 0, of the lowest and of every clamped number, holds of every log-likelihood and of the llr
@@ -60,15 +56,15 @@ module _ (P : Float → Type 0) (p-zero : P zero32) (p-lowest : P (narrowed (neg
   eight_set : (i : ℕ) (v : Float) (l : List Float) → P v → Eight l → Eight (set l i v)
   eight_set i v l b p = (every_set i v b p.0, length-set l i v ∙ p.1)
 
-  loglik_holds : (s : Scoring) (counts : List ℕ) (weights : List Float) (d : ℕ → ℕ → Float) (t : ℕ) → P (loglik_at s counts weights d t)
+  loglik_holds : (s : Scoring) (i : Inventory) (weights : List Float) (d : ℕ → ℕ → Float) (t : ℕ) → P (loglik_at s i weights d t)
   unfolding loglik_at calibrate
-  loglik_holds s counts weights d t = p-clamp _
+  loglik_holds s i weights d t = p-clamp _
 
-  logliks_eight : (s : Scoring) (tones : ℕ) (counts : List ℕ) (weights : List Float) (d : ℕ → ℕ → Float) → Eight (logliks s tones counts weights d)
+  logliks_eight : (s : Scoring) (i : Inventory) (weights : List Float) (d : ℕ → ℕ → Float) → Eight (logliks s i weights d)
   unfolding logliks
-  logliks_eight s tones counts weights d =
-      range_keeps (loglik_turn s counts weights d) (λ j ll. Eight ll) 0 tones (replicate 8 zero32) (omega arith)
-      (λ t ll h p. eight_set t (loglik_at s counts weights d t) ll (loglik_holds s counts weights d t) p) zeros
+  logliks_eight s i weights d =
+      range_keeps (loglik_turn s i weights d) (λ j ll. Eight ll) 0 i.tones (replicate 8 zero32) (omega arith)
+      (λ t ll h p. eight_set t (loglik_at s i weights d t) ll (loglik_holds s i weights d t) p) zeros
 
   lowest_eight : (tones : ℕ) → Eight (range lowest_turn 0 tones (replicate 8 zero32))
   lowest_eight tones =
@@ -79,22 +75,22 @@ module _ (P : Float → Type 0) (p-zero : P zero32) (p-lowest : P (narrowed (neg
       → Throughout P (plain_of s threshold i weights d m issues)
   unfolding plain_of llr_of
   plain_holds s threshold i weights d m issues =
-      let p = logliks_eight s i.tones i.counts weights d in
+      let p = logliks_eight s i weights d in
       record { eight = p.1; logliks = p.0; llr = p-clamp _ }
 
-  best_holds : (x : ToneShape) (s : Scoring) (t : Tolerance) (l : Listed) (issues : ℕ) (j : ToneJudgement) (m : Mixture)
-      → Throughout P j → Throughout P (best_of x s t l issues j m)
+  best_holds : (x : ToneShape) (s : Scoring) (t : Tolerance) (l : Listed) (j : ToneJudgement) (m : Mixture)
+      → Throughout P j → Throughout P (best_of x s t l j m)
   unfolding with_best
-  best_holds x s t l issues j Nothing p = p
-  best_holds x s t l issues j (Scored ll slot d2) p = record { eight = p.eight; logliks = p.logliks; llr = p.llr }
+  best_holds x s t l j Nothing p = p
+  best_holds x s t l j (Scored ll slot d2) p = record { eight = p.eight; logliks = p.logliks; llr = p.llr }
 
   judged_holds : (x : ToneShape) (s : Scoring) (threshold : Float) (t : Tolerance) (l : Listed) (d : ℕ → ℕ → Float) (g : Targets) (issues : ℕ)
       → Throughout P (judged_of x s threshold t l d g issues)
   unfolding judged_of
   judged_holds x s threshold t l d g issues =
-      let m = mixture_of (target_mixing s l.inventory.counts l.weights d g) in
-      best_holds x s t l issues (plain_of s threshold l.inventory l.weights d m issues) m
-      (plain_holds s threshold l.inventory l.weights d m issues)
+      let m = mixture_of (target_mixing s l.inventory l.slots.weights d g) in
+      best_holds x s t l (plain_of s threshold l.inventory l.slots.weights d m issues) m
+      (plain_holds s threshold l.inventory l.slots.weights d m issues)
 
   lowest_holds : (tones : ℕ) → Throughout P (not_measured tones)
   unfolding not_measured
@@ -105,7 +101,7 @@ module _ (P : Float → Type 0) (p-zero : P zero32) (p-lowest : P (narrowed (neg
   unfolding judgement_of
   judgement_holds x temperature threshold t l g issues =
       let s = scoring_of temperature t issues in
-      let d = distance_at x s l.inventory.regions l.points in
+      let d = distance_at x s l.inventory l.slots in
       by_bool (λ b. Throughout P (cond b (judged_of x s threshold t l d g issues) (not_measured l.inventory.tones))) (usable x)
       (judged_holds x s threshold t l d g issues) (lowest_holds l.inventory.tones)
 
@@ -125,7 +121,7 @@ every_at (more b e) (suc k) h = every_at e k (le_of_suc-le-suc h)
 
 module _ (expected tones : ℕ) (j : ToneJudgement) (b : Throughout Bounded j) (f : Throughout Held32 j) where
   abbrev behind : List ℕ
-  behind = score_bytes j ++ (delta_bytes j.deltas ++ tail_bytes j.measured j.issues)
+  behind = score_bytes j ++ (delta_bytes j.deltas ++ tail_bytes (measured_number j.measured) j.issues)
 
   floats_there : Stands (judgement_bytes expected tones j) judgement_loglik (f32s_bytes j.loglik ++ behind)
   unfolding judgement_bytes

@@ -1,4 +1,5 @@
-mod Slots
+mod Cells
+pub mod Ten
 mod Terms
 mod Agree
 mod Parts

@@ -1,20 +1,17 @@
 -- The parts of a judgement's record, written one after the other, are the record, of 64 bytes. Assumes nothing.
-use Prim.Native.Nat.{ℕ, ◌+◌, ◌≤◌}
-use mathlib.Core.Path.{◌≡◌, refl, ap, ◌∙◌}
-use mathlib.Core.List.{List, [], ◌∷◌, ◌++◌, append_assoc, append-nil}
-use native.Mathlib.Nat.{zero-add}
-use native.Mathlib.Omega.{arith}
-use lib.ListN.{length, length-append, drop_of_length-le}
+use Rattle.std.proofs.Common.{ℕ, ◌+◌, ◌≤◌, ◌≡◌, refl, ap, ◌∙◌, List, [], ◌∷◌, ◌++◌, append_assoc, append-nil, zero-add, arith, length, length-append, drop_of_length-le, Float}
+use Rattle.std.proofs.Common.{Option}
 use lib.Seq.{sets, sets-eq}
+use Rattle.tonekit_core.specs.Words.{measured_number}
 use Rattle.tonekit_bytes.specs.Fields.{f32_bytes, f32s_bytes}
 use Rattle.tonekit_bytes.proofs.Write.{more, f32s_length}
 use Rattle.tonekit_deltas.specs.declared.Delta.{Delta}
 use Rattle.tonekit_deltas.specs.declared.Deltas.{Deltas}
-use Rattle.tonekit_judge.specs.Record.{kind_of, head_bytes, score_bytes, one_bytes, delta_bytes, tail_bytes, judgement_bytes}
+use Rattle.tonekit_judge.specs.Record.{kind_of, amount_of, head_bytes, nearest_bytes, score_bytes, one_bytes, delta_bytes, tail_bytes, judgement_bytes}
 use Rattle.tonekit_judge.specs.declared.ToneJudgement.{ToneJudgement}
 
 scores_length : (j : ToneJudgement) → length (score_bytes j) ≡ 15
-unfolding score_bytes
+unfolding score_bytes nearest_bytes
 scores_length j = refl
 
 deltas_length : (ds : Deltas) → length (delta_bytes ds) ≡ 11
@@ -22,11 +19,11 @@ unfolding delta_bytes one_bytes
 deltas_length ds = refl
 
 -- a delta's two puts
-pub delta_parts : (l : List ℕ) {o o' : List ℕ} (at : ℕ) (d : Delta) {k : ℕ} → k ≡ kind_of d → o ≡ sets l at (k ∷ [])
-    → o' ≡ sets o (at + 1) (f32_bytes d.amount) → o' ≡ sets l at (one_bytes d)
+pub delta_parts : (l : List ℕ) {o o' : List ℕ} (at : ℕ) (d : Option Delta) {k : ℕ} {v : Float} → k ≡ kind_of d → v ≡ amount_of d → o ≡ sets l at (k ∷ [])
+    → o' ≡ sets o (at + 1) (f32_bytes v) → o' ≡ sets l at (one_bytes d)
 unfolding one_bytes
-delta_parts l at d q e e' =
-    more l (kind_of d ∷ []) (f32_bytes d.amount) at (at + 1) (e ∙ ap (λ (v : ℕ). sets l at (v ∷ [])) q) refl e'
+delta_parts l {o} at d q a e e' =
+    more l (kind_of d ∷ []) (f32_bytes (amount_of d)) at (at + 1) (e ∙ ap (λ (v : ℕ). sets l at (v ∷ [])) q) refl (e' ∙ ap (λ (v : Float). sets o (at + 1) (f32_bytes v)) a)
 
 module _ (expected tones : ℕ) (j : ToneJudgement) (e : length j.loglik ≡ 8) where
   pub record_length : length (judgement_bytes expected tones j) ≡ 64
@@ -34,7 +31,7 @@ module _ (expected tones : ℕ) (j : ToneJudgement) (e : length j.loglik ≡ 8) 
   record_length = simp (length-append) (omega (arith, f32s_length j.loglik, scores_length j, deltas_length j.deltas))
 
   pub record_parts : (l : List ℕ) {o₁ o₂ o₃ o₄ o₅ : List ℕ} → o₁ ≡ sets l 0 (head_bytes expected tones) → o₂ ≡ sets o₁ 3 (f32s_bytes j.loglik)
-      → o₃ ≡ sets o₂ 35 (score_bytes j) → o₄ ≡ sets o₃ 50 (delta_bytes j.deltas) → o₅ ≡ sets o₄ 61 (tail_bytes j.measured j.issues)
+      → o₃ ≡ sets o₂ 35 (score_bytes j) → o₄ ≡ sets o₃ 50 (delta_bytes j.deltas) → o₅ ≡ sets o₄ 61 (tail_bytes (measured_number j.measured) j.issues)
       → o₅ ≡ sets l 0 (judgement_bytes expected tones j)
   unfolding judgement_bytes
   record_parts l e₁ e₂ e₃ e₄ e₅ =
@@ -42,7 +39,7 @@ module _ (expected tones : ℕ) (j : ToneJudgement) (e : length j.loglik ≡ 8) 
       let fs = f32s_bytes j.loglik in
       let ss = score_bytes j in
       let ds = delta_bytes j.deltas in
-      let end = tail_bytes j.measured j.issues in
+      let end = tail_bytes (measured_number j.measured) j.issues in
       let n : length fs ≡ 32 = omega (arith, f32s_length j.loglik) in
       let p₂ = more l head fs 0 3 e₁ refl e₂ in
       let p₃ = more l (head ++ fs) ss 0 35 p₂ (simp length-append (omega arith)) e₃ in

@@ -1,80 +1,76 @@
 -- The best component of a target is a component of one of its tones, and a judgement names its slot's entries. Assumes nothing.
-use Prim.Native.Nat.{ℕ, ◌+◌, ◌*◌, ◌/◌, ◌<◌}
-use mathlib.Core.Path.{◌≡◌, refl, sym, subst}
-use mathlib.Core.Bool.{Bool, true, false, cond, not, ◌||◌}
-use mathlib.Core.List.{List}
-use native.Mathlib.Omega.{arith}
-use lib.ListN.{get_or}
-use lib.Ieee.{Float, nan, binary64, add, lt, le}
+use Rattle.std.proofs.Common.{ℕ, ◌+◌, ◌*◌, ◌/◌, ◌<◌, ◌≡◌, refl, subst, true, cond, IfSome, List, arith, Float}
+use Rattle.std.proofs.Common.{Option, Some, None}
+use Rattle.std.specs.Float.{binary64}
+use Rattle.std.specs.Float.Ieee.{add, lt, le}
 use Rattle.tonekit_core.proofs.LoopLaws.{range_keeps}
 use Rattle.tonekit_log.specs.Log.{ln_of}
-use Rattle.tonekit_score.specs.Score.{zero32, log_of, no_mixing, mixed, mix_turn, mixture_of, scoring_of}
+use Rattle.tonekit_score.specs.Score.{zero32, log_of, no_mixing, mixed, mix_turn, mixture_with, mixture_of, scoring_of}
 use Rattle.tonekit_shape.specs.declared.ToneShape.{ToneShape}
 use Rattle.tonekit_score.specs.declared.Tolerance.{Tolerance}
 use Rattle.tonekit_score.specs.declared.Scoring.{Scoring}
+use Rattle.tonekit_score.specs.declared.LogSumExp.{LogSumExp}
+use Rattle.tonekit_score.specs.declared.Lead.{Lead}
 use Rattle.tonekit_score.specs.declared.Mixing.{Mixing}
-use Rattle.tonekit_score.specs.declared.Mixture.TheVariants.{Scored, Nothing}
-use Rattle.tonekit_judge.specs.Judge.{Listed, Placed, weighed, part_turn, part_mixing, target_turn, target_mixing, distance_at, part_of, with_best, judged_of, usable, judgement_of}
+use Rattle.tonekit_score.specs.declared.Mixture.TheVariants.{Scored}
+use Rattle.tonekit_judge.specs.Judge.{Listed, Placed, entry_at, target_at, weighed, part_turn, part_mixing, target_turn, target_mixing, distance_at, nearest_at, with_best, judged_of, usable, judgement_of}
+use Rattle.tonekit_judge.specs.declared.Inventory.{Inventory}
 use Rattle.tonekit_judge.specs.declared.Targets.{Targets}
 use Rattle.tonekit_judge.specs.declared.ToneJudgement.{ToneJudgement}
-use Rattle.tonekit_judge.proofs.Slots.{by_bool, slot_of}
+use Rattle.tonekit_judge.proofs.Cells.{by_bool, led_keeps}
 
 -- a slot that is component j of tone t
-pub record Among (tones : ℕ) (counts : List ℕ) (slot : ℕ) : Type 0 where
+pub record Among (i : Inventory) (slot : ℕ) : Type 0 where
   pub tone : ℕ
   pub component : ℕ
-  pub listed : tone < tones
-  pub has : component < get_or counts tone 0
+  pub listed : tone < i.tones
+  pub has : component < (entry_at i tone).count
   pub is : slot ≡ 4 * tone + component
 
--- what is scored was found
-found_of : (b : Bool) (v e ll d2 : Float) (k i : ℕ) → cond b (Scored v k e) Nothing ≡ Scored ll i d2 → b ≡ true
-found_of true v e ll d2 k i p = refl
-found_of false v e ll d2 k i p = let z : ◌≡◌ {A = ℕ} 0 1 = cc in absurd (omega arith)
+module _ (i : Inventory) (s : Scoring) where
+  abbrev Won : Lead → Type 0
+  Won best = Among i best.index
 
-module _ (tones : ℕ) (counts : List ℕ) (s : Scoring) where
   -- what was found so far is one
   abbrev Best : Mixing → Type 0
-  Best m = m.found ≡ true → Among tones counts m.index
+  Best m = IfSome m.best Won
 
-  module _ (m : Mixing) (i : ℕ) (d2 : Float) (b : Best m) (a : Among tones counts i) where
-    -- the first score leads, a later one where it is greater
-    leading : (f l : Bool) → (f ≡ true → Among tones counts m.index) → Among tones counts (cond (not f || l) i m.index)
-    leading false l h = a
-    leading true true h = a
-    leading true false h = h refl
-
-    mixed_best : (score : Float) → Best (mixed m i score d2)
+  module _ (m : Mixing) (slot : ℕ) (d2 : Float) (b : Best m) (a : Among i slot) where
+    mixed_best : (score : Float) → Best (mixed m slot score d2)
     unfolding mixed
-    mixed_best score found = leading m.found (lt m.score score) b
+    mixed_best score = led_keeps Won m.best (record { score = score; index = slot; distance = d2 }) b a
 
-    weighed_best : (w : Float) → Best (weighed s m i w d2)
+    weighed_best : (w : Float) → Best (weighed s m slot w d2)
     unfolding weighed mix_turn
     weighed_best w =
-        by_bool (λ c. Best (cond c (mix_turn s m i w d2) m)) (lt zero32 w)
-        (by_bool (λ c. Best (cond c m (mixed m i (add binary64 (ln_of w) (log_of s d2)) d2))) (le w zero32) b
+        by_bool (λ c. Best (cond c (mix_turn s m slot w d2) m)) (lt zero32 w)
+        (by_bool (λ c. Best (cond c m (mixed m slot (add binary64 (ln_of w) (log_of s d2)) d2))) (le w zero32) b
         (mixed_best (add binary64 (ln_of w) (log_of s d2)))) b
 
+  -- what is scored is the best of those found
+  scored_best : (total : LogSumExp) (best : Option Lead) (ll d2 : Float) (slot : ℕ) → IfSome best Won → mixture_with total best ≡ Scored ll slot d2 → Among i slot
+  scored_best total None ll d2 slot b e = let z : ◌≡◌ {A = ℕ} 0 1 = cc in absurd (omega arith)
+  scored_best total (Some best) ll d2 slot b e = let q : best.index ≡ slot = cc in subst (Among i) q b
+
   module _ (weights : List Float) (d : ℕ → ℕ → Float) where
-    part_best : (t : ℕ) (weight : Float) (m : Mixing) → t < tones → Best m → Best (part_mixing s weights d (get_or counts t 0) t weight m)
+    part_best : (t : ℕ) (weight : Float) (m : Mixing) → t < i.tones → Best m → Best (part_mixing s weights d (entry_at i t).count t weight m)
     unfolding part_mixing
     part_best t weight m h b =
-        range_keeps (part_turn s weights d t weight) (λ j m. Best m) 0 (get_or counts t 0) m (omega arith)
+        range_keeps (part_turn s weights d t weight) (λ j m. Best m) 0 (entry_at i t).count m (omega arith)
         (λ j m l b. weighed_best m (4 * t + j) (d t j) b (record { tone = t; component = j; listed = h; has = l; is = refl }) _) b
 
-    target_best : (g : Targets) → Placed tones g → Best (target_mixing s counts weights d g)
+    target_best : (g : Targets) → Placed i.tones g → Best (target_mixing s i weights d g)
     unfolding target_mixing
     target_best g p =
-        range_keeps (target_turn s counts weights d g.places g.weights) (λ k m. Best m) 0 g.count no_mixing (omega arith)
-        (λ k m h b. part_best (get_or g.places k 0) (get_or g.weights k nan) m (p.each k h) b)
-        (λ e. let z : ◌≡◌ {A = ℕ} 0 1 = cc in absurd (omega arith))
+        range_keeps (target_turn s i weights d g) (λ k m. Best m) 0 g.count no_mixing (omega arith)
+        (λ k m h b. part_best (target_at g k).place (target_at g k).weight m (p.each k h) b) tt
 
-    pub winner_among : (g : Targets) → Placed tones g → (ll d2 : Float) (slot : ℕ) → mixture_of (target_mixing s counts weights d g) ≡ Scored ll slot d2 → Among tones counts slot
+    pub winner_among : (g : Targets) → Placed i.tones g → (ll d2 : Float) (slot : ℕ) → mixture_of (target_mixing s i weights d g) ≡ Scored ll slot d2 → Among i slot
     winner_among g p ll d2 slot e =
-        let m = target_mixing s counts weights d g in
-        subst (Among tones counts) (sym (slot_of m ll d2 slot e)) (target_best g p (found_of m.found _ _ ll d2 m.index slot e))
+        let m = target_mixing s i weights d g in
+        scored_best m.total m.best ll d2 slot (target_best g p) e
 
--- owner, form, label and part of a judgement in which a component won
+-- owner, form, label and part of a judgement in which a component won, and its distance
 module _ (x : ToneShape) (temperature threshold : Float) (t : Tolerance) (l : Listed) (g : Targets) (issues : ℕ) (ok : usable x ≡ true) (ll d2 : Float) (slot : ℕ) where
   abbrev s : Scoring
   s = scoring_of temperature t issues
@@ -82,12 +78,7 @@ module _ (x : ToneShape) (temperature threshold : Float) (t : Tolerance) (l : Li
   abbrev j : ToneJudgement
   j = judgement_of x temperature threshold t l g issues
 
-  pub record Named : Type 0 where
-    pub owner : j.owner ≡ get_or l.inventory.owners (slot / 4) 0
-    pub form : j.form ≡ get_or l.inventory.forms (slot / 4) 0
-    pub label : j.label ≡ get_or l.inventory.labels (slot / 4) 0
-    pub part : j.part ≡ part_of (get_or l.inventory.forms (slot / 4) 0) slot
-
-  pub winner_named : mixture_of (target_mixing s l.inventory.counts l.weights (distance_at x s l.inventory.regions l.points) g) ≡ Scored ll slot d2 → Named
+  pub winner_named : mixture_of (target_mixing s l.inventory l.slots.weights (distance_at x s l.inventory l.slots) g) ≡ Scored ll slot d2
+      → j.nearest ≡ Some (nearest_at (entry_at l.inventory (slot / 4)) slot d2)
   unfolding judgement_of judged_of with_best
-  winner_named e = record { owner = rw (ok, e); form = rw (ok, e); label = rw (ok, e); part = rw (ok, e) }
+  winner_named e = rw (ok, e)

@@ -1,5 +1,5 @@
--- Document 01's bench cases for a judgement, by computing.
-use Rattle.std.specs.Prelude.{ℕ, ◌+◌, ◌≡◌, refl, true, List, [], ◌∷◌, ◌++◌, map, length, replicate, Float}
+-- Worked cases for a judgement and its record, by computing.
+use Rattle.std.specs.Prelude.{ℕ, ◌+◌, ◌≡◌, refl, Some, None, List, [], ◌∷◌, ◌++◌, map, length, replicate, Float}
 use Rattle.std.specs.Float.{binary32}
 use Rattle.std.specs.Float.Ieee.{is_nan, eq, neg, add, sub, mul, div, lt, le, round, of_int, of_bits, to_bits}
 use Rattle.tonekit_core.specs.Loop.{turns, range}
@@ -12,14 +12,17 @@ use Rattle.tonekit_core.specs.Layout.{judgement_delta_count, judgement_first_del
 use Rattle.tonekit_bytes.specs.Fields.{byte_at, u16_at, u32_at, f32s_bytes}
 use Rattle.tonekit_score.specs.Score.{add_to, value_of}
 use Rattle.tonekit_core.specs.declared.DeltaKind.TheVariants.{EndLower, WiderRange}
+use Rattle.tonekit_core.specs.declared.Measured.TheVariants.{Partial}
+use Rattle.tonekit_judge.specs.declared.ToneEntry.{ToneEntry}
+use Rattle.tonekit_judge.specs.declared.Inventory.{Inventory}
 use Rattle.tonekit_judge.specs.declared.ToneJudgement.{ToneJudgement}
 use Rattle.tonekit_judge.specs.Judge.{ranked, ranking_of, heard_of, greatest32, part_of, not_measured}
-use Rattle.tonekit_judge.specs.Record.{delta_count, kind_of, score_bytes, one_bytes, delta_bytes, judgement_bytes}
+use Rattle.tonekit_judge.specs.Record.{delta_count, kind_of, amount_of, nearest_bytes, score_bytes, one_bytes, delta_bytes, judgement_bytes}
 
 -- "Tone 1, accent 1 with a citation, eight voiced frames of 110 Hz, floor NaN: hexadecimal 31 01 01 00 24 74 C9, 54 zero bytes, 02 40 00"
 pub floor_nan : judgement_bytes 1 1 (not_measured 1)
     ≡ (0x31 ∷ 0x01 ∷ 0x01 ∷ 0x00 ∷ 0x24 ∷ 0x74 ∷ 0xc9 ∷ []) ++ (replicate 54 0 ++ (0x02 ∷ 0x40 ∷ 0x00 ∷ []))
-unfolding judgement_bytes not_measured score_bytes one_bytes delta_bytes delta_count kind_of f32s_bytes range turns narrowed round neg of_bits to_bits
+unfolding judgement_bytes not_measured nearest_bytes score_bytes one_bytes delta_bytes delta_count kind_of amount_of f32s_bytes range turns narrowed round neg of_bits to_bits
 floor_nan = refl
 
 -- f32's greatest value is the same number in both formats
@@ -37,7 +40,13 @@ quarter = of_bits binary32 0x3e80_0000
 abbrev zero : Float
 zero = of_bits binary32 0
 
-pub equal_tones : heard_of (7 ∷ 9 ∷ []) quarter (ranking_of 2 (half ∷ half ∷ []) (zero ∷ zero ∷ [])) ≡ 7
+abbrev likely : ℕ → ToneEntry
+likely number = record { number = number; prior = half; region = None; count = 0; owner = 0; form = 0; label = 0 }
+
+abbrev two_tones : Inventory
+two_tones = record { tones = 2; entries = likely 7 ∷ likely 9 ∷ [] }
+
+pub equal_tones : heard_of two_tones quarter (ranking_of two_tones (zero ∷ zero ∷ [])) ≡ 7
 unfolding heard_of ranking_of ranked range turns add_to value_of ln_of exp_of is_nan eq neg add sub mul div lt le round of_int of_bits
 equal_tones = refl
 
@@ -50,7 +59,7 @@ pub single_part : part_of 2 4 ≡ 0
 unfolding part_of
 single_part = refl
 
--- ---- every field of the record: bytes that are their own offsets behind the kind, but for the deltas' count and kinds
+-- ---- every field of the record: bytes that are their own offsets behind the kind, but for the distance's flag, the deltas' count and kinds, and measured
 abbrev f32 : ℕ → Float
 f32 bits = of_bits binary32 bits
 
@@ -60,38 +69,33 @@ judgement49 = record {
       f32 0x0605_0403 ∷ f32 0x0a09_0807 ∷ f32 0x0e0d_0c0b ∷ f32 0x1211_100f ∷
       f32 0x1615_1413 ∷ f32 0x1a19_1817 ∷ f32 0x1e1d_1c1b ∷ f32 0x2221_201f ∷ [];
   llr = f32 0x2625_2423;
-  distanced = 39;
-  distance = f32 0x2b2a_2928;
-  owner = 44;
-  form = 45;
-  label = 0x2f2e;
-  part = 48;
+  nearest = Some (record { distance = f32 0x2b2a_2928; owner = 44; form = 45; label = 0x2f2e; part = 48 });
   heard = 49;
   deltas = record {
-    first = record { some = true; z = f32 0; kind = WiderRange; amount = f32 0x3736_3534 };
-    second = record { some = true; z = f32 0; kind = EndLower; amount = f32 0x3c3b_3a39 };
+    first = Some (record { z = f32 0; kind = WiderRange; amount = f32 0x3736_3534 });
+    second = Some (record { z = f32 0; kind = EndLower; amount = f32 0x3c3b_3a39 });
   };
-  measured = 61;
+  measured = Partial;
   issues = 0x3f3e;
 }
 
 abbrev record49 : List ℕ
 record49 =
     49 ∷ 1 ∷ 2 ∷ 3 ∷ 4 ∷ 5 ∷ 6 ∷ 7 ∷ 8 ∷ 9 ∷ 10 ∷ 11 ∷ 12 ∷ 13 ∷ 14 ∷ 15 ∷ 16 ∷ 17 ∷ 18 ∷ 19 ∷ 20 ∷ 21 ∷ 22 ∷ 23 ∷ 24 ∷
-    25 ∷ 26 ∷ 27 ∷ 28 ∷ 29 ∷ 30 ∷ 31 ∷ 32 ∷ 33 ∷ 34 ∷ 35 ∷ 36 ∷ 37 ∷ 38 ∷ 39 ∷ 40 ∷ 41 ∷ 42 ∷ 43 ∷ 44 ∷ 45 ∷ 46 ∷ 47 ∷ 48 ∷ 49 ∷
-    2 ∷ 7 ∷ 52 ∷ 53 ∷ 54 ∷ 55 ∷ 4 ∷ 57 ∷ 58 ∷ 59 ∷ 60 ∷ 61 ∷ 62 ∷ 63 ∷ []
+    25 ∷ 26 ∷ 27 ∷ 28 ∷ 29 ∷ 30 ∷ 31 ∷ 32 ∷ 33 ∷ 34 ∷ 35 ∷ 36 ∷ 37 ∷ 38 ∷ 1 ∷ 40 ∷ 41 ∷ 42 ∷ 43 ∷ 44 ∷ 45 ∷ 46 ∷ 47 ∷ 48 ∷ 49 ∷
+    2 ∷ 7 ∷ 52 ∷ 53 ∷ 54 ∷ 55 ∷ 4 ∷ 57 ∷ 58 ∷ 59 ∷ 60 ∷ 1 ∷ 62 ∷ 63 ∷ []
 
 pub fields49 : judgement_bytes 1 2 judgement49 ≡ record49
-unfolding judgement_bytes score_bytes one_bytes delta_bytes delta_count kind_of f32s_bytes round of_bits to_bits
+unfolding judgement_bytes nearest_bytes score_bytes one_bytes delta_bytes delta_count kind_of amount_of f32s_bytes round of_bits to_bits
 fields49 = refl
 
 -- read by the names of their offsets
 pub names49 : (map (byte_at record49) (judgement_expected ∷ judgement_tone_count ∷ judgement_distanced ∷ judgement_owner ∷ judgement_form ∷ [])
-    ≡ 1 ∷ 2 ∷ 39 ∷ 44 ∷ 45 ∷ [])
+    ≡ 1 ∷ 2 ∷ 1 ∷ 44 ∷ 45 ∷ [])
     × (map (byte_at record49) (judgement_part ∷ judgement_heard ∷ judgement_delta_count ∷ judgement_first_delta ∷ judgement_second_delta ∷ [])
     ≡ 48 ∷ 49 ∷ 2 ∷ 7 ∷ 4 ∷ [])
     × (map (u32_at record49) (judgement_loglik ∷ judgement_llr ∷ judgement_distance ∷ (judgement_first_delta + delta_amount) ∷ [])
     ≡ 0x0605_0403 ∷ 0x2625_2423 ∷ 0x2b2a_2928 ∷ 0x3736_3534 ∷ [])
-    × (byte_at record49 judgement_measured ≡ 61) × (u16_at record49 judgement_label ≡ 0x2f2e) × (u16_at record49 judgement_issues ≡ 0x3f3e)
-    × (length record49 ≡ judgement_size)
-names49 = (refl, refl, refl, refl, refl, refl, refl)
+    × (byte_at record49 judgement_measured ≡ 1) × (u16_at record49 judgement_label ≡ 0x2f2e) × (u16_at record49 judgement_issues ≡ 0x3f3e)
+    × (length record49 ≡ judgement_size) × (judgement_distanced ≡ 39) × (judgement_measured ≡ 61)
+names49 = (refl, refl, refl, refl, refl, refl, refl, refl, refl)

@@ -1,10 +1,11 @@
 -- `judge` of score.rs: a function of settings, tones, the graded accent's tolerances and the inventory's listings.
-use Rattle.std.specs.Prelude.{ℕ, ◌+◌, ◌*◌, ◌/◌, ◌%◌, ◌≤◌, ◌<◌, ◌≡◌, Bool, true, false, cond, ◌&&◌, List, eqb, length, get_or, set, replicate, take, drop, Float}
+use Rattle.std.specs.Prelude.{ℕ, ◌+◌, ◌*◌, ◌/◌, ◌%◌, ◌≤◌, ◌<◌, ◌≡◌, Bool, cond, ◌&&◌, Option, Some, None, List, ◌++◌, eqb, get_or, set, replicate, take, drop, Float}
+use Rattle.std.specs.List.{list_all}
 use Rattle.std.specs.Float.{nan, binary32, binary64}
 use Rattle.std.specs.Float.Ieee.{neg, add, sub, mul, lt, le, of_bits}
 use Rattle.std.specs.Float.Ieee.Scale.{finite}
 use Rattle.tonekit_core.specs.Loop.{range}
-use Rattle.tonekit_core.specs.Words.{has_issue, measured_number}
+use Rattle.tonekit_core.specs.Words.{has_issue}
 use Rattle.tonekit_core.specs.declared.MeasureIssue.TheVariants.{LowSnr, TooShort}
 use Rattle.tonekit_core.specs.declared.Measured.{Measured}
 use Rattle.tonekit_core.specs.declared.Measured.TheVariants.{Full, Partial, NotMeasured}
@@ -14,62 +15,69 @@ use Rattle.tonekit_root.specs.Root.{root_of}
 use Rattle.tonekit_log.specs.Log.{ln_of}
 use Rattle.tonekit_log.specs.Exp.{exp_of}
 use Rattle.tonekit_shape.specs.declared.ToneShape.{ToneShape}
-use Rattle.tonekit_score.specs.Score.{zero64, zero32, million, empty, add_to, value_of, distance_of, leads, no_mixing, mix_turn, mixture_of, mixture_log, calibrate, clamp_log, scoring_of}
+use Rattle.tonekit_score.specs.Score.{zero64, zero32, million, empty, add_to, value_of, distance_of, no_mixing, led, mix_turn, mixture_of, mixture_log, calibrate, clamp_log, scoring_of}
 use Rattle.tonekit_score.specs.declared.Tolerance.{Tolerance}
-use Rattle.tonekit_score.specs.declared.Region.{Region}
 use Rattle.tonekit_score.specs.declared.Scoring.{Scoring}
 use Rattle.tonekit_score.specs.declared.Mixture.{Mixture}
 use Rattle.tonekit_score.specs.declared.Mixture.TheVariants.{Scored, Nothing}
 use Rattle.tonekit_score.specs.declared.Mixing.{Mixing}
+use Rattle.tonekit_score.specs.declared.Lead.{Lead}
 use Rattle.tonekit_score.specs.declared.LogSumExp.{LogSumExp}
 use Rattle.tonekit_deltas.specs.Deltas.{no_deltas, deltas_of}
 use Rattle.tonekit_deltas.specs.declared.Deltas.{Deltas}
 use Rattle.tonekit_judge.specs.declared.Ranking.{Ranking}
+use Rattle.tonekit_judge.specs.declared.ToneEntry.{ToneEntry}
 use Rattle.tonekit_judge.specs.declared.Inventory.{Inventory}
+use Rattle.tonekit_judge.specs.declared.Slots.{Slots}
+use Rattle.tonekit_judge.specs.declared.Target.{Target}
 use Rattle.tonekit_judge.specs.declared.Targets.{Targets}
+use Rattle.tonekit_judge.specs.declared.Nearest.{Nearest}
 use Rattle.tonekit_judge.specs.declared.ToneJudgement.{ToneJudgement}
 
 -- the components of the inventory: component j of tone t is slot 4 t + j, with a weight and ten points
 pub record Listed : Type 0 where
   pub inventory : Inventory
-  pub weights : List Float
-  pub points : List Float
+  pub slots : Slots
 
--- an inventory with what is lent of its components: weights, and points
-abbrev pub listing : Inventory → List Float → List Float → Listed
-listing i weights points = record { inventory = i; weights = weights; points = points }
+-- an inventory with what is lent of its components
+abbrev pub listing : Inventory → Slots → Listed
+listing i slots = record { inventory = i; slots = slots }
 
--- at most 8 tones, each with at most 4 components
-pub record Counted (tones : ℕ) (counts : List ℕ) : Type 0 where
-  pub few : tones ≤ 8
-  pub each : (t : ℕ) → t < tones → get_or counts t 0 ≤ 4
+-- what a list of entries has past its end, where nothing is read
+abbrev pub no_entry : ToneEntry
+no_entry = record { number = 0; prior = nan; region = None; count = 0; owner = 0; form = 0; label = 0 }
 
--- a listing that a judgement may be made from: its 32 slots are there
-pub record Sound (l : Listed) : Type 0 where
-  pub counted : Counted l.inventory.tones l.inventory.counts
-  pub weighed : length l.weights ≡ 32
-  pub pointed : length l.points ≡ 320
+abbrev pub entry_at : Inventory → ℕ → ToneEntry
+entry_at i t = get_or i.entries t no_entry
+
+-- at most 8 tones, each with at most 4 components: an inventory that a judgement may be made from
+pub record Counted (i : Inventory) : Type 0 where
+  pub few : i.tones ≤ 8
+  pub each : (t : ℕ) → t < i.tones → (entry_at i t).count ≤ 4
+
+-- the same past the end of a list of targets
+abbrev pub no_target : Target
+no_target = record { place = 0; weight = nan }
+
+abbrev pub target_at : Targets → ℕ → Target
+target_at g k = get_or g.list k no_target
 
 -- a target is at most five of the inventory's tones
 pub record Placed (tones : ℕ) (g : Targets) : Type 0 where
   pub few : g.count ≤ 5
-  pub each : (k : ℕ) → k < g.count → get_or g.places k 0 < tones
-
--- what a list of regions has past its end, where nothing is read
-abbrev pub no_region : Region
-no_region = record { flag = 0; from = nan; to = nan }
+  pub each : (k : ℕ) → k < g.count → (target_at g k).place < tones
 
 -- d² of component j of tone t, with that tone's region
-abbrev pub distance_at : ToneShape → Scoring → List Region → List Float → ℕ → ℕ → Float
-distance_at x s regions points t j = distance_of x s (get_or regions t no_region) points (4 * t + j)
+abbrev pub distance_at : ToneShape → Scoring → Inventory → Slots → ℕ → ℕ → Float
+distance_at x s i slots t j = distance_of x s (entry_at i t).region slots.points (4 * t + j)
 
 -- distances that stand in a list, slot by slot
 abbrev pub cell : List Float → ℕ → ℕ → Float
 cell ds t j = get_or ds (4 * t + j) nan
 
 -- a list that has the distance of each component in the slots below n
-pub record Filled (d : ℕ → ℕ → Float) (counts : List ℕ) (n : ℕ) (ds : List Float) : Type 0 where
-  pub at : (t j : ℕ) → j < 4 → j < get_or counts t 0 → 4 * t + j < n → cell ds t j ≡ d t j
+pub record Filled (d : ℕ → ℕ → Float) (i : Inventory) (n : ℕ) (ds : List Float) : Type 0 where
+  pub at : (t j : ℕ) → j < 4 → j < (entry_at i t).count → 4 * t + j < n → cell ds t j ≡ d t j
 
 -- the mixture of tone t; here and below d gives the squared distance of each component
 abbrev pub tone_turn : Scoring → List Float → (ℕ → ℕ → Float) → ℕ → ℕ → Mixing → Mixing
@@ -79,41 +87,42 @@ unfoldable pub tone_mixing : Scoring → List Float → (ℕ → ℕ → Float) 
 tone_mixing s weights d count t = range (tone_turn s weights d t) 0 count no_mixing
 
 -- the calibrated log-likelihoods under every tone, the unused 0
-unfoldable pub loglik_at : Scoring → List ℕ → List Float → (ℕ → ℕ → Float) → ℕ → Float
-loglik_at s counts weights d t = calibrate s (mixture_log (mixture_of (tone_mixing s weights d (get_or counts t 0) t)))
+unfoldable pub loglik_at : Scoring → Inventory → List Float → (ℕ → ℕ → Float) → ℕ → Float
+loglik_at s i weights d t = calibrate s (mixture_log (mixture_of (tone_mixing s weights d (entry_at i t).count t)))
 
-abbrev pub loglik_turn : Scoring → List ℕ → List Float → (ℕ → ℕ → Float) → ℕ → List Float → List Float
-loglik_turn s counts weights d t ll = set ll t (loglik_at s counts weights d t)
+abbrev pub loglik_turn : Scoring → Inventory → List Float → (ℕ → ℕ → Float) → ℕ → List Float → List Float
+loglik_turn s i weights d t ll = set ll t (loglik_at s i weights d t)
 
-unfoldable pub logliks : Scoring → ℕ → List ℕ → List Float → (ℕ → ℕ → Float) → List Float
-logliks s tones counts weights d = range (loglik_turn s counts weights d) 0 tones (replicate 8 zero32)
+unfoldable pub logliks : Scoring → Inventory → List Float → (ℕ → ℕ → Float) → List Float
+logliks s i weights d = range (loglik_turn s i weights d) 0 i.tones (replicate 8 zero32)
 
 -- background and posterior: score = ln prior + log-likelihood; the first of equal scores is the top
 abbrev pub no_ranking : Ranking
-no_ranking = record { background = empty; found = false; score = zero64; index = 0 }
+no_ranking = record { background = empty; top = None }
 
 unfoldable pub ranked : Ranking → ℕ → Float → Ranking
-ranked r t score =
-    let top = leads r.found r.score score in
-    record {
-      background = add_to r.background score;
-      found = true;
-      score = cond top score r.score;
-      index = cond top t r.index;
-    }
+ranked r t score = record {
+  background = add_to r.background score;
+  top = Some (led r.top (record { score = score; index = t; distance = zero64 }));
+}
 
-abbrev pub rank_turn : List Float → List Float → ℕ → Ranking → Ranking
-rank_turn priors ll t r = ranked r t (add binary64 (ln_of (get_or priors t nan)) (get_or ll t nan))
+abbrev pub score_at : Inventory → List Float → ℕ → Float
+score_at i ll t = add binary64 (ln_of (entry_at i t).prior) (get_or ll t nan)
 
-unfoldable pub ranking_of : ℕ → List Float → List Float → Ranking
-ranking_of tones priors ll = range (rank_turn priors ll) 0 tones no_ranking
+abbrev pub rank_turn : Inventory → List Float → ℕ → Ranking → Ranking
+rank_turn i ll t r = ranked r t (score_at i ll t)
+
+unfoldable pub ranking_of : Inventory → List Float → Ranking
+ranking_of i ll = range (rank_turn i ll) 0 i.tones no_ranking
 
 -- heard: the top tone, where its posterior reaches the threshold; 0 none
-unfoldable pub heard_of : List ℕ → Float → Ranking → ℕ
-heard_of numbers threshold r =
-    cond (r.found && le threshold (exp_of (sub binary64 r.score (value_of r.background))))
-    (get_or numbers r.index 0)
-    0
+abbrev pub heard_at : Inventory → Float → LogSumExp → Option Lead → ℕ
+heard_at i threshold background None = 0
+heard_at i threshold background (Some top) =
+    cond (le threshold (exp_of (sub binary64 top.score (value_of background)))) (entry_at i top.index).number 0
+
+unfoldable pub heard_of : Inventory → Float → Ranking → ℕ
+heard_of i threshold r = heard_at i threshold r.background r.top
 
 -- "`expect` weighs variants in f32 and drops products not above 0"
 unfoldable pub weighed : Scoring → Mixing → ℕ → Float → Float → Mixing
@@ -126,12 +135,13 @@ part_turn s weights d t weight j m = weighed s m (4 * t + j) (mul binary32 (get_
 unfoldable pub part_mixing : Scoring → List Float → (ℕ → ℕ → Float) → ℕ → ℕ → Float → Mixing → Mixing
 part_mixing s weights d count t weight m = range (part_turn s weights d t weight) 0 count m
 
-abbrev pub target_turn : Scoring → List ℕ → List Float → (ℕ → ℕ → Float) → List ℕ → List Float → ℕ → Mixing → Mixing
-target_turn s counts weights d places shares k m =
-    part_mixing s weights d (get_or counts (get_or places k 0) 0) (get_or places k 0) (get_or shares k nan) m
+abbrev pub target_turn : Scoring → Inventory → List Float → (ℕ → ℕ → Float) → Targets → ℕ → Mixing → Mixing
+target_turn s i weights d g k m =
+    let target = target_at g k in
+    part_mixing s weights d (entry_at i target.place).count target.place target.weight m
 
-unfoldable pub target_mixing : Scoring → List ℕ → List Float → (ℕ → ℕ → Float) → Targets → Mixing
-target_mixing s counts weights d g = range (target_turn s counts weights d g.places g.weights) 0 g.count no_mixing
+unfoldable pub target_mixing : Scoring → Inventory → List Float → (ℕ → ℕ → Float) → Targets → Mixing
+target_mixing s i weights d g = range (target_turn s i weights d g) 0 g.count no_mixing
 
 -- the target against the background, both calibrated
 unfoldable pub llr_of : Scoring → Mixture → LogSumExp → Float
@@ -144,20 +154,15 @@ measured_of issues = cond (eqb issues 0) Full Partial
 -- what is said where there is no best component
 unfoldable pub plain_of : Scoring → Float → Inventory → List Float → (ℕ → ℕ → Float) → Mixture → ℕ → ToneJudgement
 plain_of s threshold i weights d m issues =
-    let ll = logliks s i.tones i.counts weights d in
-    let r = ranking_of i.tones i.priors ll in
+    let ll = logliks s i weights d in
+    let r = ranking_of i ll in
     record {
       loglik = ll;
       llr = llr_of s m r.background;
-      distanced = 0;
-      distance = zero32;
-      owner = 0;
-      form = 0;
-      label = 0;
-      part = 0;
-      heard = heard_of i.numbers threshold r;
+      nearest = None;
+      heard = heard_of i threshold r;
       deltas = no_deltas;
-      measured = measured_number (measured_of issues);
+      measured = measured_of issues;
       issues = issues;
     }
 
@@ -182,45 +187,50 @@ advice_of x s t points slot issues =
 unfoldable pub part_of : ℕ → ℕ → ℕ
 part_of form slot = cond (eqb form 3) (slot % 4) 0
 
--- the best component of the target, its distance and its deltas
-unfoldable pub with_best : ToneShape → Scoring → Tolerance → Inventory → List Float → ℕ → ToneJudgement → ℕ → Float → ToneJudgement
-with_best x s t i points issues j slot d2 =
-    record {
-      loglik = j.loglik;
-      llr = j.llr;
-      distanced = 1;
-      distance = distance_from d2;
-      owner = get_or i.owners (slot / 4) 0;
-      form = get_or i.forms (slot / 4) 0;
-      label = get_or i.labels (slot / 4) 0;
-      part = part_of (get_or i.forms (slot / 4) 0) slot;
-      heard = j.heard;
-      deltas = advice_of x s t points slot issues;
-      measured = j.measured;
-      issues = j.issues;
-    }
+-- what is said of the best component of the target, which stands at a slot of that tone's entry
+unfoldable pub nearest_at : ToneEntry → ℕ → Float → Nearest
+nearest_at e slot d2 = record {
+  distance = distance_from d2;
+  owner = e.owner;
+  form = e.form;
+  label = e.label;
+  part = part_of e.form slot;
+}
+
+-- the best component, and the deltas against it
+unfoldable pub with_best : ToneShape → Scoring → Tolerance → Listed → ToneJudgement → ℕ → Float → ToneJudgement
+with_best x s t l j slot d2 = record {
+  loglik = j.loglik;
+  llr = j.llr;
+  nearest = Some (nearest_at (entry_at l.inventory (slot / 4)) slot d2);
+  heard = j.heard;
+  deltas = advice_of x s t l.slots.points slot j.issues;
+  measured = j.measured;
+  issues = j.issues;
+}
 
 -- nothing of these where there is nothing to score
-abbrev pub best_of : ToneShape → Scoring → Tolerance → Listed → ℕ → ToneJudgement → Mixture → ToneJudgement
-best_of x s t l issues j Nothing = j
-best_of x s t l issues j (Scored ll slot d2) = with_best x s t l.inventory l.points issues j slot d2
+abbrev pub best_of : ToneShape → Scoring → Tolerance → Listed → ToneJudgement → Mixture → ToneJudgement
+best_of x s t l j Nothing = j
+best_of x s t l j (Scored ll slot d2) = with_best x s t l j slot d2
 
 -- a judgement of a usable shape
 unfoldable pub judged_of : ToneShape → Scoring → Float → Tolerance → Listed → (ℕ → ℕ → Float) → Targets → ℕ → ToneJudgement
 judged_of x s threshold t l d g issues =
-    let m = mixture_of (target_mixing s l.inventory.counts l.weights d g) in
-    best_of x s t l issues (plain_of s threshold l.inventory l.weights d m issues) m
+    let m = mixture_of (target_mixing s l.inventory l.slots.weights d g) in
+    best_of x s t l (plain_of s threshold l.inventory l.slots.weights d m issues) m
 
 -- each component at its distance from the shape
 abbrev pub judged_against : ToneShape → Scoring → Float → Tolerance → Listed → Targets → ℕ → ToneJudgement
-judged_against x s threshold t l g issues = judged_of x s threshold t l (distance_at x s l.inventory.regions l.points) g issues
+judged_against x s threshold t l g issues = judged_of x s threshold t l (distance_at x s l.inventory l.slots) g issues
+
+-- the first ten of a list, which a shape's have
+abbrev pub ten_of : List Float → List Float
+ten_of xs = take 10 (xs ++ replicate 10 nan)
 
 -- `check_shape`: usable where every point of the contour and every weight is finite
-abbrev pub usable_turn : List Float → List Float → ℕ → Bool → Bool
-usable_turn contour weights k ok = ok && (finite (get_or contour k nan) && finite (get_or weights k nan))
-
 unfoldable pub usable : ToneShape → Bool
-usable x = range (usable_turn x.contour x.weights) 0 10 true
+usable x = list_all finite (ten_of x.contour) && list_all finite (ten_of x.weights)
 
 -- a shape that is not usable: every log-likelihood −1,000,000; "not measured puts InvalidEvidence only", which is bit 6
 abbrev pub lowest_turn : ℕ → List Float → List Float
@@ -230,15 +240,10 @@ unfoldable pub not_measured : ℕ → ToneJudgement
 not_measured tones = record {
   loglik = range lowest_turn 0 tones (replicate 8 zero32);
   llr = zero32;
-  distanced = 0;
-  distance = zero32;
-  owner = 0;
-  form = 0;
-  label = 0;
-  part = 0;
+  nearest = None;
   heard = 0;
   deltas = no_deltas;
-  measured = measured_number NotMeasured;
+  measured = NotMeasured;
   issues = 64;
 }
 

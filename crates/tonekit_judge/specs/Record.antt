@@ -1,38 +1,49 @@
--- Document 01's record of a judgement, kind 49.
-use Rattle.std.specs.Prelude.{ℕ, ◌+◌, Bool, cond, List, [], ◌∷◌, ◌++◌}
+-- The record of a judgement, kind 49.
+use Rattle.std.specs.Prelude.{ℕ, ◌+◌, Bool, cond, Option, Some, None, is_some, unwrap_or, List, [], ◌∷◌, ◌++◌, Float}
 use Rattle.tonekit_core.specs.Layout.{judgement_kind}
-use Rattle.tonekit_core.specs.Words.{delta_number}
+use Rattle.tonekit_core.specs.Words.{delta_number, measured_number}
 use Rattle.tonekit_bytes.specs.Fields.{le16, f32_bytes, f32s_bytes}
+use Rattle.tonekit_score.specs.Score.{zero32}
 use Rattle.tonekit_deltas.specs.declared.Delta.{Delta}
 use Rattle.tonekit_deltas.specs.declared.Deltas.{Deltas}
+use Rattle.tonekit_judge.specs.declared.Nearest.{Nearest}
 use Rattle.tonekit_judge.specs.declared.ToneJudgement.{ToneJudgement}
 
--- a delta's kind, 0 where there is none; its amount is 0 then too
-unfoldable pub kind_of : Delta → ℕ
-kind_of d = cond d.some (delta_number d.kind) 0
+-- a delta's kind and its amount, both 0 where there is none
+unfoldable pub kind_of : Option Delta → ℕ
+kind_of None = 0
+kind_of (Some d) = delta_number d.kind
+
+unfoldable pub amount_of : Option Delta → Float
+amount_of None = zero32
+amount_of (Some d) = d.amount
 
 -- how many there are
 abbrev pub one_if : Bool → ℕ
 one_if b = cond b 1 0
 
 unfoldable pub delta_count : Deltas → ℕ
-delta_count ds = one_if ds.first.some + one_if ds.second.some
+delta_count ds = one_if (is_some ds.first) + one_if (is_some ds.second)
 
 -- kind, expected, tone count
 abbrev pub head_bytes : ℕ → ℕ → List ℕ
 head_bytes expected tones = judgement_kind ∷ expected ∷ tones ∷ []
 
--- llr, distance flag and value, owner, form, label, part, heard
+-- distance, owner, form, label and part: 0 where there is no best component
+abbrev pub no_nearest : Nearest
+no_nearest = record { distance = zero32; owner = 0; form = 0; label = 0; part = 0 }
+
+-- distance flag and value, owner, form, label, part
+unfoldable pub nearest_bytes : ℕ → Nearest → List ℕ
+nearest_bytes flag n = (flag ∷ []) ++ (f32_bytes n.distance ++ ((n.owner ∷ n.form ∷ []) ++ (le16 n.label ++ (n.part ∷ []))))
+
+-- llr, the best component, heard
 unfoldable pub score_bytes : ToneJudgement → List ℕ
-score_bytes j =
-    f32_bytes j.llr
-    ++ ((j.distanced ∷ [])
-    ++ (f32_bytes j.distance
-    ++ ((j.owner ∷ j.form ∷ []) ++ (le16 j.label ++ (j.part ∷ j.heard ∷ [])))))
+score_bytes j = f32_bytes j.llr ++ (nearest_bytes (one_if (is_some j.nearest)) (unwrap_or j.nearest no_nearest) ++ (j.heard ∷ []))
 
 -- a delta: kind and amount
-unfoldable pub one_bytes : Delta → List ℕ
-one_bytes d = (kind_of d ∷ []) ++ f32_bytes d.amount
+unfoldable pub one_bytes : Option Delta → List ℕ
+one_bytes d = (kind_of d ∷ []) ++ f32_bytes (amount_of d)
 
 -- delta count, two deltas
 unfoldable pub delta_bytes : Deltas → List ℕ
@@ -46,4 +57,4 @@ tail_bytes measured issues = (measured ∷ []) ++ le16 issues
 unfoldable pub judgement_bytes : ℕ → ℕ → ToneJudgement → List ℕ
 judgement_bytes expected tones j =
     head_bytes expected tones
-    ++ (f32s_bytes j.loglik ++ (score_bytes j ++ (delta_bytes j.deltas ++ tail_bytes j.measured j.issues)))
+    ++ (f32s_bytes j.loglik ++ (score_bytes j ++ (delta_bytes j.deltas ++ tail_bytes (measured_number j.measured) j.issues)))

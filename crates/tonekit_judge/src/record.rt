@@ -1,45 +1,54 @@
 // The record of a judgement, kind 49.
 ghost use Rattle.std.specs.Prelude.{◌≡◌, ◌+◌, ◌≤◌, length};
 ghost use Rattle.std.proofs.lemmas.List.Edits.{sets};
-ghost use Rattle.tonekit_core.specs.Layout.{judgement_size, judgement_llr, judgement_delta_count, judgement_measured, delta_size};
-ghost use Rattle.tonekit_judge.specs.Record.{kind_of, delta_count, head_bytes, score_bytes, one_bytes, delta_bytes, tail_bytes, judgement_bytes};
+ghost use Rattle.tonekit_core.specs.Layout.{judgement_llr, judgement_distanced, judgement_delta_count, judgement_measured, delta_size};
+ghost use Rattle.tonekit_judge.specs.Record.{kind_of, amount_of, delta_count, head_bytes, nearest_bytes, score_bytes, one_bytes, delta_bytes, tail_bytes, judgement_bytes};
 
-use crate::ToneJudgement;
+use crate::{Nearest, ToneJudgement};
 use tonekit_core::layout;
 use tonekit_deltas::{Delta, Deltas};
 
+// What a record has of the best component where there is none.
+const NO_NEAREST: Nearest = Nearest {
+    distance: 0.0,
+    owner: 0,
+    form: 0,
+    label: 0,
+    part: 0,
+};
+
 // The number of a delta's kind, 0 where there is none.
-fn kind_of(d: Delta) -> u8
+#[tactic(auto, unfolding(crate::specs::Record::kind_of))]
+fn kind_of(d: Option<Delta>) -> u8
     ensures { result ≡ kind_of d }
 {
-    let kind = d.kind;
-    if d.some {
-        return tonekit_core::delta_number(kind);
+    match d {
+        Some(d) => u8::from(d.kind),
+        None => 0,
     }
-    0
+}
+
+// A delta's amount, 0 where there is none.
+#[tactic(auto, unfolding(crate::specs::Record::amount_of))]
+fn amount_of(d: Option<Delta>) -> f32
+    ensures { result ≡ amount_of d }
+{
+    match d {
+        Some(d) => d.amount,
+        None => 0.0,
+    }
 }
 
 // How many deltas there are.
+#[tactic(auto, unfolding(crate::specs::Record::delta_count))]
 fn delta_count(ds: Deltas) -> u8
     ensures { result ≡ delta_count ds }
 {
-    let first = ds.first;
-    let second = ds.second;
-    if first.some {
-        if second.some {
-            return 2;
-        }
-        return 1;
-    }
-    if second.some {
-        return 1;
-    }
-    0
+    u8::from(ds.first.is_some()) + u8::from(ds.second.is_some())
 }
 
 // Writes kind, expected tone and tone count.
-fn put_head(out: &mut [u8], expected: u8, tones: u8)
-    requires { judgement_size ≤ length out.old }
+fn put_head(out: &mut [u8; layout::JUDGEMENT_SIZE], expected: u8, tones: u8)
     ensures { out.new ≡ sets out.old 0 (head_bytes expected tones) }
 {
     tonekit_bytes::put_u8(out, 0, layout::JUDGEMENT_KIND);
@@ -47,45 +56,51 @@ fn put_head(out: &mut [u8], expected: u8, tones: u8)
     tonekit_bytes::put_u8(out, layout::JUDGEMENT_TONE_COUNT, tones);
 }
 
-// Writes llr, distance, component and heard.
-fn put_scores(out: &mut [u8], j: ToneJudgement)
-    requires { judgement_size ≤ length out.old }
+// Writes what is said of the best component, behind a flag.
+#[tactic(auto, unfolding(crate::specs::Record::nearest_bytes))]
+fn put_nearest(out: &mut [u8; layout::JUDGEMENT_SIZE], flag: u8, n: Nearest)
+    ensures { out.new ≡ sets out.old judgement_distanced (nearest_bytes flag n) }
+{
+    tonekit_bytes::put_u8(out, layout::JUDGEMENT_DISTANCED, flag);
+    tonekit_bytes::put_f32(out, layout::JUDGEMENT_DISTANCE, n.distance);
+    tonekit_bytes::put_u8(out, layout::JUDGEMENT_OWNER, n.owner);
+    tonekit_bytes::put_u8(out, layout::JUDGEMENT_FORM, n.form);
+    tonekit_bytes::put_u16(out, layout::JUDGEMENT_LABEL, n.label);
+    tonekit_bytes::put_u8(out, layout::JUDGEMENT_PART, n.part);
+}
+
+// Writes llr, the best component and heard.
+#[tactic(auto, unfolding(crate::specs::Record::score_bytes, crate::specs::Record::nearest_bytes))]
+fn put_scores(out: &mut [u8; layout::JUDGEMENT_SIZE], j: ToneJudgement)
     ensures { out.new ≡ sets out.old judgement_llr (score_bytes j) }
 {
     tonekit_bytes::put_f32(out, layout::JUDGEMENT_LLR, j.llr);
-    tonekit_bytes::put_u8(out, layout::JUDGEMENT_DISTANCED, j.distanced);
-    tonekit_bytes::put_f32(out, layout::JUDGEMENT_DISTANCE, j.distance);
-    tonekit_bytes::put_u8(out, layout::JUDGEMENT_OWNER, j.owner);
-    tonekit_bytes::put_u8(out, layout::JUDGEMENT_FORM, j.form);
-    tonekit_bytes::put_u16(out, layout::JUDGEMENT_LABEL, j.label);
-    tonekit_bytes::put_u8(out, layout::JUDGEMENT_PART, j.part);
+    let flag = u8::from(j.nearest.is_some());
+    put_nearest(out, flag, j.nearest.unwrap_or(NO_NEAREST));
     tonekit_bytes::put_u8(out, layout::JUDGEMENT_HEARD, j.heard);
 }
 
 // Writes a delta's kind and amount at an index.
-fn put_delta(out: &mut [u8], at: usize, d: Delta)
+fn put_delta(out: &mut [u8], at: usize, d: Option<Delta>)
     requires { at + delta_size ≤ length out.old }
     ensures { out.new ≡ sets out.old at (one_bytes d) }
 {
     tonekit_bytes::put_u8(out, at, kind_of(d));
-    tonekit_bytes::put_f32(out, at + layout::DELTA_AMOUNT, d.amount);
+    tonekit_bytes::put_f32(out, at + layout::DELTA_AMOUNT, amount_of(d));
 }
 
 // Writes the count of deltas, and the two.
-fn put_deltas(out: &mut [u8], ds: Deltas)
-    requires { judgement_size ≤ length out.old }
+#[tactic(auto, unfolding(crate::specs::Record::delta_bytes, crate::specs::Record::one_bytes))]
+fn put_deltas(out: &mut [u8; layout::JUDGEMENT_SIZE], ds: Deltas)
     ensures { out.new ≡ sets out.old judgement_delta_count (delta_bytes ds) }
 {
-    let first = ds.first;
-    let second = ds.second;
     tonekit_bytes::put_u8(out, layout::JUDGEMENT_DELTA_COUNT, delta_count(ds));
-    put_delta(out, layout::JUDGEMENT_FIRST_DELTA, first);
-    put_delta(out, layout::JUDGEMENT_SECOND_DELTA, second);
+    put_delta(out, layout::JUDGEMENT_FIRST_DELTA, ds.first);
+    put_delta(out, layout::JUDGEMENT_SECOND_DELTA, ds.second);
 }
 
 // Writes measured and issues.
-fn put_tail(out: &mut [u8], measured: u8, issues: u16)
-    requires { judgement_size ≤ length out.old }
+fn put_tail(out: &mut [u8; layout::JUDGEMENT_SIZE], measured: u8, issues: u16)
     ensures { out.new ≡ sets out.old judgement_measured (tail_bytes measured issues) }
 {
     tonekit_bytes::put_u8(out, layout::JUDGEMENT_MEASURED, measured);
@@ -93,17 +108,14 @@ fn put_tail(out: &mut [u8], measured: u8, issues: u16)
 }
 
 // Writes the record of a judgement.
-fn put_judgement(out: &mut [u8], expected: u8, tones: u8, j: ToneJudgement)
-    requires { judgement_size ≤ length out.old }
+fn put_judgement(out: &mut [u8; layout::JUDGEMENT_SIZE], expected: u8, tones: u8, j: ToneJudgement)
     ensures { out.new ≡ sets out.old 0 (judgement_bytes expected tones j) }
 {
-    let loglik = j.loglik;
-    let deltas = j.deltas;
     put_head(out, expected, tones);
-    tonekit_bytes::put_f32s(out, layout::JUDGEMENT_LOGLIK, &loglik);
+    tonekit_bytes::put_f32s(out, layout::JUDGEMENT_LOGLIK, &j.loglik);
     put_scores(out, j);
-    put_deltas(out, deltas);
-    put_tail(out, j.measured, j.issues);
+    put_deltas(out, j.deltas);
+    put_tail(out, u8::from(j.measured), j.issues);
 }
 
 // The record of a judgement, kind 49, with the number of the expected tone and the count of tones.

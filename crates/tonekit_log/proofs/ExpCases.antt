@@ -1,11 +1,11 @@
 -- The powers of two by their patterns, and what `exp` returns.
-use Rattle.std.proofs.Common.{◌≡◌, ℕ, zero, suc, ◌+◌, ◌-◌, ◌*◌, ◌^◌, ◌<◌, ◌≤◌, true, false, T, ltb, leb, ℤ, pos, negsuc, neg_ℤ, sym, refl, ap, ◌∙◌, le_trans, le_of_eq, lt_of_lt_of_le, lt_of_le_of_lt, lt_irrefl, mul_comm, mul-le-mul_left, one-mul, mul-one, arith, lit<, le→leb, lt→ltb, pow_pos, pow_mono, pow-add}
-use lib.Ieee.{Float, nan, inf, fin, binary64, mul, sub, neg, lt, is_nan, fits, of_bits, of_int}
+use Rattle.std.proofs.Common.{Bool, cond, ◌+ℤ◌, ◌≤ℤ◌, w64, to_z, of_z, to_z-of_z, le-ltb, leb→le, ◌≡◌, ℕ, suc, ◌+◌, ◌-◌, ◌*◌, ◌^◌, ◌≤◌, true, false, T, ltb, leb, ℤ, pos, negsuc, neg_ℤ, sym, refl, ap, ◌∙◌, le_trans, le_of_eq, lt_of_lt_of_le, lt_of_le_of_lt, mul_comm, mul-le-mul_left, one-mul, mul-one, arith, lit<, le→leb, lt→ltb, pow_pos, pow_mono, pow-add, nat_abs, Float}
+use mir.Facts.{to_z_pos}
+use lib.Ieee.{nan, inf, fin, binary64, mul, sub, neg, lt, is_nan, fits, of_bits, of_int}
 use lib.Ieee.Fits.{and_i}
 use lib.Ieee.Bits.{of_bits-fits}
 use Rattle.tonekit_float.proofs.Units.{unique}
 use Rattle.tonekit_float.proofs.NarrowRound.{L}
-use Rattle.tonekit_float.proofs.Monotone.{round_neg}
 use Rattle.tonekit_float.proofs.Order.{yes}
 use Rattle.tonekit_float.proofs.Patterns.{power_value}
 use Rattle.tonekit_log.specs.Constants.{LN2, bound}
@@ -53,10 +53,6 @@ power_down k h =
     join k h = omega arith
 
 -- ---- what exp returns
-neg_int : (k : ℕ) → neg (of_int binary64 (pos (suc k))) ≡ of_int binary64 (negsuc k)
-unfolding of_int
-neg_int k = round_neg binary64 false (suc k) 1
-
 pub exp_is : (v : Float) → is_nan v ≡ false → lt v (neg bound) ≡ false → lt bound v ≡ false → exp_of v ≡ exp_by v (floor_of (turns v))
 unfolding exp_of
 exp_is v a b c = rw (a, b, c)
@@ -68,18 +64,52 @@ by : (v : Float) (n : ℤ) → exp_by v n ≡ Result v (of_int binary64 n) (fin 
 unfolding exp_by
 by v n = refl
 
-pub up_result : (v : Float) (n : ℕ) → is_nan v ≡ false → lt v (neg bound) ≡ false → lt bound v ≡ false → floor_of (turns v) ≡ pos n → n ≤ 1023
-    → Result v (of_int binary64 (pos n)) (of_bits binary64 ((1023 + n) * 2 ^ 52)) ≡ exp_of v
-up_result v n a b c f h =
-    ap (λ (p : Float). Result v (of_int binary64 (pos n)) p) (power_up n h) ∙ sym (by v (pos n)) ∙ ap (λ (z : ℤ). exp_by v z) (sym f) ∙ sym (exp_is v a b c)
+-- the exponent's field of 2 ^ n, as the code finds it
+abbrev pub field_of : ℤ → ℕ
+field_of n = nat_abs (to_z w64 (of_z w64 (pos 1023 +ℤ to_z w64 (of_z w64 n))))
 
-pub down_result : (v : Float) (n : ℕ) → is_nan v ≡ false → lt v (neg bound) ≡ false → lt bound v ≡ false → floor_of (turns v) ≡ neg_ℤ (pos n) → 0 < n → n ≤ 1022
-    → Result v (neg (of_int binary64 (pos n))) (of_bits binary64 ((1023 - n) * 2 ^ 52)) ≡ exp_of v
-down_result v zero a b c f p h = absurd (lt_irrefl 0 p)
-down_result v (suc k) a b c f p h =
-    ap (λ (n : Float). Result v n (of_bits binary64 ((1023 - suc k) * 2 ^ 52))) (neg_int k)
-    ∙ ap (λ (p : Float). Result v (of_int binary64 (negsuc k)) p) (power_down k h)
-    ∙ sym (by v (negsuc k)) ∙ ap (λ (z : ℤ). exp_by v z) (sym f) ∙ sym (exp_is v a b c)
+field_up : (n : ℕ) → n ≤ 1022 → field_of (pos n) ≡ 1023 + n
+field_up n h =
+    ap (λ (z : ℤ). nat_abs (to_z w64 (of_z w64 (pos 1023 +ℤ z)))) (to_z_pos w64 {n = n} (omega arith))
+    ∙ ap nat_abs (to_z_pos w64 {n = 1023 + n} (omega arith))
+
+field_down : (k : ℕ) → suc k ≤ 1022 → field_of (negsuc k) ≡ 1023 - suc k
+field_down k h =
+    ap (λ (z : ℤ). nat_abs (to_z w64 (of_z w64 (pos 1023 +ℤ z)))) (to_z-of_z {w = w64} {z = negsuc k} (record { sfits = omega arith }))
+    ∙ ap (λ (b : Bool). nat_abs (to_z w64 (of_z w64 (cond b (negsuc (suc k - 1024)) (pos (1023 - suc k)))))) (le-ltb 1023 (suc k) (omega arith))
+    ∙ ap nat_abs (to_z_pos w64 {n = 1023 - suc k} (omega arith))
+
+-- n lies from -1022 to 1022
+abbrev pub Small : ℤ → Type 0
+Small n = (neg_ℤ (pos 1022) ≤ℤ n) × (n ≤ℤ pos 1022)
+
+up_small : (n : ℕ) → pos n ≤ℤ pos 1022 → n ≤ 1022
+up_small n h = leb→le n 1022 h.le
+
+down_small : (k : ℕ) → neg_ℤ (pos 1022) ≤ℤ negsuc k → suc k ≤ 1022
+down_small k h = let z = leb→le k 1021 h.le in omega arith
+
+pub field_small : (n : ℤ) → Small n → field_of n ≤ 2045
+field_small (pos n) h = let z = up_small n h.1 in let e = field_up n z in omega arith
+field_small (negsuc k) h = let z = down_small k h.0 in let e = field_down k z in omega arith
+
+pub power_is : (n : ℤ) → Small n → of_bits binary64 (field_of n * 2 ^ 52) ≡ fin false 1 n
+power_is (pos n) h = let z = up_small n h.1 in ap (λ (k : ℕ). of_bits binary64 (k * 2 ^ 52)) (field_up n z) ∙ power_up n (omega arith)
+power_is (negsuc k) h = let z = down_small k h.0 in ap (λ (k : ℕ). of_bits binary64 (k * 2 ^ 52)) (field_down k z) ∙ power_down k z
+
+-- n out of the bits that the code keeps
+abbrev pub kept : ℤ → ℤ
+kept n = to_z w64 (of_z w64 n)
+
+kept_is : (n : ℤ) → Small n → kept n ≡ n
+kept_is (pos n) h = let z = up_small n h.1 in to_z_pos w64 {n = n} (omega arith)
+kept_is (negsuc k) h = let z = down_small k h.0 in to_z-of_z {w = w64} {z = negsuc k} (record { sfits = omega arith })
+
+pub result_is : (v : Float) (n : ℤ) → is_nan v ≡ false → lt v (neg bound) ≡ false → lt bound v ≡ false → n ≡ floor_of (turns v) → Small n
+    → Result v (of_int binary64 (kept n)) (of_bits binary64 (field_of n * 2 ^ 52)) ≡ exp_of v
+result_is v n a b c f h =
+    ap (λ (z : ℤ). Result v (of_int binary64 z) (of_bits binary64 (field_of n * 2 ^ 52))) (kept_is n h)
+    ∙ ap (λ (p : Float). Result v (of_int binary64 n) p) (power_is n h) ∙ sym (by v n) ∙ ap (λ (z : ℤ). exp_by v z) f ∙ sym (exp_is v a b c)
 
 pub nan_result : (v : Float) → is_nan v ≡ true → v ≡ exp_of v
 unfolding is_nan exp_of

@@ -1,7 +1,7 @@
 -- The whole number at or below a t from -1022 up and below 0.
-use Rattle.std.proofs.Common.{◌≡◌, ℕ, ◌+◌, ◌-◌, ◌*◌, ◌/◌, ◌^◌, ◌<◌, ◌≤◌, true, false, T, ℤ, pos, neg_ℤ, sym, refl, ap, ◌∙◌, subst, true≢false, le_trans, le_of_eq, lt_of_le_of_lt, lt_irrefl, div-lt_iff_lt-mul, add-mul, le_antisymm, lt_of_mul-lt-mul_right, le-div_iff_mul-le, mul-one, mul_right_comm, div-mul-le_self, le_of_mul-le-mul_right, arith, ltb→lt, lt→ltb, nltb→le}
+use Rattle.std.proofs.Common.{◌≡◌, ℕ, ◌+◌, ◌-◌, ◌*◌, ◌/◌, ◌^◌, ◌<◌, ◌≤◌, true, false, T, ℤ, pos, neg_ℤ, sym, refl, ap, ◌∙◌, subst, true≢false, le_trans, le_of_eq, lt_of_le_of_lt, lt_irrefl, div-lt_iff_lt-mul, add-mul, le_antisymm, lt_of_mul-lt-mul_right, le-div_iff_mul-le, mul-one, mul_right_comm, div-mul-le_self, le_of_mul-le-mul_right, arith, ltb→lt, lt→ltb, nltb→le, Float}
 use native.Mathlib.Nat.{min-eq_left}
-use lib.Ieee.{Float, nan, inf, fin, binary64, up, down, neg, lt, le, eq, of_int, to_unsigned}
+use lib.Ieee.{nan, inf, fin, binary64, up, down, neg, lt, le, eq, of_int, to_unsigned}
 use lib.Ieee.Fits.{down_pos}
 use lib.Ieee.Exact.{HasValue}
 use Rattle.tonekit_float.proofs.Order.{yes, no, either_ge}

@@ -1,6 +1,6 @@
 -- What callers may cite of ln, log2 and exp. Nothing above unfolds their definitions. Assumes nothing.
-use Rattle.std.proofs.Common.{◌≡◌, zero, suc, Bool, true, false, cond, T, ℤ, pos, sym, refl, ◌∙◌, subst}
-use lib.Ieee.{Float, nan, inf, fin, binary64, round, neg, sum, add, sub, mul, div, lt, le, is_nan, of_int, of_bits, fits}
+use Rattle.std.proofs.Common.{◌≡◌, zero, suc, Bool, true, false, cond, T, ℤ, pos, sym, refl, ◌∙◌, subst, Float}
+use lib.Ieee.{nan, inf, fin, binary64, round, neg, sum, add, sub, mul, div, lt, le, is_nan, of_int, of_bits, fits}
 use lib.Ieee.Bits.{is_true}
 use lib.Ieee.Fits.{nan-fits, inf-fits, cond-fits, add-fits, mul-fits}
 use lib.Ieee.Scale.{finite}

@@ -1,6 +1,6 @@
 -- What the code of `ln` and `log2` needs, by the cases of x. f is what is done with m and e.
-use Rattle.std.proofs.Common.{◌≡◌, ℕ, suc, ◌*◌, ◌/◌, ◌^◌, true, false, not, T, ℤ, pos, sym, refl, ap, ◌∙◌, subst}
-use lib.Ieee.{Float, nan, inf, fin, up, down, binary64, fits, unlike, mul, lt, eq, is_nan}
+use Rattle.std.proofs.Common.{◌≡◌, ℕ, suc, ◌*◌, ◌/◌, ◌^◌, true, false, not, T, ℤ, pos, sym, refl, ap, ◌∙◌, subst, Float}
+use lib.Ieee.{nan, inf, fin, up, down, binary64, fits, unlike, mul, lt, eq, is_nan}
 use Rattle.tonekit_float.proofs.Monotone.{zero_f}
 use Rattle.tonekit_float.proofs.Signs as signs
 use Rattle.tonekit_log.specs.declared.Parts.{Parts}

@@ -1,7 +1,7 @@
 -- How large the logarithms of positive numbers can be. Assumes nothing.
-use Rattle.std.proofs.Common.{◌≡◌, ℕ, zero, suc, ◌+◌, ◌-◌, ◌*◌, ◌^◌, ◌<◌, ◌≤◌, Bool, true, false, cond, not, ◌&&◌, T, leb, pos, negsuc, sym, refl, ap, ◌∙◌, subst, ⊎_elim, le_of_eq, lt_of_lt_of_le, mul-le-mul_right, mul_assoc, mul_comm, add-mul, mul-pos, mul_left_comm, arith, lit<, leb→le, pow_pos, pow-add}
+use Rattle.std.proofs.Common.{◌≡◌, ℕ, zero, suc, ◌+◌, ◌-◌, ◌*◌, ◌^◌, ◌<◌, ◌≤◌, Bool, true, false, cond, not, ◌&&◌, T, leb, pos, negsuc, sym, refl, ap, ◌∙◌, subst, ⊎_elim, le_of_eq, lt_of_lt_of_le, mul-le-mul_right, mul_assoc, mul_comm, add-mul, mul-pos, mul_left_comm, arith, lit<, leb→le, pow_pos, pow-add, Float}
 use lib.Dec.{nleb→lt}
-use lib.Ieee.{Float, nan, inf, fin, binary64, size, round, neg, sum, add, sub, mul, div, lt, le, eq, of_int, of_bits, fits, minus}
+use lib.Ieee.{nan, inf, fin, binary64, size, round, neg, sum, add, sub, mul, div, lt, le, eq, of_int, of_bits, fits, minus}
 use lib.Ieee.Digits.{size-lt, size-le, size_reaches}
 use lib.Ieee.Fits.{and_l, and_r}
 use lib.Ieee.Order.{round_mono}

@@ -1,9 +1,9 @@
 -- A positive float's m and e by its fields are those of its units.
-use Rattle.std.proofs.Common.{◌≡◌, ℕ, suc, ◌+◌, ◌-◌, ◌*◌, ◌/◌, ◌%◌, ◌^◌, ◌<◌, ◌≤◌, Bool, true, false, cond, not, ◌&&◌, T, ltb, leb, ℤ, pos, negsuc, sym, refl, ap, ◌∙◌, subst, true≢false, le_trans, le_of_eq, lt_of_lt_of_le, lt_of_le_of_lt, mul-le-mul_right, mul_assoc, mul_comm, add-mul, lt_of_mul-lt-mul_right, mul-lt-mul_of_pos_right, mul-pos, one-mul, mul_right_comm, le_of_mul-le-mul_right, arith, lit<, lit≤, ltb→lt, lt→ltb, leb→le, nltb→le, pow_pos, pow-add, le-leb}
+use Rattle.std.proofs.Common.{◌≡◌, ℕ, suc, ◌+◌, ◌-◌, ◌*◌, ◌/◌, ◌%◌, ◌^◌, ◌<◌, ◌≤◌, Bool, true, false, cond, not, ◌&&◌, T, ltb, leb, ℤ, pos, negsuc, sym, refl, ap, ◌∙◌, subst, true≢false, le_trans, le_of_eq, lt_of_lt_of_le, lt_of_le_of_lt, mul-le-mul_right, mul_assoc, mul_comm, add-mul, lt_of_mul-lt-mul_right, mul-lt-mul_of_pos_right, mul-pos, one-mul, mul_right_comm, le_of_mul-le-mul_right, arith, lit<, lit≤, ltb→lt, lt→ltb, leb→le, nltb→le, pow_pos, pow-add, le-leb, Float, to_bits}
 use native.Mathlib.Nat.{mul-sub}
 use lib.Dec.{nleb→lt}
 use borrow.Author.Tests.{lt-leb}
-use lib.Ieee.{Float, nan, inf, fin, Format, binary64, up, down, size, round, sum, sub, mul, of_int, of_bits, to_bits, fits, minus, lt}
+use lib.Ieee.{nan, inf, fin, Format, binary64, up, down, size, round, sum, sub, mul, of_int, of_bits, fits, minus, lt}
 use lib.Ieee.Digits.{size-le}
 use lib.Ieee.Fits.{down_pos, round-fits, mul-fits}
 use lib.Ieee.Bits.{of_bits-to_bits, of_bits-fits}

@@ -1,7 +1,7 @@
 -- v·LOG2E + 0.5 lies from -1022 to 1022 for a v from -708 to 708. Assumes nothing.
-use Rattle.std.proofs.Common.{◌≡◌, ℕ, ◌+◌, ◌-◌, ◌*◌, ◌/◌, ◌^◌, ◌<◌, ◌≤◌, true, false, not, ◌&&◌, T, pos, neg_ℤ, sym, ap, div-lt_iff_lt-mul, arith, lt→ltb, nltb→le}
+use Rattle.std.proofs.Common.{◌≡◌, ℕ, ◌+◌, ◌-◌, ◌*◌, ◌/◌, ◌^◌, ◌<◌, ◌≤◌, true, false, not, ◌&&◌, T, pos, neg_ℤ, sym, ap, div-lt_iff_lt-mul, arith, lt→ltb, nltb→le, Float}
 use native.Mathlib.Nat.{div-eq_of_lt, min-eq_left}
-use lib.Ieee.{Float, nan, inf, fin, binary64, up, down, round, neg, add, mul, lt, le, eq, is_nan, of_bits, to_unsigned}
+use lib.Ieee.{nan, inf, fin, binary64, up, down, round, neg, add, mul, lt, le, eq, is_nan, of_bits, to_unsigned}
 use lib.Ieee.Fits.{down_pos, and_l, and_r}
 use lib.Ieee.Scale.{finite}
 use Rattle.tonekit_float.specs.Bounds.{In}
@@ -119,5 +119,6 @@ at_least_0 (fin false m e) p g h =
       few = omega (arith, c, q);
     }
 
-pub upward : (v : Float) → In (neg bound) bound v → T (not (lt (turns v) zero_f)) → Up (turns v)
-upward v h g = let b = between v h in at_least_0 (turns v) (turns_finite v h) g b.high
+pub upward : (t : Float) → T (le (fin true 511 (pos 1)) t) → T (le t most) → T (not (lt t zero_f)) → Up t
+unfolding neg
+upward t l h g = at_least_0 t (in_finite most_finite (record { low = l; high = h })) g h

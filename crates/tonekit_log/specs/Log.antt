@@ -1,5 +1,5 @@
 -- ln and log2 as document 01's Arithmetic section writes them: f64 operations, each rounded once, in its order.
-use Rattle.std.specs.Prelude.{ℕ, zero, suc, ◌+◌, ◌-◌, ◌*◌, ◌/◌, ◌%◌, ◌^◌, ◌≤◌, true, false, cond, ℤ, pos, negsuc, from_bits, to_bits, Float}
+use Rattle.std.specs.Prelude.{ℕ, zero, suc, ◌+◌, ◌-◌, ◌*◌, ◌/◌, ◌%◌, ◌^◌, ◌≤◌, true, false, cond, ℤ, pos, negsuc, from_bits, to_bits, Float, ◌≡◌, Result, Ok, Err}
 use Rattle.std.specs.Float.{nan, inf, fin, binary64}
 use Rattle.std.specs.Float.Ieee.{add, sub, mul, div, lt, of_int, up, down, size, round, minus}
 use Rattle.tonekit_log.specs.Constants.{LN2, LOG2E, ROOT2, half, one, two, scale, least, num}
@@ -60,6 +60,11 @@ ln_of x = log_by ln_at x
 unfoldable pub log2_of : Float → Float
 unfolding log_by log2_at
 log2_of x = log_by log2_at x
+
+-- r is what x has of parts: Ok m and e, of which f is done, or Err what is given where there are none
+abbrev pub IsPartsOf : Float → Result Parts Float → Type 0
+IsPartsOf x (Ok p) = (f : Parts → Float) → log_by f x ≡ f p
+IsPartsOf x (Err v) = (f : Parts → Float) → log_by f x ≡ v
 
 -- the k for which 2 ^ k is an f64, subnormal or not: from -1074 to 1023
 abbrev pub Exponent : ℤ → Type 0

@@ -2,9 +2,9 @@
 // operations, each rounded once, in a fixed order.
 #![tactic(auto)]
 
-ghost use Rattle.std.specs.Prelude.{◌≡◌, ◌<◌, ◌≤◌, true, false, not, T, pos, neg_ℤ};
+ghost use Rattle.std.specs.Prelude.{◌≡◌, ◌<◌, ◌≤◌, ◌≤ℤ◌, true, false, not, T, pos, neg_ℤ};
 ghost use Rattle.std.specs.Float.Ieee as Ieee;
-ghost use Rattle.tonekit_log.specs.Log.{series, fields, scaled, centred, ln_of, log2_of};
+ghost use Rattle.tonekit_log.specs.Log.{series, fields, scaled, centred, IsPartsOf, ln_of, log2_of};
 ghost use Rattle.tonekit_log.specs.Exp.{exp_series, floor_of, exp_of};
 
 const LN2: f64 = 0.6931471805599453;
@@ -22,6 +22,7 @@ pub struct Parts {
 fn log_series(m: f64) -> f64
     ensures { result ≡ series m }
 {
+    // Stays: a line for each term, in the order in which the operations are to be rounded.
     let s = (m - 1.0) / (m + 1.0);
     let z = s * s;
     let mut p = 1.0 / 23.0;
@@ -81,19 +82,31 @@ fn centred(p: Parts) -> Parts
     }
 }
 
+// The digits and the exponent of a number above 0, centred, or what both logarithms give where
+// there are none: of zero -infinity, of +infinity itself, of a negative number and NaN NaN.
+fn split(x: f64) -> Result<Parts, f64>
+    ensures { IsPartsOf x result }
+{
+    if x > 0.0 {
+        if x < 1.0 / 0.0 {
+            Ok(centred(scaled(x)))
+        } else {
+            Err(x)
+        }
+    } else if x == 0.0 {
+        Err(-1.0 / 0.0)
+    } else {
+        Err(0.0 / 0.0)
+    }
+}
+
 // The natural logarithm. Zero gives -infinity, +infinity itself, a negative number and NaN give NaN.
 pub fn ln(x: f64) -> f64
     ensures { result ≡ ln_of x }
 {
-    if x > 0.0 {
-        if x < 1.0 / 0.0 {
-            let p = centred(scaled(x));
-            p.e * LN2 + log_series(p.m)
-        } else {
-            x
-        }
-    } else {
-        if x == 0.0 { -1.0 / 0.0 } else { 0.0 / 0.0 }
+    match split(x) {
+        Ok(p) => p.e * LN2 + log_series(p.m),
+        Err(limit) => limit,
     }
 }
 
@@ -101,15 +114,9 @@ pub fn ln(x: f64) -> f64
 pub fn log2(x: f64) -> f64
     ensures { result ≡ log2_of x }
 {
-    if x > 0.0 {
-        if x < 1.0 / 0.0 {
-            let p = centred(scaled(x));
-            p.e + log_series(p.m) * LOG2E
-        } else {
-            x
-        }
-    } else {
-        if x == 0.0 { -1.0 / 0.0 } else { 0.0 / 0.0 }
+    match split(x) {
+        Ok(p) => p.e + log_series(p.m) * LOG2E,
+        Err(limit) => limit,
     }
 }
 
@@ -117,6 +124,7 @@ pub fn log2(x: f64) -> f64
 fn exp_series(r: f64) -> f64
     ensures { result ≡ exp_series r }
 {
+    // Stays: a line for each term, in the order in which the operations are to be rounded.
     let mut q = 1.0;
     q = 1.0 + (r * q) / 13.0;
     q = 1.0 + (r * q) / 12.0;
@@ -149,6 +157,20 @@ fn depth(t: f64) -> u64
     }
 }
 
+// The whole number at or below t, for a t from -1022 to 1022.
+fn whole_below(t: f64) -> i64
+    requires low { T (Ieee.le (Ieee.fin true 511 (pos 1)) t) }
+    requires high { T (Ieee.le t (Ieee.fin false 511 (pos 1))) }
+    ensures value { result ≡ floor_of t }
+    ensures range { (neg_ℤ (pos 1022) ≤ℤ result) × (result ≤ℤ pos 1022) }
+{
+    if t < 0.0 {
+        -(depth(t) as i64)
+    } else {
+        std::num::truncating_f64_to_u64(t) as i64
+    }
+}
+
 // e to the power v. NaN gives NaN, below -708 it is 0, above 708 +infinity.
 pub fn exp(v: f64) -> f64
     ensures { result ≡ exp_of v }
@@ -163,13 +185,7 @@ pub fn exp(v: f64) -> f64
         return 1.0 / 0.0;
     }
     let t = v * LOG2E + 0.5;
-    if t < 0.0 {
-        let n = depth(t);
-        let r = v - (-std::num::nearest_u64_to_f64(n)) * LN2;
-        exp_series(r) * f64::from_bits((1023 - n) * 0x10_0000_0000_0000)
-    } else {
-        let n = std::num::truncating_f64_to_u64(t);
-        let r = v - std::num::nearest_u64_to_f64(n) * LN2;
-        exp_series(r) * f64::from_bits((1023 + n) * 0x10_0000_0000_0000)
-    }
+    let n = whole_below(t);
+    let r = v - (n as f64) * LN2;
+    exp_series(r) * f64::from_bits(((1023 + n) as u64) * 0x10_0000_0000_0000)
 }

@@ -1,18 +1,13 @@
 -- What `write_shape` and `write_sheet` write has room in what their programs lend: 124 bytes, and 13,266. Assumes nothing.
-use Prim.Native.Nat.{ℕ}
-use mathlib.Core.Bool.{Bool, true, false, cond}
-use mathlib.Core.Path.{◌≡◌, refl}
-use mathlib.Core.List.{List}
-use native.Mathlib.Omega.{arith}
-use lib.Dec.{ltb}
-use lib.ListN.{length}
+use Rattle.std.proofs.Common.{ℕ, Bool, true, false, cond, ◌≡◌, refl, List, arith, ltb, length, Float}
 use Rattle.tonekit_core.specs.Calls.{Outcome}
 use Rattle.tonekit_core.specs.Layout.{shape_size, sheet_most}
 use Rattle.tonekit_bytes.specs.Fields.{f32s_bytes}
 use Rattle.tonekit_report.proofs.Told.{Fits}
 use Rattle.tonekit_query.specs.Query.{load_query, frames_of}
-use Rattle.tonekit_query.specs.declared.QueryRead.{QueryRead}
-use Rattle.tonekit_query.specs.declared.QueryRead.TheVariants as query
+use Rattle.std.specs.Prelude.{Result, Ok, Err}
+use Rattle.tonekit_core.specs.declared.Rejection.{Rejection}
+use Rattle.tonekit_query.specs.declared.Query.{Query}
 use Rattle.tonekit_shape.specs.Extract.{extent_of, list_of, shape_of}
 use Rattle.tonekit_shape.specs.Record.{fit_bytes, measure_bytes, shape_bytes, shaped_from, shape_outcome}
 use Rattle.tonekit_shape.specs.declared.Extent.{Extent}
@@ -20,7 +15,6 @@ use Rattle.tonekit_pack.specs.Pack.{Out, loaded, refused, load_pack}
 use Rattle.tonekit_pack.proofs.Single.{loads_alone}
 use Rattle.tonekit_sheet_fit.proofs.Size.{suffices}
 use Rattle.tonekit_sheet_write.specs.Outcome.{sheet_of, sheet_outcome}
-use lib.Ieee.{Float}
 
 -- ---- the shape record
 either : (room : ℕ) (b : Bool) (o p : Outcome) → Fits room o → Fits room p → Fits room (cond b o p)
@@ -32,9 +26,9 @@ shape_size_lem : (start end issues : ℕ) (frames : List ℕ) (e : Extent) (floo
 unfolding shape_bytes fit_bytes measure_bytes f32s_bytes shape_of list_of
 shape_size_lem start end issues frames e floor ceil = refl
 
-of_query : (s : List ℕ) (q : QueryRead) → Fits shape_size (shaped_from s q)
-of_query s (query.Refused r place) = tt
-of_query s (query.Good q) =
+of_query : (s : List ℕ) (q : Result Query Rejection) → Fits shape_size (shaped_from s q)
+of_query s (Err r) = tt
+of_query s (Ok q) =
     let frames = frames_of s q.count in
     let e = extent_of frames q.count q.start q.end in
     let n = shape_size_lem q.start q.end q.issues frames e q.floor q.ceil in

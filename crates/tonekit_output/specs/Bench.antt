@@ -1,7 +1,6 @@
 -- Worked examples, computed: what `check` tells of one byte, 1, the kind of a pack's first record, read as each of the three; and of what loads.
-use Rattle.std.specs.Prelude.{ℕ, ◌≡◌, refl, List, [], ◌∷◌}
+use Rattle.std.specs.Prelude.{ℕ, ◌≡◌, refl, Ok, List, [], ◌∷◌}
 use Rattle.tonekit_core.specs.Loop.{loop_to, loop_on}
-use Rattle.tonekit_core.specs.declared.Checked.TheVariants.{Loads}
 use Rattle.tonekit_report.specs.Report.{told}
 use Rattle.tonekit_pack.specs.Pack.{due_after, size_of, record_verdict, read_pack, load_pack, check_pack}
 use Rattle.tonekit_query.specs.Query as query
@@ -25,6 +24,6 @@ of_sheet : told (check_outcome (sheet.check_sheet one)) ≡ 52 ∷ 1 ∷ 0 ∷ 0
 unfolding check_outcome sheet.check_sheet sheet.load_sheet sheet.read_sheet sheet.record_verdict sheet.due_next loop_to loop_on
 of_sheet = refl
 
-silence : told (check_outcome Loads) ≡ []
+silence : told (check_outcome (Ok tt)) ≡ []
 unfolding check_outcome
 silence = refl

@@ -6,39 +6,37 @@ ghost use Rattle.tonekit_shape.specs.Record.{shape_outcome};
 ghost use Rattle.tonekit_sheet_write.specs.Outcome.{sheet_outcome};
 ghost use Rattle.tonekit_output.specs.Check.{check_outcome, Checks};
 
-use tonekit_core::{Answer, Checked, layout};
-
-// What `check` answers its word: how many bytes it tells of its input, or that it does not know the word.
-#[derive(Drop)]
-pub enum CheckAnswer {
-    Tells(usize),
-    UnknownWord,
-}
+use tonekit_core::{Rejection, layout};
 
 // How many bytes are told of a check: none of what loads, else the refusal's record.
-fn tell_checked(c: Checked, out: &mut [u8; layout::REFUSAL_SIZE]) -> usize
-    ensures { Told (check_outcome c) out.old result out.new }
+fn tell_checked(checked: Result<(), Rejection>, out: &mut [u8; layout::REFUSAL_SIZE]) -> usize
+    ensures { Told (check_outcome checked) out.old result out.new }
 {
-    match c {
-        Checked::Loads => 0,
-        Checked::Refused(r, place) => tonekit_report::tell(Answer::Refused(r, place), out),
+    match checked {
+        Ok(()) => 0,
+        Err(e) => tonekit_report::tell(Err(e), out),
     }
 }
 
 // The program `check`: its word says as what the input is read, and what is told of it stands in `out`.
-pub fn check_output(word: &[u8], input: &[u8], out: &mut [u8; layout::REFUSAL_SIZE]) -> CheckAnswer
+// How many bytes that is, or none where the word is not known.
+pub fn check_output(
+    word: &[u8],
+    input: &[u8],
+    out: &mut [u8; layout::REFUSAL_SIZE],
+) -> Option<usize>
     ensures { Checks word.now input.now out.old result out.new }
 {
     if check::same(word, b"pack") {
-        return CheckAnswer::Tells(tell_checked(tonekit_pack::check_pack(input), out));
+        return Some(tell_checked(tonekit_pack::check_pack(input), out));
     }
     if check::same(word, b"query") {
-        return CheckAnswer::Tells(tell_checked(tonekit_query::check_query(input), out));
+        return Some(tell_checked(tonekit_query::check_query(input), out));
     }
     if check::same(word, b"sheet") {
-        return CheckAnswer::Tells(tell_checked(tonekit_sheet_read::check_sheet(input), out));
+        return Some(tell_checked(tonekit_sheet_read::check_sheet(input), out));
     }
-    CheckAnswer::UnknownWord
+    None
 }
 
 // The program `shape`: how many bytes it writes, which stand in `out`.
@@ -50,6 +48,7 @@ pub fn shape_output(query: &[u8], out: &mut [u8; layout::SHAPE_SIZE]) -> usize
 }
 
 // The program `sheet`, likewise. No sheet is longer than what it is lent.
+// Stays: what differs from `shape_output` is the call, and beside it there is one more.
 pub fn sheet_output(pack: &[u8], out: &mut [u8; layout::SHEET_MOST]) -> usize
     ensures { Told (sheet_outcome pack.now) out.old result out.new }
 {

@@ -1,11 +1,6 @@
 -- What holds of every entry of a list, with the entries before it, when the list grows at its end. Assumes nothing.
-use Prim.Native.Nat.{ℕ, ◌≤◌, ◌<◌}
-use mathlib.Core.Path.{◌≡◌}
-use mathlib.Core.List.{List, [], ◌∷◌, ◌++◌}
-use native.Mathlib.Omega.{arith}
-use lib.Dec.{ltb}
-use borrow.Author.Tests.{ltb-true, ltb-false}
-use lib.ListN.{length, get_or, take, length-append, get_or-append}
+use Rattle.std.proofs.Common.{ℕ, ◌≤◌, ◌<◌, ◌≡◌, List, [], ◌∷◌, ◌++◌, arith, ltb, ltb-true, ltb-false, length, get_or, take, length-append}
+use lib.ListN.{get_or-append}
 use lib.Seq.{take-append-le, take-append_seam, get_or-append_seam}
 use Rattle.tonekit_core.proofs.Split.{split}
 

@@ -1,15 +1,10 @@
 -- The reader looks at no more than a pack can hold: inputs with the same first 7,000 bytes give the same answer. Assumes nothing.
-use Prim.Native.Nat.{ℕ, zero, suc, ◌+◌, ◌-◌, ◌*◌, ◌≤◌, ◌<◌}
-use mathlib.Core.Path.{◌≡◌, refl, sym, ap, ◌∙◌}
-use mathlib.Core.Bool.{Bool, true, ◌&&◌}
-use mathlib.Core.List.{List, [], ◌∷◌}
-use native.Mathlib.Omega.{arith}
-use lib.ListN.{length, get_or, take, length-append, get_or-eq_default}
-use lib.Dec.{eqb}
-use borrow.Author.Tests.{eqb-true, eqb-false}
+use Rattle.std.proofs.Common.{ℕ, zero, suc, ◌+◌, ◌-◌, ◌*◌, ◌≤◌, ◌<◌, ◌≡◌, refl, sym, ap, ◌∙◌, Bool, true, ◌&&◌, List, [], ◌∷◌, arith, length, get_or, take, length-append, eqb, eqb-true}
+use lib.ListN.{get_or-eq_default}
+use borrow.Author.Tests.{eqb-false}
 use Rattle.tonekit_core.specs.Loop.{loop_to, loop_on}
 use Rattle.tonekit_core.specs.declared.Refusal.TheVariants.{CutShort}
-use Rattle.tonekit_core.specs.declared.Verdict.TheVariants as verdict
+use Rattle.std.specs.Prelude.{Ok}
 use Rattle.tonekit_core.proofs.LoopLaws.{range_same}
 use Rattle.tonekit_bytes.specs.Fields.{byte_at}
 use Rattle.tonekit_bytes.proofs.Agreeing.{Agree, taken_agrees, four, float}
@@ -66,7 +61,7 @@ Before at os o = o + 7 ≤ at
 passed_on : (at m : ℕ) (os : List ℕ) → at ≤ m → ((i : ℕ) → i < length os → get_or os i 0 + 7 ≤ at) → (i : ℕ) → i < length os → get_or os i 0 + 7 ≤ m
 passed_on at m os h l i b = omega (arith, l i b)
 
-low_next : (s : List ℕ) (at : ℕ) (st : Pst) {k : ℕ} → Due st.last k → (k ≡ 6 → ⊥) → body_verdict k s at st ≡ verdict.Fine → Low at st → Low (at + size_of k) (added k at st)
+low_next : (s : List ℕ) (at : ℕ) (st : Pst) {k : ℕ} → Due st.last k → (k ≡ 6 → ⊥) → body_verdict k s at st ≡ Ok tt → Low at st → Low (at + size_of k) (added k at st)
 unfolding added size_of
 low_next s at st (settings e) n b p =
     record { near = near_next at st (settings e) n p.near; few_tones = p.few_tones; few_accents = p.few_accents; few_rules = p.few_rules; few_in_all = p.few_in_all; tones = passed_on at (at + 9) st.tones (omega arith) p.tones; accents = passed_on at (at + 9) st.accents (omega arith) p.accents; rules = passed_on at (at + 9) st.rules (omega arith) p.rules }

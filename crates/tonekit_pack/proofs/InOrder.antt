@@ -1,13 +1,7 @@
 -- The first entries of an array, as a list. Assumes nothing.
-use Prim.Native.Nat.{ℕ, zero, suc, ◌+◌, ◌-◌, ◌≤◌, ◌<◌}
-use mathlib.Core.Path.{◌≡◌, refl, ◌∙◌}
-use mathlib.Core.List.{List, [], ◌∷◌, ◌++◌}
-use native.Mathlib.Omega.{arith}
-use native.Mathlib.Numerals.{add-one}
-use lib.Dec.{ltb}
-use borrow.Author.Tests.{ltb-true, ltb-false}
-use lib.ListN.{length, get_or, set, replicate, length-append, get_or-append}
-use lib.Seq.{get_or-set_other, get_or-set_same, get_or_at}
+use Rattle.std.proofs.Common.{ℕ, zero, suc, ◌+◌, ◌-◌, ◌≤◌, ◌<◌, ◌≡◌, refl, ◌∙◌, List, [], ◌∷◌, ◌++◌, arith, add-one, ltb, ltb-true, ltb-false, length, get_or, set, take, replicate, length-append, get_or-set_other, get_or-set_same, take-suc}
+use lib.ListN.{get_or-append}
+use lib.Seq.{get_or_at}
 use Rattle.tonekit_pack.specs.Held.{in_order}
 use Rattle.tonekit_core.proofs.Split.{split}
 
@@ -23,6 +17,11 @@ order_get xs (suc n) i h =
     split (ltb i n)
     (λ l. get_or-append (in_order xs n) (get_or xs n 0 ∷ []) 0 i (rw (order_length xs n) (ltb-true i n l)) ∙ order_get xs n i (ltb-true i n l))
     (λ l. let e : i ≡ n = omega (arith, ltb-false i n l) in rw e (get_or_at (in_order xs n) (get_or xs n 0) [] 0 n (order_length xs n)))
+
+pub order_take : (xs : List ℕ) (n : ℕ) → n ≤ length xs → take n xs ≡ in_order xs n
+unfolding in_order
+order_take xs zero h = refl
+order_take xs (suc n) h = rw (take-suc xs n 0 (omega arith), order_take xs n (omega arith))
 
 -- a store behind the first n changes none of them
 order_kept : (xs : List ℕ) (n m v : ℕ) → n ≤ m → in_order (set xs m v) n ≡ in_order xs n

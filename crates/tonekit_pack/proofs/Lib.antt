@@ -1,6 +1,6 @@
 pub mod Numbers
 pub mod InOrder
-pub mod HandedBack
+pub mod Roomy
 pub mod Each
 pub mod Records
 pub mod Reading

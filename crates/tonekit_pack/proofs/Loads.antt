@@ -1,16 +1,9 @@
 -- What a pack that loads has: how many of each record, every record fine, numbers once, parents earlier, parts behind their rule. Assumes nothing.
-use Prim.Native.Nat.{ℕ, zero, suc, ◌+◌, ◌-◌, ◌*◌, ◌≤◌, ◌<◌}
-use mathlib.Core.Path.{◌≡◌, refl, ap, ◌∙◌}
-use mathlib.Core.Logic.{◌⊎◌}
-use mathlib.Core.Bool.{Bool, true, false, not, ◌&&◌, ◌||◌}
-use mathlib.Core.List.{List, [], ◌∷◌, ◌++◌}
-use native.Mathlib.Omega.{arith}
-use lib.ListN.{length, get_or, length-append}
-use lib.Seq.{get_or-append_seam, get_or-take, length-take-le}
-use lib.Dec.{eqb, leb, ltb}
-use borrow.Author.Tests.{eq-eqb, ne_eqb, eqb-true, eqb-false, leb-true, ltb-false, not-true}
+use Rattle.std.proofs.Common.{ℕ, zero, suc, ◌+◌, ◌-◌, ◌*◌, ◌≤◌, ◌<◌, ◌≡◌, refl, ap, ◌∙◌, ◌⊎◌, Bool, true, false, not, ◌&&◌, ◌||◌, List, [], ◌∷◌, ◌++◌, arith, length, get_or, length-append, get_or-take, length-take-le, eqb, leb, ltb, eq-eqb, ne_eqb, eqb-true, leb-true, ltb-false}
+use lib.Seq.{get_or-append_seam}
+use borrow.Author.Tests.{eqb-false, not-true}
 use Rattle.tonekit_core.specs.declared.Refusal.TheVariants.{CutShort}
-use Rattle.tonekit_core.specs.declared.Verdict.TheVariants as verdict
+use Rattle.std.specs.Prelude.{Ok}
 use Rattle.tonekit_bytes.specs.Fields.{byte_at, u32_at, f32_at}
 use Rattle.tonekit_pack.specs.Ranges.{above_zero, a_share, weight_fine, knots_fine, region_fine, tolerances_fine}
 use Rattle.tonekit_pack.specs.Pack.{Pst, Out, loaded, refused, size_of, number_at, holds, zero_or_held, single, settings_verdict, body_verdict, added, start, parts_from, read_pack}
@@ -70,7 +63,7 @@ not_zero : (n : ℕ) → not (eqb n 0) ≡ true → 1 ≤ n
 not_zero n h = omega (arith, eqb-false n 0 (not-true (eqb n 0) h))
 
 module _ (s : List ℕ) (at : ℕ) (st : Pst) where
-  tone_is : byte_at s at ≡ 2 → at + 56 ≤ length s → body_verdict 2 s at st ≡ verdict.Fine → ToneFine s st.tones at
+  tone_is : byte_at s at ≡ 2 → at + 56 ≤ length s → body_verdict 2 s at st ≡ Ok tt → ToneFine s st.tones at
   tone_is k w b =
       let p = tone_passed s at st b in
       let f = both (not (eqb (number_at s at) 0)) _ p.ranges in
@@ -87,7 +80,7 @@ module _ (s : List ℕ) (at : ℕ) (st : Pst) where
         region = h.1;
       }
 
-  accent_is : byte_at s at ≡ 3 → at + 19 ≤ length s → body_verdict 3 s at st ≡ verdict.Fine → AccentFine s st.accents at
+  accent_is : byte_at s at ≡ 3 → at + 19 ≤ length s → body_verdict 3 s at st ≡ Ok tt → AccentFine s st.accents at
   accent_is k w b =
       let p = accent_passed s at st b in
       let f = both (not (eqb (number_at s at) 0)) (tolerances_fine s (at + 3)) p.ranges in
@@ -100,7 +93,7 @@ module _ (s : List ℕ) (at : ℕ) (st : Pst) where
         tolerances = f.1;
       }
 
-  part_is : byte_at s at ≡ 5 → at + 46 ≤ length s → body_verdict 5 s at st ≡ verdict.Fine → PartFine s at
+  part_is : byte_at s at ≡ 5 → at + 46 ≤ length s → body_verdict 5 s at st ≡ Ok tt → PartFine s at
   part_is k w b =
       let f = both (weight_fine (u32_at s (at + 1))) _ (part_passed s at st b).ranges in
       let g = both (not (single s st) || eqb (u32_at s (at + 1)) 0x3f80_0000) _ f.1 in
@@ -114,7 +107,7 @@ module _ (s : List ℕ) (at : ℕ) (st : Pst) where
         knots = h.1;
       }
 
-  part_unit : body_verdict 5 s at st ≡ verdict.Fine → single s st ≡ true → u32_at s (at + 1) ≡ 0x3f80_0000
+  part_unit : body_verdict 5 s at st ≡ Ok tt → single s st ≡ true → u32_at s (at + 1) ≡ 0x3f80_0000
   part_unit b one =
       let f = both (weight_fine (u32_at s (at + 1))) _ (part_passed s at st b).ranges in
       let g = both (not (single s st) || eqb (u32_at s (at + 1)) 0x3f80_0000) _ f.1 in
@@ -192,7 +185,7 @@ parts_fine (suc n) (suc f) one s at st fin e i l u g h q r =
     let a = accepted s (refused CutShort (length s)) f at st fin e r in
     split (eqb (byte_at s at) 5)
     (λ b. let k : byte_at s at ≡ 5 = eqb-true (byte_at s at) 5 b in
-    let body : body_verdict 5 s at st ≡ verdict.Fine = rw k at a.passes.body in
+    let body : body_verdict 5 s at st ≡ Ok tt = rw k at a.passes.body in
     let w : at + 46 ≤ length s = part_whole s at (byte_at s at) k a.passes.whole in
     let o = onward s f at st fin e (byte_at s at) k (a.goes (λ six. omega arith)) in
     let lone : one ≡ true → st.parts ≡ 0 = λ t. (part_room s at st body).lone (i ∙ t) in
@@ -226,7 +219,7 @@ unfolding added size_of
 behind f s at st fin e h =
     parts_fine 4 f (eqb (byte_at s (at + 6)) 2) s (at + 7) (added 4 at st) fin e (rw (last_snoc st.rules at)) (omega arith) (omega arith) (λ q. absurd (omega arith)) (λ q. omega arith) refl h
 
-rule_is : (f : ℕ) (s : List ℕ) (at : ℕ) (st fin : Pst) (e : ℕ) → byte_at s at ≡ 4 → at + 7 ≤ length s → body_verdict 4 s at st ≡ verdict.Fine
+rule_is : (f : ℕ) (s : List ℕ) (at : ℕ) (st fin : Pst) (e : ℕ) → byte_at s at ≡ 4 → at + 7 ≤ length s → body_verdict 4 s at st ≡ Ok tt
     → reads s f (at + size_of 4) (added 4 at st) ≡ loaded fin e → RuleFine s st.tones at
 rule_is f s at st fin e k w b g =
     let p = rule_passed s at st b in
@@ -278,7 +271,7 @@ pub record Kept (s : List ℕ) (at : ℕ) (st : Pst) : Type 0 where
   pub bounded : Each (AtMost (length st.rules)) st.firsts
   pub few_in_all : st.total ≤ 128
 
-settings_is : (s : List ℕ) (at : ℕ) (st : Pst) → body_verdict 1 s at st ≡ verdict.Fine → (above_zero (f32_at s (at + 1)) ≡ true) × (a_share (f32_at s (at + 5)) ≡ true)
+settings_is : (s : List ℕ) (at : ℕ) (st : Pst) → body_verdict 1 s at st ≡ Ok tt → (above_zero (f32_at s (at + 1)) ≡ true) × (a_share (f32_at s (at + 5)) ≡ true)
 unfolding body_verdict settings_verdict
 settings_is s at st b = both (above_zero (f32_at s (at + 1))) (a_share (f32_at s (at + 5))) (passed false (above_zero (f32_at s (at + 1)) && a_share (f32_at s (at + 5))) true true b).ranges
 
@@ -289,7 +282,7 @@ each_more : (n m : ℕ) (xs : List ℕ) → n ≤ m → Each (AtMost n) xs → E
 each_more n m xs l h i b = omega (arith, h i b)
 
 module _ (f : ℕ) (s : List ℕ) (at : ℕ) (st fin : Pst) (e : ℕ) (p : Kept s at st) where
-  after_settings : Due st.last 1 → st.last ≡ 0 → byte_at s at ≡ 1 → body_verdict 1 s at st ≡ verdict.Fine → Kept s (at + size_of 1) (added 1 at st)
+  after_settings : Due st.last 1 → st.last ≡ 0 → byte_at s at ≡ 1 → body_verdict 1 s at st ≡ Ok tt → Kept s (at + size_of 1) (added 1 at st)
   unfolding added size_of
   after_settings d z k b =
       let o : at ≡ 0 = p.near.first z in
@@ -397,7 +390,7 @@ module _ (f : ℕ) (s : List ℕ) (at : ℕ) (st fin : Pst) (e : ℕ) (p : Kept 
         few_in_all = omega arith;
       }
 
-  keep : {k : ℕ} → Due st.last k → byte_at s at ≡ k → at + size_of k ≤ length s → body_verdict k s at st ≡ verdict.Fine → (k ≡ 6 → ⊥)
+  keep : {k : ℕ} → Due st.last k → byte_at s at ≡ k → at + size_of k ≤ length s → body_verdict k s at st ≡ Ok tt → (k ≡ 6 → ⊥)
       → reads s f (at + size_of k) (added k at st) ≡ loaded fin e → Kept s (at + size_of k) (added k at st)
   unfolding size_of
   keep (settings z) k w b n g = after_settings (settings z) z k b

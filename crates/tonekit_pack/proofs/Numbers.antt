@@ -1,15 +1,6 @@
 -- Whether a number is held, looked for from the front of the list of offsets. Assumes nothing.
-use Prim.Native.Nat.{ℕ, zero, suc, ◌+◌, ◌≤◌, ◌<◌}
-use mathlib.Core.Path.{◌≡◌}
-use mathlib.Core.Logic.{◌⊎◌, inl, inr, ⊎_elim}
-use mathlib.Core.Bool.{true, false}
-use mathlib.Core.List.{List, [], ◌∷◌}
-use native.Mathlib.Omega.{arith}
-use native.Mathlib.Numerals.{add-one}
-use borrow.Author.Tests.{eq-eqb, ne_eqb, eqb-true, eqb-false}
-use lib.Dec.{eqb}
-use lib.ListN.{length, get_or, take, drop, drop_of_length-le}
-use lib.Seq.{drop-cons, length-take-le, get_or-take}
+use Rattle.std.proofs.Common.{ℕ, zero, suc, ◌+◌, ◌≤◌, ◌<◌, ◌≡◌, ◌⊎◌, inl, inr, ⊎_elim, true, false, List, [], ◌∷◌, arith, add-one, eq-eqb, ne_eqb, eqb-true, eqb, length, get_or, take, drop, drop_of_length-le, drop-cons, length-take-le, get_or-take}
+use borrow.Author.Tests.{eqb-false}
 use Rattle.tonekit_pack.specs.Pack.{holds, zero_or_held, number_at}
 use Rattle.tonekit_core.proofs.Split.{absurd_bool, either, neither}
 

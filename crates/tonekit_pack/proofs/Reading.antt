@@ -1,18 +1,13 @@
 -- What the reader's loop keeps: from here it gives what it gives of the whole, and its place is near enough for a u16. Assumes nothing.
-use Prim.Native.Nat.{ℕ, ◌+◌, ◌-◌, ◌*◌, ◌≤◌, ◌<◌}
-use mathlib.Core.Path.{◌≡◌, refl}
-use mathlib.Core.List.{List}
-use native.Mathlib.Omega.{arith}
-use lib.ListN.{length, length-append}
-use borrow.Author.Tests.{ne_eqb}
+use Rattle.std.proofs.Common.{ℕ, ◌+◌, ◌-◌, ◌*◌, ◌≤◌, ◌<◌, ◌≡◌, refl, List, arith, length, length-append, ne_eqb}
 use Rattle.tonekit_core.specs.Loop.{loop_to, loop_again, loop_stop}
 use Rattle.tonekit_core.specs.declared.Refusal.{Refusal}
 use Rattle.tonekit_core.specs.declared.Refusal.TheVariants.{CutShort}
-use Rattle.tonekit_core.specs.declared.Verdict.TheVariants as verdict
+use Rattle.std.specs.Prelude.{Ok, Err}
 use Rattle.tonekit_bytes.specs.Fields.{byte_at}
 use Rattle.tonekit_pack.specs.declared.Pack.{Pack}
 use Rattle.tonekit_pack.specs.Pack.{Pst, loaded, refused, Here, size_of, added, record_verdict, record_turn, read_pack}
-use Rattle.tonekit_pack.specs.Held.{shown, Roomy}
+use Rattle.tonekit_pack.specs.Held.{shown}
 use Rattle.tonekit_pack.proofs.InOrder.{order_length}
 use Rattle.tonekit_pack.proofs.Records.{Due, settings, tone, accent, rule, part, finish, Sound, sound, size_pos, tone_room, accent_room, rule_room, part_room}
 
@@ -33,7 +28,6 @@ near_next at st (finish l u) n p = absurd (n refl)
 
 -- from here the reader gives what it gives of the whole
 pub record Going (s : List ℕ) (st : Pack) (at : ℕ) : Type 0 where
-  pub roomy : Roomy st
   pub near : Near at (shown st)
   pub inside : at ≤ length s
   pub fuel : ℕ
@@ -44,13 +38,13 @@ module _ (s : List ℕ) (st : Pack) (at : ℕ) (g : Going s st at) where
   place : Here
   place = record { at = at; st = shown st }
 
-  pub refuses : (r : Refusal) → record_verdict s at (shown st) ≡ verdict.Refused r → refused r at ≡ read_pack s
+  pub refuses : (r : Refusal) → record_verdict s at (shown st) ≡ Err r → refused r at ≡ read_pack s
   refuses r v = loop_stop (record_turn s) (refused CutShort (length s)) g.same (omega arith) (rw v)
 
   pub close : at < 65536
   close = omega (arith, order_length st.toneat st.tones, order_length st.accentat st.accents, order_length st.ruleat st.rules)
 
-  module _ (v : record_verdict s at (shown st) ≡ verdict.Fine) where
+  module _ (v : record_verdict s at (shown st) ≡ Ok tt) where
     pub ok : Sound s at (shown st)
     ok = sound s at (shown st) v
 
@@ -69,9 +63,8 @@ module _ (s : List ℕ) (st : Pack) (at : ℕ) (g : Going s st at) where
     pub room5 : byte_at s at ≡ 5 → (st.parts < 4) × (st.total < 128)
     room5 e = let r = part_room s at (shown st) (rw e at ok.body) in (r.few, r.in_all)
 
-    pub goes : (st' : Pack) → (byte_at s at ≡ 6 → ⊥) → shown st' ≡ added (byte_at s at) at (shown st) → Roomy st' → Going s st' (at + size_of (byte_at s at))
-    goes st' n e r = record {
-      roomy = r;
+    pub goes : (st' : Pack) → (byte_at s at ≡ 6 → ⊥) → shown st' ≡ added (byte_at s at) at (shown st) → Going s st' (at + size_of (byte_at s at))
+    goes st' n e = record {
       near = rw e (near_next at (shown st) ok.due n g.near);
       inside = ok.whole;
       fuel = g.fuel - 1;

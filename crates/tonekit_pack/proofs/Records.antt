@@ -1,15 +1,8 @@
 -- What a record that is fine shows: its kind was due, it is whole, and each test of its body passed. Assumes nothing.
-use Prim.Native.Nat.{ℕ, ◌+◌, ◌≤◌, ◌<◌}
-use mathlib.Core.Path.{◌≡◌, refl}
-use mathlib.Core.Bool.{Bool, true, false, not, ◌&&◌, ◌||◌}
-use mathlib.Core.List.{List}
-use native.Mathlib.Omega.{arith}
-use lib.ListN.{length}
-use lib.Dec.{eqb, leb, ltb}
-use borrow.Author.Tests.{eqb-true, leb-false, ltb-false}
+use Rattle.std.proofs.Common.{ℕ, ◌+◌, ◌≤◌, ◌<◌, ◌≡◌, refl, Bool, true, false, not, ◌&&◌, ◌||◌, List, arith, length, eqb, leb, ltb, eqb-true, leb-false, ltb-false}
 use Rattle.tonekit_core.specs.declared.Refusal.{Refusal}
 use Rattle.tonekit_core.specs.declared.Refusal.TheVariants.{Misplaced, CutShort, Crowded, OffScale, Doubled, Loose}
-use Rattle.tonekit_core.specs.declared.Verdict.TheVariants as verdict
+use Rattle.std.specs.Prelude.{Result, Ok, Err}
 use Rattle.tonekit_bytes.specs.Fields.{byte_at}
 use Rattle.tonekit_pack.specs.Pack.{Pst, due_after, size_of, number_at, holds, zero_or_held, in_turn, tone_crowded, tone_fine, tone_verdict, accent_fine, accent_verdict, rule_fine, rule_held, rule_verdict, single, part_crowded, part_fine, part_verdict, body_verdict, record_verdict}
 use Rattle.tonekit_core.proofs.Split.{split, absurd_bool, either, neither}
@@ -53,8 +46,8 @@ size_pos k =
     split (eqb k 1) (λ a. rw a (omega arith)) (λ a. split (eqb k 2) (λ b. rw (a, b) (omega arith)) (λ b. split (eqb k 3) (λ d. rw (a, b, d) (omega arith))
     (λ d. split (eqb k 4) (λ e. rw (a, b, d, e) (omega arith)) (λ e. split (eqb k 5) (λ f. rw (a, b, d, e, f) (omega arith)) (λ f. rw (a, b, d, e, f) (omega arith))))))
 
-pub not_fine : {P : Type 0} (r : Refusal) → verdict.Refused r ≡ verdict.Fine → P
-not_fine r h = let z : ◌≡◌ {A = ℕ} 0 1 = cc in absurd (omega arith)
+pub not_fine : {P : Type 0} (r : Refusal) → ◌≡◌ {A = Result Unit Refusal} (Err r) (Ok tt) → P
+not_fine r h = absurd (cc)
 
 -- each test in turn passed
 pub record Passed (crowded fine new held : Bool) : Type 0 where
@@ -63,7 +56,7 @@ pub record Passed (crowded fine new held : Bool) : Type 0 where
   pub once : new ≡ true
   pub there : held ≡ true
 
-pub passed : (crowded fine new held : Bool) → in_turn crowded fine new held ≡ verdict.Fine → Passed crowded fine new held
+pub passed : (crowded fine new held : Bool) → in_turn crowded fine new held ≡ Ok tt → Passed crowded fine new held
 passed true b c d h = not_fine Crowded h
 passed false false c d h = not_fine OffScale h
 passed false true false d h = not_fine Doubled h
@@ -75,9 +68,9 @@ module _ (s : List ℕ) (at : ℕ) (st : Pst) where
     pub inside : at < length s
     pub whole : at + size_of (byte_at s at) ≤ length s
     pub due : Due st.last (byte_at s at)
-    pub body : body_verdict (byte_at s at) s at st ≡ verdict.Fine
+    pub body : body_verdict (byte_at s at) s at st ≡ Ok tt
 
-  pub sound : record_verdict s at st ≡ verdict.Fine → Sound
+  pub sound : record_verdict s at st ≡ Ok tt → Sound
   unfolding record_verdict
   sound h =
       split (leb (length s) at) (λ a. not_fine CutShort (rw a at h))
@@ -86,31 +79,31 @@ module _ (s : List ℕ) (at : ℕ) (st : Pst) where
       (λ l. record { inside = leb-false _ _ a; whole = ltb-false _ _ l; due = due_is st.last (byte_at s at) d; body = rw (a, d, l) at h }))
       (λ d. not_fine Misplaced (rw (a, d) at h)))
 
-  pub tone_passed : body_verdict 2 s at st ≡ verdict.Fine → Passed (tone_crowded s at st) (tone_fine s at) (not (holds s st.tones (number_at s at))) true
+  pub tone_passed : body_verdict 2 s at st ≡ Ok tt → Passed (tone_crowded s at st) (tone_fine s at) (not (holds s st.tones (number_at s at))) true
   unfolding body_verdict tone_verdict
   tone_passed h = passed (tone_crowded s at st) (tone_fine s at) (not (holds s st.tones (number_at s at))) true h
 
-  pub accent_passed : body_verdict 3 s at st ≡ verdict.Fine
+  pub accent_passed : body_verdict 3 s at st ≡ Ok tt
       → Passed (leb 8 (length st.accents)) (accent_fine s at) (not (holds s st.accents (number_at s at))) (zero_or_held s st.accents (byte_at s (at + 2)))
   unfolding body_verdict accent_verdict
   accent_passed h = passed (leb 8 (length st.accents)) (accent_fine s at) (not (holds s st.accents (number_at s at))) (zero_or_held s st.accents (byte_at s (at + 2))) h
 
-  pub rule_passed : body_verdict 4 s at st ≡ verdict.Fine → Passed (leb 64 (length st.rules)) (rule_fine s at) true (rule_held s at st)
+  pub rule_passed : body_verdict 4 s at st ≡ Ok tt → Passed (leb 64 (length st.rules)) (rule_fine s at) true (rule_held s at st)
   unfolding body_verdict rule_verdict
   rule_passed h = passed (leb 64 (length st.rules)) (rule_fine s at) true (rule_held s at st) h
 
-  pub part_passed : body_verdict 5 s at st ≡ verdict.Fine → Passed (part_crowded s at st) (part_fine (single s st) s at) true true
+  pub part_passed : body_verdict 5 s at st ≡ Ok tt → Passed (part_crowded s at st) (part_fine (single s st) s at) true true
   unfolding body_verdict part_verdict
   part_passed h = passed (part_crowded s at st) (part_fine (single s st) s at) true true h
 
   -- a record that is fine has room
-  pub tone_room : body_verdict 2 s at st ≡ verdict.Fine → length st.tones < 8
+  pub tone_room : body_verdict 2 s at st ≡ Ok tt → length st.tones < 8
   tone_room h = leb-false 8 (length st.tones) (neither (leb 8 (length st.tones)) (ltb 10 (byte_at s (at + 6))) (tone_passed h).room).0
 
-  pub accent_room : body_verdict 3 s at st ≡ verdict.Fine → length st.accents < 8
+  pub accent_room : body_verdict 3 s at st ≡ Ok tt → length st.accents < 8
   accent_room h = leb-false 8 (length st.accents) (accent_passed h).room
 
-  pub rule_room : body_verdict 4 s at st ≡ verdict.Fine → length st.rules < 64
+  pub rule_room : body_verdict 4 s at st ≡ Ok tt → length st.rules < 64
   rule_room h = leb-false 64 (length st.rules) (rule_passed h).room
 
   -- of a part: room in its rule and in all, and no second part of a single rule
@@ -120,7 +113,7 @@ module _ (s : List ℕ) (at : ℕ) (st : Pst) where
     pub lone : single s st ≡ true → st.parts ≡ 0
     pub knots : byte_at s (at + 5) ≤ 10
 
-  pub part_room : body_verdict 5 s at st ≡ verdict.Fine → PartRoom
+  pub part_room : body_verdict 5 s at st ≡ Ok tt → PartRoom
   part_room h =
       let second = single s st && leb 1 st.parts in
       let more = second || ltb 10 (byte_at s (at + 5)) in

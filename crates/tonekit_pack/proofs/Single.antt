@@ -1,42 +1,9 @@
 -- From a pack at the front of an input to an input that is one pack, and to the check of it. Assumes nothing.
-use Prim.Native.Nat.{ℕ, ◌≤◌, ◌<◌}
-use mathlib.Core.Path.{◌≡◌}
-use mathlib.Core.List.{List}
-use lib.ListN.{length}
-use native.Mathlib.Omega.{arith}
-use lib.Dec.{ltb}
-use borrow.Author.Tests.{lt-ltb, le-ltb, ltb-false}
-use Rattle.tonekit_core.specs.declared.Refusal.{Refusal}
+use Rattle.std.proofs.Common.{ℕ, ◌≤◌, ◌≡◌, List, length, arith, ltb, ltb-false}
 use Rattle.tonekit_core.specs.declared.Refusal.TheVariants.{Overrun}
-use Rattle.tonekit_core.specs.declared.Checked.TheVariants as checked
-use Rattle.tonekit_pack.specs.declared.PackRead.TheVariants.{Good, Refused}
-use Rattle.tonekit_pack.specs.declared.Loaded.{Loaded}
-use Rattle.tonekit_pack.specs.Pack.{Pst, Out, loaded, refused, singly, read_pack, load_pack, check_pack}
-use Rattle.tonekit_pack.specs.Held.{answered}
+use Rattle.tonekit_pack.specs.Pack.{Pst, Out, loaded, refused, singly, read_pack, load_pack}
 use Rattle.tonekit_core.proofs.Split.{split}
 use Rattle.tonekit_pack.proofs.Turns.{not_loaded}
-
-module _ (s : List ℕ) (l : Loaded) (h : answered l ≡ read_pack s) where
-  pub over : (e : ℕ) → l.read ≡ Good e → e < length s → refused Overrun e ≡ load_pack s
-  unfolding load_pack
-  over e g b = rw (← h, g, lt-ltb e (length s) b)
-
-  pub exact : (e : ℕ) → l.read ≡ Good e → length s ≤ e → answered l ≡ load_pack s
-  unfolding load_pack
-  exact e g b = rw (← h, g, le-ltb e (length s) b)
-
-  pub turned : (r : Refusal) (place : ℕ) → l.read ≡ Refused r place → answered l ≡ load_pack s
-  unfolding load_pack
-  turned r place g = rw (← h, g)
-
-module _ (s : List ℕ) (l : Loaded) (h : answered l ≡ load_pack s) where
-  pub said_loads : (e : ℕ) → l.read ≡ Good e → checked.Loads ≡ check_pack s
-  unfolding check_pack
-  said_loads e g = rw (← h, g)
-
-  pub said_refused : (r : Refusal) (place : ℕ) → l.read ≡ Refused r place → checked.Refused r place ≡ check_pack s
-  unfolding check_pack
-  said_refused r place g = rw (← h, g)
 
 -- an input that loads as one pack is a pack at its front, and nothing behind it
 by_out : {P : Type 0} (s : List ℕ) (o : Out) (st : Pst) (e : ℕ) → singly s o ≡ loaded st e → (o ≡ loaded st e → length s ≤ e → P) → P

@@ -1,24 +1,18 @@
 -- The reader's turns: where the reading goes on to a pack's end, each record passes; and the limit of turns never ends the reading. Assumes nothing.
-use Prim.Native.Nat.{ℕ, zero, suc, ◌+◌, ◌-◌, ◌≤◌, ◌<◌}
-use mathlib.Core.Path.{◌≡◌, refl, sym, ◌∙◌}
-use mathlib.Core.List.{List}
-use native.Mathlib.Omega.{arith}
-use lib.ListN.{length}
-use lib.Dec.{eqb}
-use borrow.Author.Tests.{ne_eqb, eqb-true, eqb-false}
+use Rattle.std.proofs.Common.{ℕ, zero, suc, ◌+◌, ◌-◌, ◌≤◌, ◌<◌, ◌≡◌, refl, sym, ◌∙◌, List, arith, length, eqb, ne_eqb, eqb-true}
+use borrow.Author.Tests.{eqb-false}
 use Rattle.tonekit_core.specs.Loop.{loop_to, loop_again, loop_stop}
 use Rattle.tonekit_core.specs.declared.Refusal.{Refusal}
 use Rattle.tonekit_core.specs.declared.Refusal.TheVariants.{CutShort}
-use Rattle.tonekit_core.specs.declared.Verdict.{Verdict}
-use Rattle.tonekit_core.specs.declared.Verdict.TheVariants as verdict
+use Rattle.std.specs.Prelude.{Result, Ok, Err}
 use Rattle.tonekit_bytes.specs.Fields.{byte_at}
 use Rattle.tonekit_pack.specs.Pack.{Pst, Out, loaded, refused, size_of, added, record_verdict, record_turn, start, read_pack}
 use Rattle.tonekit_core.proofs.Split.{split}
 use Rattle.tonekit_pack.proofs.Records.{Sound, sound, size_pos}
 
-pub by_verdict : {P : Type 0} (v : Verdict) → (v ≡ verdict.Fine → P) → ((r : Refusal) → v ≡ verdict.Refused r → P) → P
-by_verdict verdict.Fine f g = f refl
-by_verdict (verdict.Refused r) f g = g r refl
+pub by_verdict : {P : Type 0} (v : Result Unit Refusal) → (v ≡ Ok tt → P) → ((r : Refusal) → v ≡ Err r → P) → P
+by_verdict (Ok u) f g = f refl
+by_verdict (Err r) f g = g r refl
 
 -- the rest of the reading, from a place on
 abbrev pub run : List ℕ → Out → ℕ → ℕ → Pst → Out
@@ -26,13 +20,13 @@ run s d n at st = loop_to (record_turn s) d n (record { at = at; st = st })
 
 -- what one turn of a reading is
 module _ (s : List ℕ) (d : Out) (n at : ℕ) (st : Pst) (some : 0 < n) where
-  pub run_refused : (r : Refusal) → record_verdict s at st ≡ verdict.Refused r → run s d n at st ≡ refused r at
+  pub run_refused : (r : Refusal) → record_verdict s at st ≡ Err r → run s d n at st ≡ refused r at
   run_refused r v = sym (loop_stop (record_turn s) d refl some (rw v))
 
-  pub run_end : record_verdict s at st ≡ verdict.Fine → byte_at s at ≡ 6 → run s d n at st ≡ loaded st (at + 1)
+  pub run_end : record_verdict s at st ≡ Ok tt → byte_at s at ≡ 6 → run s d n at st ≡ loaded st (at + 1)
   run_end v e = sym (loop_stop (record_turn s) d refl some (rw (v, e)))
 
-  pub run_on : record_verdict s at st ≡ verdict.Fine → (byte_at s at ≡ 6 → ⊥)
+  pub run_on : record_verdict s at st ≡ Ok tt → (byte_at s at ≡ 6 → ⊥)
       → run s d n at st ≡ run s d (n - 1) (at + size_of (byte_at s at)) (added (byte_at s at) at st)
   run_on v e = sym (loop_again (record_turn s) d refl some (rw (v, ne_eqb (byte_at s at) 6 e)))
 

@@ -1,10 +1,9 @@
 -- Worked examples, computed: the smallest pack loads, and one refusal of each number that a pack can have, with its place.
-use Rattle.std.specs.Prelude.{ℕ, ◌≡◌, refl, List, [], ◌∷◌, ◌++◌, replicate}
+use Rattle.std.specs.Prelude.{ℕ, ◌≡◌, refl, List, [], ◌∷◌, ◌++◌, replicate, Ok, Err}
 use Rattle.std.specs.Float.Ieee.{lt, le, of_bits}
 use Rattle.tonekit_core.specs.Loop.{range, turns, loop_to, loop_on}
 use Rattle.tonekit_core.specs.declared.Refusal.TheVariants.{Misplaced, CutShort, Overrun, Crowded, OffScale, Doubled, Loose}
 use Rattle.tonekit_pack.specs.Ranges.{above_zero, a_share, knot_fine, weight_fine, slot_fine, knots_fine, region_fine, tolerances_fine}
-use Rattle.tonekit_core.specs.declared.Verdict.TheVariants as verdict
 use Rattle.tonekit_pack.specs.Pack.{Out, Pst, loaded, refused, due_after, size_of, holds, zero_or_held, settings_verdict, tone_verdict, accent_verdict, rule_verdict, part_verdict, body_verdict, record_verdict, added, read_pack, load_pack}
 
 abbrev one : List ℕ
@@ -290,19 +289,19 @@ fifth_part = refl
 abbrev after : ℕ → ℕ → Pst
 after rules parts = record { last = 5; tones = 0 ∷ []; accents = 0 ∷ []; firsts = 0 ∷ []; rules = replicate rules 0; parts = 1; total = parts }
 
-rule_64 : rule_verdict (4 ∷ 0 ∷ 0 ∷ 0 ∷ 0 ∷ 0 ∷ 3 ∷ []) 0 (after 63 63) ≡ verdict.Fine
+rule_64 : rule_verdict (4 ∷ 0 ∷ 0 ∷ 0 ∷ 0 ∷ 0 ∷ 3 ∷ []) 0 (after 63 63) ≡ Ok tt
 unfolding rule_verdict zero_or_held
 rule_64 = refl
 
-rule_65 : rule_verdict (4 ∷ 0 ∷ 0 ∷ 0 ∷ 0 ∷ 0 ∷ 3 ∷ []) 0 (after 64 64) ≡ verdict.Refused Crowded
+rule_65 : rule_verdict (4 ∷ 0 ∷ 0 ∷ 0 ∷ 0 ∷ 0 ∷ 3 ∷ []) 0 (after 64 64) ≡ Err Crowded
 unfolding rule_verdict
 rule_65 = refl
 
-part_128 : part_verdict (rule 3 ++ part one) 7 (after 64 127) ≡ verdict.Fine
+part_128 : part_verdict (rule 3 ++ part one) 7 (after 64 127) ≡ Ok tt
 unfolding part_verdict weight_fine knots_fine slot_fine knot_fine range turns lt le of_bits
 part_128 = refl
 
-part_129 : part_verdict (rule 3 ++ part one) 7 (after 64 128) ≡ verdict.Refused Crowded
+part_129 : part_verdict (rule 3 ++ part one) 7 (after 64 128) ≡ Err Crowded
 unfolding part_verdict
 part_129 = refl
 

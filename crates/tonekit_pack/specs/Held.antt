@@ -1,9 +1,7 @@
 -- What the reader's struct and answer stand for.
-use Rattle.std.specs.Prelude.{ℕ, zero, suc, ◌≤◌, ◌≡◌, List, [], ◌∷◌, ◌++◌, length, get_or, replicate}
-use Rattle.tonekit_core.specs.declared.Refusal.{Refusal}
+use Rattle.std.specs.Prelude.{ℕ, zero, suc, ◌≤◌, ◌≡◌, List, [], ◌∷◌, ◌++◌, length, get_or, Result, Ok, Err}
+use Rattle.tonekit_core.specs.declared.Rejection.{Rejection}
 use Rattle.tonekit_pack.specs.declared.Pack.{Pack}
-use Rattle.tonekit_pack.specs.declared.PackRead.{PackRead}
-use Rattle.tonekit_pack.specs.declared.PackRead.TheVariants.{Good, Refused}
 use Rattle.tonekit_pack.specs.declared.Loaded.{Loaded}
 use Rattle.tonekit_pack.specs.Pack.{Pst, Out, loaded, refused, read_pack}
 
@@ -24,34 +22,10 @@ shown p = record {
   total = p.total;
 }
 
-abbrev pub outcome : PackRead → Pst → Out
-outcome (Good e) st = loaded st e
-outcome (Refused r place) st = refused r place
-
-abbrev pub answered : Loaded → Out
-answered l = outcome l.read (shown l.pack)
-
--- nothing read
-abbrev pub empty_pack : Pack
-empty_pack = record {
-  last = 0;
-  tones = 0;
-  accents = 0;
-  rules = 0;
-  parts = 0;
-  total = 0;
-  toneat = replicate 8 0;
-  accentat = replicate 8 0;
-  firstrule = replicate 8 0;
-  ruleat = replicate 64 0;
-}
-
-abbrev pub turned_back : Refusal → ℕ → Loaded
-turned_back r place = record { read = Refused r place; pack = empty_pack }
-
--- with a refusal nothing is handed back, whatever was read before it
-abbrev pub EmptyIfRefused : Loaded → Type 0
-EmptyIfRefused l = (r : Refusal) (place : ℕ) → l.read ≡ Refused r place → l.pack ≡ empty_pack
+-- what the reader answers
+abbrev pub answered : Result Loaded Rejection → Out
+answered (Ok l) = loaded (shown l.pack) l.end
+answered (Err e) = refused e.why e.place
 
 -- the counts keep document 01's limits, the arrays have the length of theirs, and no accent has more rules before it than there can be
 pub record Roomy (p : Pack) : Type 0 where
@@ -68,6 +42,5 @@ pub record Roomy (p : Pack) : Type 0 where
 
 -- a pack as its reader handed it back for these bytes, which load
 pub record ReadFrom (s : List ℕ) (p : Pack) : Type 0 where
-  pub roomy : Roomy p
   pub end : ℕ
   pub reads : read_pack s ≡ loaded (shown p) end

@@ -1,5 +1,5 @@
 -- Document 01's section Pack: which bytes are a pack, and the refusal and place of those that are not. A record is held by its offset.
-use Rattle.std.specs.Prelude.{ℕ, zero, suc, ◌+◌, ◌-◌, Bool, true, false, cond, not, ◌&&◌, ◌||◌, List, [], ◌∷◌, ◌++◌, eqb, leb, ltb, length, get_or}
+use Rattle.std.specs.Prelude.{ℕ, zero, suc, ◌+◌, ◌-◌, Bool, true, false, cond, not, ◌&&◌, ◌||◌, List, [], ◌∷◌, ◌++◌, eqb, leb, ltb, length, get_or, Result, Ok, Err}
 use Rattle.tonekit_core.specs.Loop.{Turn, next, stop, loop_to}
 use Rattle.tonekit_core.specs.Layout.{settings_kind, settings_size, settings_temperature, settings_threshold}
 use Rattle.tonekit_core.specs.Layout.{own_number, tone_kind, tone_size, tone_prior, tone_knot_count, tone_knots, tone_region}
@@ -8,10 +8,7 @@ use Rattle.tonekit_core.specs.Layout.{rule_kind, rule_size, rule_tone, rule_prev
 use Rattle.tonekit_core.specs.Layout.{part_kind, part_size, part_weight, part_knot_count, part_knots, end_kind, end_size}
 use Rattle.tonekit_core.specs.declared.Refusal.{Refusal}
 use Rattle.tonekit_core.specs.declared.Refusal.TheVariants.{Misplaced, CutShort, Overrun, Crowded, OffScale, Doubled, Loose}
-use Rattle.tonekit_core.specs.declared.Verdict.{Verdict}
-use Rattle.tonekit_core.specs.declared.Verdict.TheVariants as verdict
-use Rattle.tonekit_core.specs.declared.Checked.{Checked}
-use Rattle.tonekit_core.specs.declared.Checked.TheVariants as checked
+use Rattle.tonekit_core.specs.declared.Rejection.{Rejection}
 use Rattle.tonekit_bytes.specs.Fields.{byte_at, u32_at, f32_at}
 use Rattle.tonekit_pack.specs.Ranges.{above_zero, a_share, weight_fine, knots_fine, region_fine, tolerances_fine}
 
@@ -65,14 +62,14 @@ unfolding holds
 zero_or_held s os n = eqb n 0 || holds s os n
 
 -- the verdict of one test after another: crowded, off scale, doubled, loose
-abbrev pub in_turn : Bool → Bool → Bool → Bool → Verdict
+abbrev pub in_turn : Bool → Bool → Bool → Bool → Result Unit Refusal
 in_turn crowded fine new held =
-    cond crowded (verdict.Refused Crowded)
-    (cond (not fine) (verdict.Refused OffScale)
-    (cond (not new) (verdict.Refused Doubled)
-    (cond (not held) (verdict.Refused Loose) verdict.Fine)))
+    cond crowded (Err Crowded)
+    (cond (not fine) (Err OffScale)
+    (cond (not new) (Err Doubled)
+    (cond (not held) (Err Loose) (Ok tt))))
 
-unfoldable pub settings_verdict : List ℕ → ℕ → Verdict
+unfoldable pub settings_verdict : List ℕ → ℕ → Result Unit Refusal
 settings_verdict s o =
     in_turn false (above_zero (f32_at s (o + settings_temperature)) && a_share (f32_at s (o + settings_threshold))) true true
 
@@ -85,7 +82,7 @@ tone_fine s o =
     not (eqb (number_at s o) 0)
     && (a_share (f32_at s (o + tone_prior)) && (knots_fine s (o + tone_knots) (byte_at s (o + tone_knot_count)) && region_fine s (o + tone_region)))
 
-unfoldable pub tone_verdict : List ℕ → ℕ → Pst → Verdict
+unfoldable pub tone_verdict : List ℕ → ℕ → Pst → Result Unit Refusal
 unfolding holds
 tone_verdict s o st = in_turn (tone_crowded s o st) (tone_fine s o) (not (holds s st.tones (number_at s o))) true
 
@@ -93,7 +90,7 @@ tone_verdict s o st = in_turn (tone_crowded s o st) (tone_fine s o) (not (holds 
 abbrev pub accent_fine : List ℕ → ℕ → Bool
 accent_fine s o = not (eqb (number_at s o) 0) && tolerances_fine s (o + accent_contour)
 
-unfoldable pub accent_verdict : List ℕ → ℕ → Pst → Verdict
+unfoldable pub accent_verdict : List ℕ → ℕ → Pst → Result Unit Refusal
 unfolding holds zero_or_held
 accent_verdict s o st =
     in_turn
@@ -111,7 +108,7 @@ abbrev pub rule_held : List ℕ → ℕ → Pst → Bool
 rule_held s o st =
     zero_or_held s st.tones (byte_at s (o + rule_tone)) && zero_or_held s st.tones (byte_at s (o + rule_prev))
 
-unfoldable pub rule_verdict : List ℕ → ℕ → Pst → Verdict
+unfoldable pub rule_verdict : List ℕ → ℕ → Pst → Result Unit Refusal
 unfolding zero_or_held
 rule_verdict s o st = in_turn (leb 64 (length st.rules)) (rule_fine s o) true (rule_held s o st)
 
@@ -134,25 +131,25 @@ part_fine one s o =
     && ((not one || eqb (u32_at s (o + part_weight)) 0x3f80_0000)
     && (not (eqb (byte_at s (o + part_knot_count)) 0) && knots_fine s (o + part_knots) (byte_at s (o + part_knot_count))))
 
-unfoldable pub part_verdict : List ℕ → ℕ → Pst → Verdict
+unfoldable pub part_verdict : List ℕ → ℕ → Pst → Result Unit Refusal
 part_verdict s o st = in_turn (part_crowded s o st) (part_fine (single s st) s o) true true
 
-unfoldable pub body_verdict : ℕ → List ℕ → ℕ → Pst → Verdict
+unfoldable pub body_verdict : ℕ → List ℕ → ℕ → Pst → Result Unit Refusal
 unfolding settings_verdict tone_verdict accent_verdict rule_verdict part_verdict
 body_verdict k s o st =
     cond (eqb k settings_kind) (settings_verdict s o)
     (cond (eqb k tone_kind) (tone_verdict s o st)
     (cond (eqb k accent_kind) (accent_verdict s o st)
     (cond (eqb k rule_kind) (rule_verdict s o st)
-    (cond (eqb k part_kind) (part_verdict s o st) verdict.Fine))))
+    (cond (eqb k part_kind) (part_verdict s o st) (Ok tt)))))
 
 -- "in each 1, 2, 4, 5, 6, 7"; past the input's end a due record is missing: 2
-unfoldable pub record_verdict : List ℕ → ℕ → Pst → Verdict
+unfoldable pub record_verdict : List ℕ → ℕ → Pst → Result Unit Refusal
 unfolding due_after size_of body_verdict
 record_verdict s o st =
-    cond (leb (length s) o) (verdict.Refused CutShort)
-    (cond (not (due_after st.last (byte_at s o))) (verdict.Refused Misplaced)
-    (cond (ltb (length s) (o + size_of (byte_at s o))) (verdict.Refused CutShort)
+    cond (leb (length s) o) (Err CutShort)
+    (cond (not (due_after st.last (byte_at s o))) (Err Misplaced)
+    (cond (ltb (length s) (o + size_of (byte_at s o))) (Err CutShort)
     (body_verdict (byte_at s o) s o st)))
 
 -- what has been read once the record of kind k at o is fine
@@ -179,9 +176,9 @@ pub record Here : Type 0 where
   pub st : Pst
 
 -- a record that is refused ends the reading, and so does End; else the next record is due
-abbrev pub on_verdict : List ℕ → Here → Verdict → Turn Here Out
-on_verdict s h (verdict.Refused r) = stop (refused r h.at)
-on_verdict s h verdict.Fine =
+abbrev pub on_verdict : List ℕ → Here → Result Unit Refusal → Turn Here Out
+on_verdict s h (Err r) = stop (refused r h.at)
+on_verdict s h (Ok u) =
     cond (eqb (byte_at s h.at) end_kind) (stop (loaded h.st (h.at + end_size)))
     (next (record { at = h.at + size_of (byte_at s h.at); st = added (byte_at s h.at) h.at h.st }))
 
@@ -206,10 +203,10 @@ unfolding read_pack
 load_pack s = singly s (read_pack s)
 
 -- a check of the pack alone: it loads, or its refusal and place
-abbrev pub said : Out → Checked
-said (loaded st e) = checked.Loads
-said (refused r place) = checked.Refused r place
+abbrev pub said : Out → Result Unit Rejection
+said (loaded st e) = Ok tt
+said (refused r place) = Err (record { why = r; place = place })
 
-unfoldable pub check_pack : List ℕ → Checked
+unfoldable pub check_pack : List ℕ → Result Unit Rejection
 unfolding load_pack
 check_pack s = said (load_pack s)

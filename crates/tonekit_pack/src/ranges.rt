@@ -4,7 +4,7 @@ ghost use Rattle.tonekit_pack.specs.Ranges.{above_zero, a_share, knot_fine, weig
 
 use tonekit_bytes::{byte_at, f32_at, u32_at};
 use tonekit_core::layout;
-use tonekit_float::is_finite_f32;
+use tonekit_float::is_finite;
 
 // Finite and above 0.
 pub fn above_zero(x: f32) -> bool
@@ -14,6 +14,7 @@ pub fn above_zero(x: f32) -> bool
 }
 
 // Above 0, at most 1.
+#[tactic(auto, unfolding(crate::specs::Ranges::a_share))]
 pub fn a_share(x: f32) -> bool
     ensures { result ≡ a_share x }
 {
@@ -28,6 +29,7 @@ fn knot_fine(x: f32) -> bool
 }
 
 // The bits of a finite weight whose sign is clear.
+#[tactic(auto, unfolding(crate::specs::Ranges::weight_fine))]
 pub fn weight_fine(bits: u32) -> bool
     ensures { result ≡ weight_fine bits }
 {
@@ -35,11 +37,12 @@ pub fn weight_fine(bits: u32) -> bool
 }
 
 // Slot k from o on: a knot, or zero bytes past the first n.
+#[tactic(auto, unfolding(crate::specs::Ranges::slot_fine))]
 fn slot_fine(s: &[u8], o: usize, n: u8, k: usize) -> bool
     requires { k < 10 }
     ensures { result ≡ slot_fine s.now o n k }
 {
-    if k < n as usize {
+    if k < usize::from(n) {
         return knot_fine(f32_at(s, o, layout::F32_SIZE * k));
     }
     u32_at(s, o, layout::F32_SIZE * k) == 0
@@ -57,6 +60,7 @@ pub fn knots_fine(s: &[u8], o: usize, n: u8) -> bool
 }
 
 // A region: its flag at o, from and to behind it.
+#[tactic(auto, unfolding(crate::specs::Ranges::region_fine))]
 pub fn region_fine(s: &[u8], o: usize) -> bool
     ensures { result ≡ region_fine s.now o }
 {
@@ -66,10 +70,11 @@ pub fn region_fine(s: &[u8], o: usize) -> bool
     }
     let from = f32_at(s, o, layout::REGION_FROM);
     let to = f32_at(s, o, layout::REGION_TO);
-    (flag == 1) & (is_finite_f32(from) & (is_finite_f32(to) & (from <= to)))
+    (flag == 1) & (is_finite(from) & (is_finite(to) & (from <= to)))
 }
 
 // The four tolerances from o on.
+#[tactic(auto, unfolding(crate::specs::Ranges::tolerances_fine))]
 pub fn tolerances_fine(s: &[u8], o: usize) -> bool
     ensures { result ≡ tolerances_fine s.now o }
 {

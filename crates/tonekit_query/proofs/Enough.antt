@@ -1,20 +1,14 @@
 -- 10,287 bytes are enough to read any query: the longest has 10,286, and one byte more is already too many. Assumes nothing.
-use mathlib.Core.Path.{◌≡◌, refl, sym, ◌∙◌, ap}
-use mathlib.Core.Bool.{Bool, true, ◌&&◌}
-use mathlib.Core.List.{List}
-use Prim.Native.Nat.{ℕ, zero, suc, ◌+◌, ◌-◌, ◌*◌, ◌≤◌, ◌<◌}
-use native.Mathlib.Omega.{arith}
-use borrow.Author.Tests.{ne_eqb, lt-leb}
-use lib.Dec.{eqb, leb}
-use lib.ListN.{length, take}
+use Rattle.std.proofs.Common.{◌≡◌, refl, sym, ◌∙◌, ap, Bool, true, ◌&&◌, List, ℕ, zero, suc, ◌+◌, ◌-◌, ◌*◌, ◌≤◌, ◌<◌, arith, ne_eqb, eqb, leb, length, take}
+use borrow.Author.Tests.{lt-leb}
 use Rattle.tonekit_core.specs.Loop.{Turn, next, turns_to, range_to}
-use Rattle.tonekit_core.specs.declared.Verdict.{Verdict}
-use Rattle.tonekit_core.specs.declared.Verdict.TheVariants as verdict
+use Rattle.tonekit_core.specs.declared.Refusal.{Refusal}
+use Rattle.tonekit_core.specs.declared.Rejection.{Rejection}
+use Rattle.std.specs.Prelude.{Result, Ok, Err}
 use Rattle.tonekit_core.proofs.LoopLaws.{range_same}
 use Rattle.tonekit_bytes.specs.Fields.{u16_at}
 use Rattle.tonekit_bytes.proofs.Agreeing.{Agree, taken_agrees, two, four, float}
-use Rattle.tonekit_query.specs.declared.QueryRead.{QueryRead}
-use Rattle.tonekit_query.specs.declared.QueryRead.TheVariants.{Good, Refused}
+use Rattle.tonekit_query.specs.declared.Query.{Query}
 use Rattle.tonekit_query.specs.Query.{variant_fine, variant_turn, variants_fine, record_verdict, frame_verdict, fields_of, after_frame, frame_turn, read_frames, after_record, read_query, single, load_query, end_of}
 use Rattle.tonekit_query.proofs.Laws.{read_holds, fixed}
 
@@ -63,41 +57,41 @@ module _ (n : ℕ) (t s : List ℕ) (a : Agree n t s) (room : 10287 ≤ n) where
       )
 
   -- frames that lie within those bytes
-  abbrev on : ℕ → ℕ → Turn ℕ QueryRead → QueryRead
-  on = turns_to (frame_turn t) (λ (at : ℕ). Good (fields_of t))
+  abbrev on : ℕ → ℕ → Turn ℕ (Result Query Rejection) → Result Query Rejection
+  on = turns_to (frame_turn t) (λ (at : ℕ). Ok (fields_of t))
 
-  abbrev on' : ℕ → ℕ → Turn ℕ QueryRead → QueryRead
-  on' = turns_to (frame_turn s) (λ (at : ℕ). Good (fields_of s))
+  abbrev on' : ℕ → ℕ → Turn ℕ (Result Query Rejection) → Result Query Rejection
+  on' = turns_to (frame_turn s) (λ (at : ℕ). Ok (fields_of s))
 
-  then_same : (k i at : ℕ) (v : Verdict) → on k i (next (at + 10)) ≡ on' k i (next (at + 10)) → on k i (after_frame at v) ≡ on' k i (after_frame at v)
+  then_same : (k i at : ℕ) (v : Result Unit Refusal) → on k i (next (at + 10)) ≡ on' k i (next (at + 10)) → on k i (after_frame at v) ≡ on' k i (after_frame at v)
   unfolding turns_to
-  then_same k i at verdict.Fine behind = behind
-  then_same zero i at (verdict.Refused r) behind = refl
-  then_same (suc k) i at (verdict.Refused r) behind = refl
+  then_same k i at (Ok u) behind = behind
+  then_same zero i at (Err r) behind = refl
+  then_same (suc k) i at (Err r) behind = refl
 
   frames_same : (k i at : ℕ) → at + 10 * k ≤ 10286 → on k i (next at) ≡ on' k i (next at)
   unfolding turns_to
-  frames_same zero i at h = ap Good fields_same
+  frames_same zero i at h = ap Ok fields_same
   frames_same (suc k) i at h =
       then_same k (i + 1) at (frame_verdict t at) (frames_same k (i + 1) (at + 10) (omega arith))
-      ∙ ap (λ (v : Verdict). on' k (i + 1) (after_frame at v)) (frame_same at (omega arith))
+      ∙ ap (λ (v : Result Unit Refusal). on' k (i + 1) (after_frame at v)) (frame_same at (omega arith))
 
-  after_same : (v : Verdict) → record_verdict t ≡ v → after_record t v ≡ after_record s v
+  after_same : (v : Result Unit Refusal) → record_verdict t ≡ v → after_record t v ≡ after_record s v
   unfolding range_to
-  after_same verdict.Fine e =
+  after_same (Ok u) e =
       frames_same (u16_at t 44 - 0) 0 46 (omega (arith, (fixed t e).count)) ∙ ap (read_frames s) (two n t s a 44 (omega arith))
-  after_same (verdict.Refused r) e = refl
+  after_same (Err r) e = refl
 
   read_same : read_query t ≡ read_query s
   unfolding read_query
   read_same = after_same (record_verdict t) refl ∙ ap (after_record s) record_same
 
   -- both have something behind, or neither
-  single_same : (r : QueryRead) → read_query t ≡ r → single (length t) r ≡ single (length s) r
-  single_same (Good q) e =
+  single_same : (r : Result Query Rejection) → read_query t ≡ r → single (length t) r ≡ single (length s) r
+  single_same (Ok q) e =
       let c : q.count ≤ 1024 = (read_holds t q e).count in
       rw (a.goes (end_of q.count) (omega arith))
-  single_same (Refused r place) e = refl
+  single_same (Err r) e = refl
 
   load_same : load_query t ≡ load_query s
   unfolding load_query

@@ -1,30 +1,20 @@
 -- What a query that was read holds, for those that use it. Assumes nothing.
-use mathlib.Core.Path.{◌≡◌, refl, ◌∙◌, ap, subst}
-use mathlib.Core.Bool.{Bool, true, false, cond, not, ◌&&◌, ◌||◌}
-use mathlib.Core.List.{List}
-use Prim.Native.Nat.{ℕ, zero, suc, ◌+◌, ◌-◌, ◌*◌, ◌≤◌, ◌<◌}
-use native.Mathlib.Omega.{arith}
-use borrow.Author.Tests.{ltb-true, ltb-false, leb-true}
-use lib.Dec.{eqb, leb, ltb}
-use lib.ListN.{length, drop, length-drop}
-use lib.Seq.{length-take-le}
+use Rattle.std.proofs.Common.{◌≡◌, refl, ◌∙◌, ap, subst, Bool, true, false, cond, not, ◌&&◌, ◌||◌, List, ℕ, zero, suc, ◌+◌, ◌-◌, ◌*◌, ◌≤◌, ◌<◌, arith, ltb-true, ltb-false, leb-true, eqb, leb, ltb, length, drop, length-drop, length-take-le}
 use Rattle.tonekit_core.proofs.Split.{neither, both}
 use Rattle.tonekit_core.specs.Loop.{Turn, next, stop, turns_to, range_to}
 use Rattle.tonekit_core.specs.declared.Refusal.{Refusal}
 use Rattle.tonekit_core.specs.declared.Refusal.TheVariants.{Misplaced, CutShort, Overrun, Crowded, BadQuery}
-use Rattle.tonekit_core.specs.declared.Verdict.{Verdict}
-use Rattle.tonekit_core.specs.declared.Verdict.TheVariants as verdict
+use Rattle.tonekit_core.specs.declared.Rejection.{Rejection}
+use Rattle.std.specs.Prelude.{Result, Ok, Err}
 use Rattle.tonekit_bytes.specs.Fields.{byte_at, u16_at}
 use Rattle.tonekit_query.specs.declared.Query.{Query}
-use Rattle.tonekit_query.specs.declared.QueryRead.{QueryRead}
-use Rattle.tonekit_query.specs.declared.QueryRead.TheVariants.{Good, Refused}
 use Rattle.tonekit_query.specs.Query.{variants_fine, record_verdict, frame_verdict, fields_of, after_frame, frame_turn, after_record, read_query, single, load_query, end_of, frames_of}
 
-differ : (r : Refusal) → verdict.Refused r ≡ verdict.Fine → ⊥
-differ r e = let z : ◌≡◌ {A = ℕ} 0 1 = cc in omega arith
+differ : (r : Refusal) → ◌≡◌ {A = Result Unit Refusal} (Err r) (Ok tt) → ⊥
+differ r e = cc
 
-no_query : (r : Refusal) (place : ℕ) (q : Query) → Refused r place ≡ Good q → ⊥
-no_query r place q e = let z : ◌≡◌ {A = ℕ} 0 1 = cc in omega arith
+no_query : (e : Rejection) (q : Query) → Err e ≡ Ok q → ⊥
+no_query r q e = cc
 
 -- a fixed record that is fine
 pub record Fixed (s : List ℕ) : Type 0 where
@@ -35,11 +25,11 @@ pub record Fixed (s : List ℕ) : Type 0 where
   pub issues : u16_at s 21 < 1024
 
 tests : (empty kind short many fine : Bool)
-    → cond empty (verdict.Refused CutShort)
-    (cond kind (verdict.Refused Misplaced)
-    (cond short (verdict.Refused CutShort)
-    (cond many (verdict.Refused Crowded)
-    (cond fine verdict.Fine (verdict.Refused BadQuery))))) ≡ verdict.Fine
+    → cond {A = Result Unit Refusal} empty (Err CutShort)
+    (cond kind (Err Misplaced)
+    (cond short (Err CutShort)
+    (cond many (Err Crowded)
+    (cond fine (Ok tt) (Err BadQuery))))) ≡ Ok tt
     → (short ≡ false) × (many ≡ false) × (fine ≡ true)
 tests true kind short many fine e = absurd (differ CutShort e)
 tests false true short many fine e = absurd (differ Misplaced e)
@@ -48,7 +38,7 @@ tests false false false true fine e = absurd (differ Crowded e)
 tests false false false false false e = absurd (differ BadQuery e)
 tests false false false false true e = (refl, refl, refl)
 
-pub fixed : (s : List ℕ) → record_verdict s ≡ verdict.Fine → Fixed s
+pub fixed : (s : List ℕ) → record_verdict s ≡ Ok tt → Fixed s
 unfolding record_verdict
 fixed s e =
     let t = tests
@@ -69,15 +59,15 @@ fixed s e =
     }
 
 frame_tests : (missing kind short fine : Bool)
-    → cond missing (verdict.Refused CutShort)
-    (cond kind (verdict.Refused Misplaced) (cond short (verdict.Refused CutShort) (cond fine verdict.Fine (verdict.Refused BadQuery)))) ≡ verdict.Fine
+    → cond {A = Result Unit Refusal} missing (Err CutShort)
+    (cond kind (Err Misplaced) (cond short (Err CutShort) (cond fine (Ok tt) (Err BadQuery)))) ≡ Ok tt
     → short ≡ false
 frame_tests true kind short fine e = absurd (differ CutShort e)
 frame_tests false true short fine e = absurd (differ Misplaced e)
 frame_tests false false true fine e = absurd (differ CutShort e)
 frame_tests false false false fine e = refl
 
-frame_whole : (s : List ℕ) (at : ℕ) → frame_verdict s at ≡ verdict.Fine → at + 10 ≤ length s
+frame_whole : (s : List ℕ) (at : ℕ) → frame_verdict s at ≡ Ok tt → at + 10 ≤ length s
 unfolding frame_verdict
 frame_whole s at e =
     ltb-false (length s) (at + 10)
@@ -85,22 +75,22 @@ frame_whole s at e =
 
 -- the frames that were read lie within the bytes
 module _ (s : List ℕ) (q : Query) where
-  abbrev on : ℕ → ℕ → Turn ℕ QueryRead → QueryRead
-  on = turns_to (frame_turn s) (λ (at : ℕ). Good (fields_of s))
+  abbrev on : ℕ → ℕ → Turn ℕ (Result Query Rejection) → Result Query Rejection
+  on = turns_to (frame_turn s) (λ (at : ℕ). Ok (fields_of s))
 
-  stopped : (k i : ℕ) (r : Refusal) (place : ℕ) → on k i (stop (Refused r place)) ≡ Good q → ⊥
+  stopped : (k i : ℕ) (r : Rejection) → on k i (stop (Err r)) ≡ Ok q → ⊥
   unfolding turns_to
-  stopped zero i r place e = no_query r place q e
-  stopped (suc k) i r place e = no_query r place q e
+  stopped zero i r e = no_query r q e
+  stopped (suc k) i r e = no_query r q e
 
   -- a frame, and those behind it
-  frame_then : (k i at : ℕ) (v : Verdict) → frame_verdict s at ≡ v
-      → (at + 10 ≤ length s → on k (i + 1) (next (at + 10)) ≡ Good q → (q ≡ fields_of s) × (at + 10 + 10 * k ≤ length s))
-      → on k (i + 1) (after_frame at v) ≡ Good q → (q ≡ fields_of s) × (at + 10 + 10 * k ≤ length s)
-  frame_then k i at verdict.Fine v behind e = behind (frame_whole s at v) e
-  frame_then k i at (verdict.Refused r) v behind e = absurd (stopped k (i + 1) r at e)
+  frame_then : (k i at : ℕ) (v : Result Unit Refusal) → frame_verdict s at ≡ v
+      → (at + 10 ≤ length s → on k (i + 1) (next (at + 10)) ≡ Ok q → (q ≡ fields_of s) × (at + 10 + 10 * k ≤ length s))
+      → on k (i + 1) (after_frame at v) ≡ Ok q → (q ≡ fields_of s) × (at + 10 + 10 * k ≤ length s)
+  frame_then k i at (Ok u) v behind e = behind (frame_whole s at v) e
+  frame_then k i at (Err r) v behind e = absurd (stopped k (i + 1) (record { why = r; place = at }) e)
 
-  frames_whole : (k i at : ℕ) → at ≤ length s → on k i (next at) ≡ Good q → (q ≡ fields_of s) × (at + 10 * k ≤ length s)
+  frames_whole : (k i at : ℕ) → at ≤ length s → on k i (next at) ≡ Ok q → (q ≡ fields_of s) × (at + 10 * k ≤ length s)
   unfolding turns_to
   frames_whole zero i at h e = (cc, omega arith)
   frames_whole (suc k) i at h e =
@@ -116,9 +106,9 @@ pub record Holds (s : List ℕ) (q : Query) : Type 0 where
   pub issues : q.issues < 1024
   pub last : q.last ≤ 1
 
-after_verdict : (s : List ℕ) (q : Query) (v : Verdict) → record_verdict s ≡ v → after_record s v ≡ Good q → Holds s q
+after_verdict : (s : List ℕ) (q : Query) (v : Result Unit Refusal) → record_verdict s ≡ v → after_record s v ≡ Ok q → Holds s q
 unfolding range_to fields_of
-after_verdict s q verdict.Fine v e =
+after_verdict s q (Ok u) v e =
     let f = fixed s v in
     let r = frames_whole s q (u16_at s 44 - 0) 0 46 f.whole e in
     let o = r.0 in
@@ -130,34 +120,34 @@ after_verdict s q verdict.Fine v e =
       issues = rw (ap (λ (x : Query). x.issues) o) f.issues;
       last = rw (ap (λ (x : Query). x.last) o) f.last;
     }
-after_verdict s q (verdict.Refused r) v e = absurd (no_query r 0 q e)
+after_verdict s q (Err r) v e = absurd (no_query (record { why = r; place = 0 }) q e)
 
-pub read_holds : (s : List ℕ) (q : Query) → read_query s ≡ Good q → Holds s q
+pub read_holds : (s : List ℕ) (q : Query) → read_query s ≡ Ok q → Holds s q
 unfolding read_query
 read_holds s q e = after_verdict s q (record_verdict s) refl e
 
 -- the part that holds its frames
-pub frames_length : (s : List ℕ) (q : Query) → read_query s ≡ Good q → length (frames_of s q.count) ≡ 10 * q.count
+pub frames_length : (s : List ℕ) (q : Query) → read_query s ≡ Ok q → length (frames_of s q.count) ≡ 10 * q.count
 frames_length s q e = let h = read_holds s q e in length-take-le (10 * q.count) (drop 46 s) (omega (arith, length-drop 46 s, h.whole))
 
 -- a query that an input is as a whole
 alone_or_not : (len : ℕ) (p q : Query) (b : Bool) → ltb (end_of p.count) len ≡ b
-    → cond b (Refused Overrun (end_of p.count)) (Good p) ≡ Good q → (Good p ≡ Good q) × (len ≤ end_of p.count)
-alone_or_not len p q true t e = absurd (no_query Overrun (end_of p.count) q e)
+    → cond {A = Result Query Rejection} b (Err (record { why = Overrun; place = end_of p.count })) (Ok p) ≡ Ok q → (◌≡◌ {A = Result Query Rejection} (Ok p) (Ok q)) × (len ≤ end_of p.count)
+alone_or_not len p q true t e = absurd (no_query (record { why = Overrun; place = end_of p.count }) q e)
 alone_or_not len p q false t e = (e, ltb-false (end_of p.count) len t)
 
-as_read : (s : List ℕ) (q : Query) (r : QueryRead) → read_query s ≡ r → single (length s) r ≡ Good q → (read_query s ≡ Good q) × (length s ≤ end_of q.count)
-as_read s q (Good p) f e =
+as_read : (s : List ℕ) (q : Query) (r : Result Query Rejection) → read_query s ≡ r → single (length s) r ≡ Ok q → (read_query s ≡ Ok q) × (length s ≤ end_of q.count)
+as_read s q (Ok p) f e =
     let t = alone_or_not (length s) p q (ltb (end_of p.count) (length s)) refl e in
     let o : p ≡ q = cc in
     (f ∙ t.0, subst (λ (x : Query). length s ≤ end_of x.count) o t.1)
-as_read s q (Refused r place) f e = absurd (no_query r place q e)
+as_read s q (Err r) f e = absurd (no_query r q e)
 
-pub load_reads : (s : List ℕ) (q : Query) → load_query s ≡ Good q → read_query s ≡ Good q
+pub load_reads : (s : List ℕ) (q : Query) → load_query s ≡ Ok q → read_query s ≡ Ok q
 unfolding load_query
 load_reads s q e = (as_read s q (read_query s) refl e).0
 
-pub load_length : (s : List ℕ) (q : Query) → load_query s ≡ Good q → length s ≡ end_of q.count
+pub load_length : (s : List ℕ) (q : Query) → load_query s ≡ Ok q → length s ≡ end_of q.count
 unfolding load_query
 load_length s q e =
     let r = as_read s q (read_query s) refl e in

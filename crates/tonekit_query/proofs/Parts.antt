@@ -1,14 +1,7 @@
 -- The part of a list from an index on, of so many elements, cut where the list ends. Assumes nothing.
-use mathlib.Core.Path.{◌≡◌, refl, sym, ◌∙◌, ap}
-use mathlib.Core.Bool.{Bool, true, false}
-use mathlib.Core.List.{List, []}
-use Prim.Native.Nat.{ℕ, ◌+◌, ◌-◌, ◌≤◌, ◌<◌, min}
+use Rattle.std.proofs.Common.{◌≡◌, refl, sym, ◌∙◌, ap, Bool, true, false, List, [], ℕ, ◌+◌, ◌-◌, ◌≤◌, ◌<◌, min, arith, leb-true, leb-false, leb, length, take, drop, length-drop, drop_of_length-le, take_all}
 use native.Mathlib.Nat.{min-eq_left}
-use native.Mathlib.Omega.{arith}
-use borrow.Author.Tests.{leb-true, leb-false}
-use lib.Dec.{leb}
-use lib.ListN.{length, take, drop, length-drop, drop_of_length-le}
-use lib.Seq.{take_all, take-nil}
+use lib.Seq.{take-nil}
 
 -- the last index is within the list, or not
 within : (s : List ℕ) (a n : ℕ) (b : Bool) → leb (a + n) (length s) ≡ b → a ≤ length s → take (min (a + n) (length s) - a) (drop a s) ≡ take n (drop a s)

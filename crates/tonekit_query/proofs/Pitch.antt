@@ -1,13 +1,7 @@
 -- An hz by its bits: a pitch's are those above 0 and below infinity's (`low_pitch`, `high_pitch`). Assumes nothing.
-use Prim.Native.Nat.{ℕ, zero, suc, ◌+◌, ◌*◌, ◌/◌, ◌%◌, ◌^◌, ◌≤◌, ◌<◌}
-use mathlib.Core.Path.{◌≡◌, refl, sym, ◌∙◌, ap}
-use mathlib.Core.Bool.{Bool, true, false, cond, ◌&&◌, true≢false}
-use native.Mathlib.Nat.{mul-pos}
-use native.Mathlib.Omega.{arith}
-use borrow.Author.Tests.{ne_eqb, lt-leb, leb-false}
-use lib.Dec.{leb, eqb}
-use lib.Pow.{pow_pos}
-use lib.Ieee.{Float, nan, inf, fin, up, down, binary32, lt, of_bits, of_fields, odd}
+use Rattle.std.proofs.Common.{ℕ, zero, suc, ◌+◌, ◌*◌, ◌/◌, ◌%◌, ◌^◌, ◌≤◌, ◌<◌, ◌≡◌, refl, sym, ◌∙◌, ap, Bool, true, false, cond, ◌&&◌, true≢false, mul-pos, arith, ne_eqb, leb-false, leb, eqb, pow_pos, Float}
+use borrow.Author.Tests.{lt-leb}
+use lib.Ieee.{nan, inf, fin, up, down, binary32, lt, of_bits, of_fields, odd}
 use lib.Ieee.Bits.{is_true}
 use lib.Ieee.Exact.{HasValue, odd_sign}
 use lib.Ieee.Fits.{down_pos}

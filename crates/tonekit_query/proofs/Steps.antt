@@ -1,34 +1,16 @@
 -- Steps of the readers: a frame by its flag and hz, and a query by what stands behind it. Assumes nothing.
-use mathlib.Core.Path.{◌≡◌, refl, ◌∙◌, ap}
-use mathlib.Core.Bool.{Bool, true, false, cond}
-use mathlib.Core.List.{List}
-use Prim.Native.Nat.{ℕ, ◌+◌, ◌-◌, ◌*◌, ◌≤◌, ◌<◌}
-use native.Mathlib.Omega.{arith}
-use borrow.Author.Tests.{lt-ltb, le-ltb}
-use lib.Ieee.{Float, binary32, of_bits}
-use lib.ListN.{length, take, drop, length-drop}
-use lib.Seq.{take_all, get_or-drop}
+use Rattle.std.proofs.Common.{◌≡◌, refl, ◌∙◌, ap, Bool, true, false, cond, List, ℕ, ◌+◌, ◌-◌, ◌*◌, ◌≤◌, ◌<◌, arith, lt-ltb, le-ltb, Float, length, take, drop, length-drop, take_all, get_or-drop}
+use lib.Ieee.{binary32, of_bits}
 use Rattle.tonekit_core.specs.declared.Refusal.TheVariants.{Overrun}
 use Rattle.tonekit_bytes.specs.Fields.{byte_at, u32_at, f32_at}
 use Rattle.tonekit_bytes.proofs.Fields.{byte_past}
 use Rattle.tonekit_query.specs.declared.Query.{Query}
-use Rattle.tonekit_query.specs.declared.QueryRead.TheVariants.{Good, Refused}
-use Rattle.tonekit_query.specs.declared.Frame.TheVariants.{Voiced, Unvoiced}
+use Rattle.std.specs.Prelude.{Ok, Err, Some, None}
 use Rattle.tonekit_query.specs.Query.{end_of, read_query, load_query}
-use Rattle.tonekit_query.specs.Frames.{frame_at, pitch, voiced_at, voiced_of}
-
--- the frame whose flag is 1, by its hz
-module _ (s : List ℕ) (i : ℕ) (hz : Float) (flag : byte_at s (10 * i + 1) ≡ 1) (at : hz ≡ f32_at s (10 * i + 2)) where
-  pub voiced : (p : Float) → p ≡ f32_at s (10 * i + 6) → pitch hz ≡ true → Voiced hz p ≡ frame_at s i
-  unfolding frame_at
-  voiced p e h = rw (flag, ← at, ← e, h)
-
-  pub unvoiced : pitch hz ≡ false → Unvoiced ≡ frame_at s i
-  unfolding frame_at
-  unvoiced e = rw (flag, ← at, e)
+use Rattle.tonekit_query.specs.Frames.{frame_at, voiced_at, voiced_of}
 
 -- whether a frame is voiced, by its flag and hz
-voiced_way : (b : Bool) (hz p : Float) → voiced_of (cond b (Voiced hz p) Unvoiced) ≡ b
+voiced_way : (b : Bool) (hz p : Float) → voiced_of (cond b (Some (record { hz = hz; voiced_p = p })) None) ≡ b
 voiced_way true hz p = refl
 voiced_way false hz p = refl
 
@@ -36,11 +18,11 @@ pub frame_voiced_lem : (s : List ℕ) (i : ℕ) → voiced_of (frame_at s i) ≡
 unfolding frame_at
 frame_voiced_lem s i = voiced_way (voiced_at s (10 * i)) (f32_at s (10 * i + 2)) (f32_at s (10 * i + 6))
 
-pub frame_then : (s : List ℕ) (i : ℕ) → voiced_at s (10 * i) ≡ true → frame_at s i ≡ Voiced (f32_at s (10 * i + 2)) (f32_at s (10 * i + 6))
+pub frame_then : (s : List ℕ) (i : ℕ) → voiced_at s (10 * i) ≡ true → frame_at s i ≡ Some (record { hz = f32_at s (10 * i + 2); voiced_p = f32_at s (10 * i + 6) })
 unfolding frame_at
 frame_then s i e = rw e
 
-pub frame_else : (s : List ℕ) (i : ℕ) → voiced_at s (10 * i) ≡ false → frame_at s i ≡ Unvoiced
+pub frame_else : (s : List ℕ) (i : ℕ) → voiced_at s (10 * i) ≡ false → frame_at s i ≡ None
 unfolding frame_at
 frame_else s i e = rw e
 
@@ -77,10 +59,10 @@ pub unvoiced_past : (s : List ℕ) (at : ℕ) → length s ≤ at → false ≡ 
 unvoiced_past s at h = rw (byte_past s (at + 1) (omega arith))
 
 -- a query that was read, as a whole input
-pub behind : (s : List ℕ) (q : Query) → read_query s ≡ Good q → end_of q.count < length s → load_query s ≡ Refused Overrun (end_of q.count)
+pub behind : (s : List ℕ) (q : Query) → read_query s ≡ Ok q → end_of q.count < length s → load_query s ≡ Err (record { why = Overrun; place = end_of q.count })
 unfolding load_query
 behind s q e h = rw (e, lt-ltb _ _ h)
 
-pub alone : (s : List ℕ) (q : Query) → read_query s ≡ Good q → length s ≤ end_of q.count → load_query s ≡ Good q
+pub alone : (s : List ℕ) (q : Query) → read_query s ≡ Ok q → length s ≤ end_of q.count → load_query s ≡ Ok q
 unfolding load_query
 alone s q e h = rw (e, le-ltb _ _ h)

@@ -1,11 +1,9 @@
 -- Worked queries, by computing: one that loads, and one refusal of each number with its place.
-use Rattle.std.specs.Prelude.{ℕ, ◌≡◌, refl, false, List, [], ◌∷◌, ◌++◌, pos, take, replicate}
+use Rattle.std.specs.Prelude.{ℕ, ◌≡◌, refl, false, List, [], ◌∷◌, ◌++◌, pos, take, replicate, Ok, Err, Some, None}
 use Rattle.std.specs.Float.{fin, binary32}
 use Rattle.std.specs.Float.Ieee.{of_bits, lt}
 use Rattle.tonekit_core.specs.Loop.{turns, range, turns_to, range_to}
 use Rattle.tonekit_core.specs.declared.Refusal.TheVariants.{Misplaced, CutShort, Overrun, Crowded, BadQuery}
-use Rattle.tonekit_core.specs.declared.Checked.TheVariants.{Loads, Refused}
-use Rattle.tonekit_query.specs.declared.Frame.TheVariants.{Voiced, Unvoiced}
 use Rattle.tonekit_query.specs.Query.{variant_fine, variants_fine, record_verdict, frame_verdict, fields_of, read_query, load_query, check_query, frames_of, variant_tone, variant_weight}
 use Rattle.tonekit_query.specs.Frames.{frame_at}
 
@@ -33,53 +31,53 @@ a110 = 0 ∷ 0 ∷ 220 ∷ 66 ∷ []
 abbrev voiced : List ℕ
 voiced = frame 50 1 a110
 
-loads : (check_query (plain 1 ++ voiced) ≡ Loads) × (check_query (plain 0) ≡ Loads) × (check_query (fixed 1 3 1 minus_zero 0 0) ≡ Loads)
+loads : (check_query (plain 1 ++ voiced) ≡ Ok tt) × (check_query (plain 0) ≡ Ok tt) × (check_query (fixed 1 3 1 minus_zero 0 0) ≡ Ok tt)
 unfolding check_query load_query read_query record_verdict variants_fine variant_fine frame_verdict fields_of turns range turns_to range_to
 loads = (refl, refl, refl)
 
 -- 1: another kind, of the record and of a frame
-misplaced : (check_query (49 ∷ plain 0) ≡ Refused Misplaced 0) × (check_query (plain 1 ++ frame 51 1 a110) ≡ Refused Misplaced 46)
+misplaced : (check_query (49 ∷ plain 0) ≡ Err (record { why = Misplaced; place = 0 })) × (check_query (plain 1 ++ frame 51 1 a110) ≡ Err (record { why = Misplaced; place = 46 }))
 unfolding check_query load_query read_query record_verdict variants_fine variant_fine frame_verdict fields_of turns range turns_to range_to
 misplaced = (refl, refl)
 
 -- 2: no input, a record cut by a byte, before 4 in one record; a frame that is missing (at the input's end), a frame cut by a byte (at its offset)
-cut : (check_query [] ≡ Refused CutShort 0)
-    × (check_query (take 45 (plain 0)) ≡ Refused CutShort 0)
-    × (check_query (take 45 (fixed 0 0 5 unused 0 0)) ≡ Refused CutShort 0)
-    × (check_query (plain 2 ++ voiced) ≡ Refused CutShort 56)
-    × (check_query (plain 2 ++ (voiced ++ take 9 voiced)) ≡ Refused CutShort 56)
+cut : (check_query [] ≡ Err (record { why = CutShort; place = 0 }))
+    × (check_query (take 45 (plain 0)) ≡ Err (record { why = CutShort; place = 0 }))
+    × (check_query (take 45 (fixed 0 0 5 unused 0 0)) ≡ Err (record { why = CutShort; place = 0 }))
+    × (check_query (plain 2 ++ voiced) ≡ Err (record { why = CutShort; place = 56 }))
+    × (check_query (plain 2 ++ (voiced ++ take 9 voiced)) ≡ Err (record { why = CutShort; place = 56 }))
 unfolding check_query load_query read_query record_verdict variants_fine variant_fine frame_verdict fields_of turns range turns_to range_to
 cut = (refl, refl, refl, refl, refl)
 
 -- 3: a byte behind; after 10 in a frame
-overrun : (check_query (plain 1 ++ (voiced ++ (0 ∷ []))) ≡ Refused Overrun 56)
-    × (check_query (plain 1 ++ (frame 50 2 a110 ++ (0 ∷ []))) ≡ Refused BadQuery 46)
+overrun : (check_query (plain 1 ++ (voiced ++ (0 ∷ []))) ≡ Err (record { why = Overrun; place = 56 }))
+    × (check_query (plain 1 ++ (frame 50 2 a110 ++ (0 ∷ []))) ≡ Err (record { why = BadQuery; place = 46 }))
 unfolding check_query load_query read_query record_verdict variants_fine variant_fine frame_verdict fields_of turns range turns_to range_to
 overrun = (refl, refl)
 
 -- 4: five variants; 1,025 frames; before 10 in one record
-crowded : (check_query (fixed 0 0 5 unused 0 0) ≡ Refused Crowded 0)
-    × (check_query (fixed 0 0 0 unused 1 4) ≡ Refused Crowded 0)
-    × (check_query (fixed 2 0 5 unused 0 0) ≡ Refused Crowded 0)
+crowded : (check_query (fixed 0 0 5 unused 0 0) ≡ Err (record { why = Crowded; place = 0 }))
+    × (check_query (fixed 0 0 0 unused 1 4) ≡ Err (record { why = Crowded; place = 0 }))
+    × (check_query (fixed 2 0 5 unused 0 0) ≡ Err (record { why = Crowded; place = 0 }))
 unfolding check_query load_query read_query record_verdict variants_fine variant_fine frame_verdict fields_of turns range turns_to range_to
 crowded = (refl, refl, refl)
 
 -- 10: final 2; issue bit 10; an unused variant that is not zero bytes; a frame's flag 2
-bad : (check_query (fixed 2 0 0 unused 0 0) ≡ Refused BadQuery 0)
-    × (check_query (fixed 0 4 0 unused 0 0) ≡ Refused BadQuery 0)
-    × (check_query (fixed 0 0 0 minus_zero 0 0) ≡ Refused BadQuery 0)
-    × (check_query (plain 2 ++ (voiced ++ frame 50 2 a110)) ≡ Refused BadQuery 56)
+bad : (check_query (fixed 2 0 0 unused 0 0) ≡ Err (record { why = BadQuery; place = 0 }))
+    × (check_query (fixed 0 4 0 unused 0 0) ≡ Err (record { why = BadQuery; place = 0 }))
+    × (check_query (fixed 0 0 0 minus_zero 0 0) ≡ Err (record { why = BadQuery; place = 0 }))
+    × (check_query (plain 2 ++ (voiced ++ frame 50 2 a110)) ≡ Err (record { why = BadQuery; place = 56 }))
 unfolding check_query load_query read_query record_verdict variants_fine variant_fine frame_verdict fields_of turns range turns_to range_to
 bad = (refl, refl, refl, refl)
 
 -- 110 Hz; flag 0; 0, −1, infinite and no number of Hz; past the end
-frames : (frame_at (frames_of (plain 1 ++ voiced) 1) 0 ≡ Voiced (fin false 55 (pos 1)) (fin false 1 (pos 0)))
-    × (frame_at (frame 50 0 a110) 0 ≡ Unvoiced)
-    × (frame_at (frame 50 1 (0 ∷ 0 ∷ 0 ∷ 0 ∷ [])) 0 ≡ Unvoiced)
-    × (frame_at (frame 50 1 (0 ∷ 0 ∷ 128 ∷ 191 ∷ [])) 0 ≡ Unvoiced)
-    × (frame_at (frame 50 1 (0 ∷ 0 ∷ 128 ∷ 127 ∷ [])) 0 ≡ Unvoiced)
-    × (frame_at (frame 50 1 (0 ∷ 0 ∷ 192 ∷ 127 ∷ [])) 0 ≡ Unvoiced)
-    × (frame_at voiced 1 ≡ Unvoiced)
+frames : (frame_at (frames_of (plain 1 ++ voiced) 1) 0 ≡ Some (record { hz = fin false 55 (pos 1); voiced_p = fin false 1 (pos 0) }))
+    × (frame_at (frame 50 0 a110) 0 ≡ None)
+    × (frame_at (frame 50 1 (0 ∷ 0 ∷ 0 ∷ 0 ∷ [])) 0 ≡ None)
+    × (frame_at (frame 50 1 (0 ∷ 0 ∷ 128 ∷ 191 ∷ [])) 0 ≡ None)
+    × (frame_at (frame 50 1 (0 ∷ 0 ∷ 128 ∷ 127 ∷ [])) 0 ≡ None)
+    × (frame_at (frame 50 1 (0 ∷ 0 ∷ 192 ∷ 127 ∷ [])) 0 ≡ None)
+    × (frame_at voiced 1 ≡ None)
 unfolding frame_at of_bits lt
 frames = (refl, refl, refl, refl, refl, refl, refl)
 
@@ -112,6 +110,6 @@ fields48 = (refl, refl, refl, refl, refl)
 abbrev record50 : List ℕ
 record50 = 50 ∷ 1 ∷ 2 ∷ 3 ∷ 4 ∷ 5 ∷ 6 ∷ 7 ∷ 8 ∷ 9 ∷ []
 
-fields50 : frame_at (replicate 10 0 ++ record50) 1 ≡ Voiced (of_bits binary32 0x0504_0302) (of_bits binary32 0x0908_0706)
+fields50 : frame_at (replicate 10 0 ++ record50) 1 ≡ Some (record { hz = of_bits binary32 0x0504_0302; voiced_p = of_bits binary32 0x0908_0706 })
 unfolding frame_at of_bits lt
 fields50 = refl

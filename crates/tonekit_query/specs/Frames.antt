@@ -1,11 +1,10 @@
 -- A frame as document 01 has it: "Where the voiced flag is 0, hz is ignored"; "frames with non-finite or non-positive hz are unvoiced".
-use Rattle.std.specs.Prelude.{ℕ, ◌+◌, ◌*◌, Bool, true, false, cond, ◌&&◌, List, eqb, pos, Float}
+use Rattle.std.specs.Prelude.{ℕ, ◌+◌, ◌*◌, Bool, true, false, cond, ◌&&◌, List, eqb, pos, Float, Option, Some, None}
 use Rattle.std.specs.Float.{inf, fin}
 use Rattle.std.specs.Float.Ieee.{lt}
 use Rattle.tonekit_core.specs.Layout.{frame_size, frame_voiced, frame_hz, frame_voiced_p}
 use Rattle.tonekit_bytes.specs.Fields.{byte_at, f32_at}
-use Rattle.tonekit_query.specs.declared.Frame.{Frame}
-use Rattle.tonekit_query.specs.declared.Frame.TheVariants.{Voiced, Unvoiced}
+use Rattle.tonekit_query.specs.declared.Voiced.{Voiced}
 
 -- above 0 and finite
 abbrev pub pitch : Float → Bool
@@ -16,12 +15,12 @@ abbrev pub voiced_at : List ℕ → ℕ → Bool
 voiced_at frames at = eqb (byte_at frames (at + frame_voiced)) 1 && pitch (f32_at frames (at + frame_hz))
 
 -- frame i of the part that holds the frames: its hz and voiced_p
-unfoldable pub frame_at : List ℕ → ℕ → Frame
+unfoldable pub frame_at : List ℕ → ℕ → Option Voiced
 frame_at frames i =
     cond (voiced_at frames (frame_size * i))
-    (Voiced (f32_at frames (frame_size * i + frame_hz)) (f32_at frames (frame_size * i + frame_voiced_p)))
-    Unvoiced
+    (Some (record { hz = f32_at frames (frame_size * i + frame_hz); voiced_p = f32_at frames (frame_size * i + frame_voiced_p) }))
+    None
 
-abbrev pub voiced_of : Frame → Bool
-voiced_of (Voiced hz p) = true
-voiced_of Unvoiced = false
+abbrev pub voiced_of : Option Voiced → Bool
+voiced_of (Some v) = true
+voiced_of None = false

@@ -1,18 +1,14 @@
 -- Document 01's section Query: which bytes are a query, and the refusal and place of those that are not.
-use Rattle.std.specs.Prelude.{ℕ, ◌+◌, ◌*◌, Bool, true, cond, not, ◌&&◌, ◌||◌, List, eqb, leb, ltb, length, take, drop, Float}
+use Rattle.std.specs.Prelude.{ℕ, ◌+◌, ◌*◌, Bool, true, cond, not, ◌&&◌, ◌||◌, List, eqb, leb, ltb, length, take, drop, Float, Result, Ok, Err}
 use Rattle.tonekit_core.specs.Loop.{Turn, next, stop, range, range_to}
 use Rattle.tonekit_core.specs.Layout.{query_kind, query_size, query_accent, query_tone, query_prev, query_final, query_start, query_end}
 use Rattle.tonekit_core.specs.Layout.{query_floor, query_ceil, query_issues, query_variant_count, variant_tones, variant_weights}
 use Rattle.tonekit_core.specs.Layout.{variant_size, query_frame_count, frame_kind, frame_size, frame_voiced}
 use Rattle.tonekit_core.specs.declared.Refusal.TheVariants.{Misplaced, CutShort, Overrun, Crowded, BadQuery}
-use Rattle.tonekit_core.specs.declared.Verdict.{Verdict}
-use Rattle.tonekit_core.specs.declared.Verdict.TheVariants as verdict
-use Rattle.tonekit_core.specs.declared.Checked.{Checked}
-use Rattle.tonekit_core.specs.declared.Checked.TheVariants as checked
+use Rattle.tonekit_core.specs.declared.Refusal.{Refusal}
+use Rattle.tonekit_core.specs.declared.Rejection.{Rejection}
 use Rattle.tonekit_bytes.specs.Fields.{byte_at, u16_at, u32_at, f32_at}
 use Rattle.tonekit_query.specs.declared.Query.{Query}
-use Rattle.tonekit_query.specs.declared.QueryRead.{QueryRead}
-use Rattle.tonekit_query.specs.declared.QueryRead.TheVariants.{Good, Refused}
 
 -- "variant count u8 (at most 4), 4 times (tone u8, weight f32), unused ones zero": five zero bytes
 unfoldable pub variant_fine : List ℕ → ℕ → Bool
@@ -27,21 +23,21 @@ unfoldable pub variants_fine : List ℕ → Bool
 variants_fine s = range (variant_turn s) 0 4 true
 
 -- the fixed record: "in each 1, 2, 4, (10 in a query)"; counts past their limits are 4; final is 0 or 1; "bits 10 to 15 are clear"
-unfoldable pub record_verdict : List ℕ → Verdict
+unfoldable pub record_verdict : List ℕ → Result Unit Refusal
 record_verdict s =
-    cond (eqb (length s) 0) (verdict.Refused CutShort)
-    (cond (not (eqb (byte_at s 0) query_kind)) (verdict.Refused Misplaced)
-    (cond (ltb (length s) query_size) (verdict.Refused CutShort)
-    (cond (ltb 4 (byte_at s query_variant_count) || ltb 1024 (u16_at s query_frame_count)) (verdict.Refused Crowded)
-    (cond (leb (byte_at s query_final) 1 && (ltb (u16_at s query_issues) 1024 && variants_fine s)) verdict.Fine (verdict.Refused BadQuery)))))
+    cond (eqb (length s) 0) (Err CutShort)
+    (cond (not (eqb (byte_at s 0) query_kind)) (Err Misplaced)
+    (cond (ltb (length s) query_size) (Err CutShort)
+    (cond (ltb 4 (byte_at s query_variant_count) || ltb 1024 (u16_at s query_frame_count)) (Err Crowded)
+    (cond (leb (byte_at s query_final) 1 && (ltb (u16_at s query_issues) 1024 && variants_fine s)) (Ok tt) (Err BadQuery)))))
 
 -- the frame record at an offset; the voiced flag is 0 or 1, all else may be any bits
-unfoldable pub frame_verdict : List ℕ → ℕ → Verdict
+unfoldable pub frame_verdict : List ℕ → ℕ → Result Unit Refusal
 frame_verdict s at =
-    cond (leb (length s) at) (verdict.Refused CutShort)
-    (cond (not (eqb (byte_at s at) frame_kind)) (verdict.Refused Misplaced)
-    (cond (ltb (length s) (at + frame_size)) (verdict.Refused CutShort)
-    (cond (leb (byte_at s (at + frame_voiced)) 1) verdict.Fine (verdict.Refused BadQuery))))
+    cond (leb (length s) at) (Err CutShort)
+    (cond (not (eqb (byte_at s at) frame_kind)) (Err Misplaced)
+    (cond (ltb (length s) (at + frame_size)) (Err CutShort)
+    (cond (leb (byte_at s (at + frame_voiced)) 1) (Ok tt) (Err BadQuery))))
 
 -- what the fixed record says; the variants stay in the bytes
 unfoldable pub fields_of : List ℕ → Query
@@ -64,37 +60,37 @@ abbrev pub end_of : ℕ → ℕ
 end_of count = query_size + frame_size * count
 
 -- the frames in order: the first that is refused decides, and its place is its offset
-abbrev pub after_frame : ℕ → Verdict → Turn ℕ QueryRead
-after_frame at verdict.Fine = next (at + frame_size)
-after_frame at (verdict.Refused r) = stop (Refused r at)
+abbrev pub after_frame : ℕ → Result Unit Refusal → Turn ℕ (Result Query Rejection)
+after_frame at (Ok u) = next (at + frame_size)
+after_frame at (Err r) = stop (Err (record { why = r; place = at }))
 
-abbrev pub frame_turn : List ℕ → ℕ → ℕ → Turn ℕ QueryRead
+abbrev pub frame_turn : List ℕ → ℕ → ℕ → Turn ℕ (Result Query Rejection)
 frame_turn s i at = after_frame at (frame_verdict s at)
 
-abbrev pub read_frames : List ℕ → ℕ → QueryRead
-read_frames s count = range_to (frame_turn s) (λ at. Good (fields_of s)) 0 count query_size
+abbrev pub read_frames : List ℕ → ℕ → Result Query Rejection
+read_frames s count = range_to (frame_turn s) (λ at. Ok (fields_of s)) 0 count query_size
 
 -- a query at the front of a longer input: its fixed record, then as many frames as that counts
-abbrev pub after_record : List ℕ → Verdict → QueryRead
-after_record s verdict.Fine = read_frames s (u16_at s query_frame_count)
-after_record s (verdict.Refused r) = Refused r 0
+abbrev pub after_record : List ℕ → Result Unit Refusal → Result Query Rejection
+after_record s (Ok u) = read_frames s (u16_at s query_frame_count)
+after_record s (Err r) = Err (record { why = r; place = 0 })
 
-unfoldable pub read_query : List ℕ → QueryRead
+unfoldable pub read_query : List ℕ → Result Query Rejection
 read_query s = after_record s (record_verdict s)
 
 -- a single query: 3 at the first byte behind it
-abbrev pub single : ℕ → QueryRead → QueryRead
-single len (Good q) = cond (ltb (end_of q.count) len) (Refused Overrun (end_of q.count)) (Good q)
-single len (Refused r place) = Refused r place
+abbrev pub single : ℕ → Result Query Rejection → Result Query Rejection
+single len (Ok q) = cond (ltb (end_of q.count) len) (Err (record { why = Overrun; place = end_of q.count })) (Ok q)
+single len (Err e) = Err e
 
-unfoldable pub load_query : List ℕ → QueryRead
+unfoldable pub load_query : List ℕ → Result Query Rejection
 load_query s = single (length s) (read_query s)
 
-abbrev pub said : QueryRead → Checked
-said (Good q) = checked.Loads
-said (Refused r place) = checked.Refused r place
+abbrev pub said : Result Query Rejection → Result Unit Rejection
+said (Ok q) = Ok tt
+said (Err e) = Err e
 
-unfoldable pub check_query : List ℕ → Checked
+unfoldable pub check_query : List ℕ → Result Unit Rejection
 check_query s = said (load_query s)
 
 -- "the part of the caller's bytes that holds the frames": after the fixed record, exactly the counted frames

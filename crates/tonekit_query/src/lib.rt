@@ -1,7 +1,7 @@
 // The query reader: a query's small fields by value, its frames as a part of the caller's bytes.
 #![tactic(auto)]
 
-ghost use Rattle.std.specs.Prelude.{◌≡◌, ◌+◌, ◌*◌, ◌≤◌, ◌<◌, min, length};
+ghost use Rattle.std.specs.Prelude.{◌≡◌, ◌+◌, ◌*◌, ◌≤◌, ◌<◌, length};
 ghost use Rattle.std.specs.Float.{binary32};
 ghost use Rattle.std.specs.Float.Ieee.{of_bits};
 ghost use Rattle.tonekit_core.specs.Layout.{frame_size, frame_hz, frame_voiced_p};
@@ -9,8 +9,9 @@ ghost use Rattle.tonekit_bytes.specs.Fields.{u32_at, f32_at};
 ghost use Rattle.tonekit_query.specs.Query.{variant_fine, variants_fine, record_verdict, frame_verdict, fields_of, read_frames, read_query, load_query, check_query, end_of, frames_of, variant_tone, variant_weight};
 ghost use Rattle.tonekit_query.specs.Frames.{pitch, voiced_at, frame_at};
 
-use tonekit_bytes::{byte_at, f32_at, u16_at, u32_at};
-use tonekit_core::{Checked, Refusal, Verdict, layout, limits};
+use tonekit_bytes::{byte_at, f32_at, u16_at, u32_at, u32_in};
+use tonekit_core::{Refusal, Rejection, layout, limits};
+use tonekit_float::AnyFloat;
 
 // What the fixed record of a query says. Any accent, tone, span or register may stand in it.
 #[derive(Clone, Copy)]
@@ -18,6 +19,7 @@ pub struct Query {
     pub accent: u8,
     pub tone: u8,
     pub prev: u8,
+    // Stays: the query's byte, 0 or 1, as the format has it.
     pub last: u8,
     pub start: u32,
     pub end: u32,
@@ -28,33 +30,20 @@ pub struct Query {
     pub count: u16,
 }
 
-// A query that was read, or why it is none and where.
-#[derive(Drop)]
-pub enum QueryRead {
-    Good(Query),
-    Refused(Refusal, usize),
-}
-
-// A frame's pitch and voiced_p, or nothing to measure.
-#[derive(Drop)]
-pub enum Frame {
-    Voiced(f32, f32),
-    Unvoiced,
-}
-
-// A byte as a number of things.
-fn number(x: u8) -> usize
-    ensures { (result ≡ x) × (result < 256) }
-{
-    x as usize
+// What a frame that has a pitch says.
+#[derive(Clone, Copy)]
+pub struct Voiced {
+    pub hz: f32,
+    pub voiced_p: f32,
 }
 
 // Whether variant i is in use, or its five bytes are 0.
+#[tactic(auto, unfolding(crate::specs::Query::variant_fine))]
 fn variant_fine(query: &[u8], i: usize) -> bool
     requires { i < 4 }
     ensures { result ≡ variant_fine query.now i }
 {
-    if i < number(byte_at(query, 0, layout::QUERY_VARIANT_COUNT)) {
+    if i < usize::from(byte_at(query, 0, layout::QUERY_VARIANT_COUNT)) {
         return true;
     }
     if byte_at(query, layout::VARIANT_TONES, layout::VARIANT_SIZE * i) != 0 {
@@ -67,69 +56,70 @@ fn variant_fine(query: &[u8], i: usize) -> bool
 fn variants_fine(query: &[u8]) -> bool
     ensures { result ≡ variants_fine query.now }
 {
-    let mut i = 0;
-    while i < 4 {
+    for i in 0..4 {
         if !variant_fine(query, i) {
             return false;
         }
-        i += 1;
     }
     true
 }
 
 // What is said of the fixed record.
-fn record_verdict(query: &[u8]) -> Verdict
+#[tactic(auto, unfolding(crate::specs::Query::record_verdict))]
+fn record_verdict(query: &[u8]) -> Result<(), Refusal>
     ensures { result ≡ record_verdict query.now }
 {
     if query.len() == 0 {
-        return Verdict::Refused(Refusal::CutShort);
+        return Err(Refusal::CutShort);
     }
     if byte_at(query, 0, 0) != layout::QUERY_KIND {
-        return Verdict::Refused(Refusal::Misplaced);
+        return Err(Refusal::Misplaced);
     }
     if query.len() < layout::QUERY_SIZE {
-        return Verdict::Refused(Refusal::CutShort);
+        return Err(Refusal::CutShort);
     }
     if limits::VARIANTS < byte_at(query, 0, layout::QUERY_VARIANT_COUNT) {
-        return Verdict::Refused(Refusal::Crowded);
+        return Err(Refusal::Crowded);
     }
     if limits::FRAMES < u16_at(query, 0, layout::QUERY_FRAME_COUNT) {
-        return Verdict::Refused(Refusal::Crowded);
+        return Err(Refusal::Crowded);
     }
     if 1 < byte_at(query, 0, layout::QUERY_FINAL) {
-        return Verdict::Refused(Refusal::BadQuery);
+        return Err(Refusal::BadQuery);
     }
     if 1024 <= u16_at(query, 0, layout::QUERY_ISSUES) {
-        return Verdict::Refused(Refusal::BadQuery);
+        return Err(Refusal::BadQuery);
     }
     if variants_fine(query) {
-        Verdict::Fine
+        Ok(())
     } else {
-        Verdict::Refused(Refusal::BadQuery)
+        Err(Refusal::BadQuery)
     }
 }
 
 // What is said of the frame record at an offset.
-fn frame_verdict(query: &[u8], at: usize) -> Verdict
+#[tactic(auto, unfolding(crate::specs::Query::frame_verdict))]
+fn frame_verdict(query: &[u8], at: usize) -> Result<(), Refusal>
     ensures { result ≡ frame_verdict query.now at }
 {
     if query.len() <= at {
-        return Verdict::Refused(Refusal::CutShort);
+        return Err(Refusal::CutShort);
     }
     if query[at] != layout::FRAME_KIND {
-        return Verdict::Refused(Refusal::Misplaced);
+        return Err(Refusal::Misplaced);
     }
     if query.len() - at < layout::FRAME_SIZE {
-        return Verdict::Refused(Refusal::CutShort);
+        return Err(Refusal::CutShort);
     }
     if query[at + layout::FRAME_VOICED] <= 1 {
-        Verdict::Fine
+        Ok(())
     } else {
-        Verdict::Refused(Refusal::BadQuery)
+        Err(Refusal::BadQuery)
     }
 }
 
 // What the fixed record says.
+#[tactic(auto, unfolding(crate::specs::Query::fields_of))]
 fn fields(query: &[u8]) -> Query
     ensures { result ≡ fields_of query.now }
 {
@@ -149,129 +139,69 @@ fn fields(query: &[u8]) -> Query
 }
 
 // The query, where its counted frames are fine; else the first that is not, with its offset.
-fn read_frames(query: &[u8], count: u16) -> QueryRead
+fn read_frames(query: &[u8], count: u16) -> Result<Query, Rejection>
     ensures { result ≡ read_frames query.now count }
 {
     let mut at = layout::QUERY_SIZE;
-    let mut i = 0;
-    while i < count {
-        let v = frame_verdict(query, at);
-        if let Verdict::Refused(r) = v {
-            return QueryRead::Refused(r, at);
+    for _ in 0..count {
+        if let Err(why) = frame_verdict(query, at) {
+            return Err(why.at(at));
         }
         at += layout::FRAME_SIZE;
-        i += 1;
     }
-    QueryRead::Good(fields(query))
+    Ok(fields(query))
 }
 
 // The query at the front of an input, or why there is none and where.
-pub fn read_query(query: &[u8]) -> QueryRead
+#[tactic(auto, unfolding(crate::specs::Query::read_query))]
+pub fn read_query(query: &[u8]) -> Result<Query, Rejection>
     ensures { result ≡ read_query query.now }
 {
-    let v = record_verdict(query);
-    match v {
-        Verdict::Fine => read_frames(query, u16_at(query, 0, layout::QUERY_FRAME_COUNT)),
-        Verdict::Refused(r) => QueryRead::Refused(r, 0),
-    }
+    record_verdict(query).map_err(|r| r.at(0))?;
+    read_frames(query, u16_at(query, 0, layout::QUERY_FRAME_COUNT))
 }
 
 // Where a query of so many frames ends.
 fn end_of(count: u16) -> usize
     ensures { result ≡ end_of count }
 {
-    layout::QUERY_SIZE + layout::FRAME_SIZE * (count as usize)
+    layout::QUERY_SIZE + layout::FRAME_SIZE * usize::from(count)
 }
 
 // The query that an input is as a whole; bytes behind it are refused.
-pub fn load_query(query: &[u8]) -> QueryRead
+#[tactic(auto, unfolding(crate::specs::Query::load_query))]
+pub fn load_query(query: &[u8]) -> Result<Query, Rejection>
     ensures { result ≡ load_query query.now }
 {
-    let read = read_query(query);
-    match read {
-        QueryRead::Good(q) => {
-            let end = end_of(q.count);
-            if end < query.len() {
-                QueryRead::Refused(Refusal::Overrun, end)
-            } else {
-                QueryRead::Good(q)
-            }
-        }
-        QueryRead::Refused(r, place) => QueryRead::Refused(r, place),
+    let q = read_query(query)?;
+    let end = end_of(q.count);
+    if end < query.len() {
+        return Err(Refusal::Overrun.at(end));
     }
+    Ok(q)
 }
 
-// Whether an input is a query, and if not, why and where.
-pub fn check_query(query: &[u8]) -> Checked
+// Nothing against an input that is a query, else why it is none and where.
+#[tactic(auto, unfolding(crate::specs::Query::check_query))]
+pub fn check_query(query: &[u8]) -> Result<(), Rejection>
     ensures { result ≡ check_query query.now }
 {
-    let read = load_query(query);
-    match read {
-        QueryRead::Good(_) => Checked::Loads,
-        QueryRead::Refused(r, place) => Checked::Refused(r, place),
-    }
-}
-
-// The lesser of two indices.
-pub fn lesser(a: usize, b: usize) -> usize
-    ensures { result ≡ min a b }
-{
-    if a <= b { a } else { b }
+    load_query(query)?;
+    Ok(())
 }
 
 // The part of a query that holds so many frames; of a shorter input what is there.
+#[tactic(auto, using(crate::proofs::Parts::cut))]
 pub fn frames(query: &[u8], count: u16) -> &[u8]
     ensures { result.now ≡ frames_of query.now count }
 {
-    let from = lesser(layout::QUERY_SIZE, query.len());
-    let to = lesser(end_of(count), query.len());
+    let from = layout::QUERY_SIZE.min(query.len());
+    let to = end_of(count).min(query.len());
     &query[from..to]
 }
 
-// Whether a frame's hz is a pitch: above 0 and finite.
-fn is_pitch(hz: f32) -> bool
-    ensures { result ≡ pitch hz }
-{
-    0.0 < hz && hz < 1.0 / 0.0
-}
-
-// Frame i of that part; nothing to measure where the flag is not 1 or hz is no pitch, nor past the end.
-pub fn read_frame(frames: &[u8], i: usize) -> Frame
-    ensures { result ≡ frame_at frames.now i }
-{
-    if frames.len() / layout::FRAME_SIZE < i {
-        return Frame::Unvoiced;
-    }
-    let at = layout::FRAME_SIZE * i;
-    if byte_at(frames, at, layout::FRAME_VOICED) != 1 {
-        return Frame::Unvoiced;
-    }
-    let hz = f32_at(frames, at, layout::FRAME_HZ);
-    if is_pitch(hz) {
-        Frame::Voiced(hz, f32_at(frames, at, layout::FRAME_VOICED_P))
-    } else {
-        Frame::Unvoiced
-    }
-}
-
-// A byte at a wider type, with its bound.
-fn wide(x: u8) -> u16
-    ensures { (result ≡ x) × (result < 256) }
-{
-    x as u16
-}
-
-// The u32 at an index, where its four bytes are there.
-fn whole_u32(s: &[u8], at: usize) -> u32
-    requires { at + 4 ≤ length s.now }
-    ensures { result ≡ u32_at s.now at }
-{
-    let low = wide(s[at]) + 256 * wide(s[at + 1]);
-    let high = wide(s[at + 2]) + 256 * wide(s[at + 3]);
-    low as u32 + 65536 * (high as u32)
-}
-
 // Whether the bits of an hz are a pitch's: those above 0 and below infinity's.
+#[tactic(auto, using(crate::proofs::Pitch::low_pitch, crate::proofs::Pitch::high_pitch, crate::proofs::Pitch::no_pitch))]
 fn bits_pitch(b: u32) -> bool
     ensures { result ≡ pitch (of_bits binary32 b) }
 {
@@ -286,21 +216,19 @@ fn whole_voiced(frames: &[u8], at: usize) -> bool
     if frames[at + layout::FRAME_VOICED] != 1 {
         return false;
     }
-    bits_pitch(whole_u32(frames, at + layout::FRAME_HZ))
+    bits_pitch(u32_in(frames, at + layout::FRAME_HZ))
 }
 
 // Whether the first frame of bytes that may end within it is voiced.
 fn cut_voiced(frame: &[u8]) -> bool
     ensures { result ≡ voiced_at frame.now 0 }
 {
-    match read_frame(frame, 0) {
-        Frame::Voiced(_, _) => true,
-        Frame::Unvoiced => false,
-    }
+    byte_at(frame, 0, layout::FRAME_VOICED) == 1 && bits_pitch(u32_at(frame, 0, layout::FRAME_HZ))
 }
 
-// Whether frame i is voiced, as `read_frame` says.
-pub fn voiced(frames: &[u8], i: usize) -> bool
+// Whether frame i is voiced: its flag is 1 and its hz a pitch. Past the end none is.
+#[tactic(auto, using(crate::proofs::Steps::voiced_part, crate::proofs::Steps::unvoiced_past))]
+pub fn is_voiced(frames: &[u8], i: usize) -> bool
     ensures { result ≡ voiced_at frames.now (frame_size * i) }
 {
     let whole = frames.len() / layout::FRAME_SIZE;
@@ -315,16 +243,17 @@ pub fn voiced(frames: &[u8], i: usize) -> bool
 }
 
 // The float k bytes into frame i, bytes past the end read as 0.
+#[tactic(auto, using(crate::proofs::Steps::f32_part, crate::proofs::Steps::f32_past))]
 fn field(frames: &[u8], i: usize, k: usize) -> f32
     requires { k ≤ frame_voiced_p }
     ensures { result ≡ f32_at frames.now (frame_size * i + k) }
 {
     let whole = frames.len() / layout::FRAME_SIZE;
     if i < whole {
-        return tonekit_float::f32_of_bits(whole_u32(frames, layout::FRAME_SIZE * i + k));
+        return f32::of_bits(u32_in(frames, layout::FRAME_SIZE * i + k));
     }
     if whole < i {
-        return tonekit_float::f32_of_bits(0);
+        return f32::of_bits(0);
     }
     let at = layout::FRAME_SIZE * i;
     f32_at(&frames[at..], 0, k)
@@ -342,6 +271,21 @@ pub fn frame_p(frames: &[u8], i: usize) -> f32
     ensures { result ≡ f32_at frames.now (frame_size * i + frame_voiced_p) }
 {
     field(frames, i, layout::FRAME_VOICED_P)
+}
+
+// What frame i says, where it is voiced.
+#[tactic(auto, unfolding(crate::specs::Frames::frame_at))]
+pub fn read_frame(frames: &[u8], i: usize) -> Option<Voiced>
+    ensures { result ≡ frame_at frames.now i }
+{
+    if is_voiced(frames, i) {
+        Some(Voiced {
+            hz: frame_hz(frames, i),
+            voiced_p: frame_p(frames, i),
+        })
+    } else {
+        None
+    }
 }
 
 // The tone of variant i of a query, one of its four places.

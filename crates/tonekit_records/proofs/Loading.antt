@@ -1,18 +1,11 @@
 -- A pack loads exactly if its records read, one after the other (`loads_exactly`): from records to the reader's answer (`reads_load`), and back (`load_reads`).
 -- Assumes nothing.
-use Prim.Native.Nat.{ℕ, zero, suc, ◌+◌, ◌-◌, ◌≤◌, ◌<◌}
-use mathlib.Core.Path.{◌≡◌, refl, sym, ◌∙◌, ap, ap₂}
-use mathlib.Core.Logic.{◌↔◌}
-use mathlib.Core.Bool.{true}
-use mathlib.Core.List.{List, [], ◌∷◌, ◌++◌, append_assoc}
-use native.Mathlib.Omega.{arith}
-use lib.Dec.{eqb}
-use borrow.Author.Tests.{eqb-true, eqb-false}
-use lib.ListN.{length, take, drop, take-append-drop, length-append, length-drop}
-use lib.Seq.{length-take-le, drop-cons, get_or-drop, get_or-take, drop-drop, drop-append_seam}
+use Rattle.std.proofs.Common.{ℕ, zero, suc, ◌+◌, ◌-◌, ◌≤◌, ◌<◌, ◌≡◌, refl, sym, ◌∙◌, ap, ap₂, ◌↔◌, true, List, [], ◌∷◌, ◌++◌, append_assoc, arith, eqb, eqb-true, length, take, drop, take-append-drop, length-append, length-drop, length-take-le, drop-cons, get_or-drop, get_or-take, drop-drop}
+use borrow.Author.Tests.{eqb-false}
+use lib.Seq.{drop-append_seam}
 use Rattle.tonekit_core.specs.declared.Refusal.{Refusal}
 use Rattle.tonekit_core.specs.declared.Refusal.TheVariants.{Misplaced, CutShort}
-use Rattle.tonekit_core.specs.declared.Verdict.TheVariants as verdict
+use Rattle.std.specs.Prelude.{Ok}
 use Rattle.tonekit_bytes.specs.Fields.{byte_at}
 use Rattle.tonekit_pack.specs.Pack.{Pst, Out, loaded, refused, due_after, size_of, record_verdict, added, start, read_pack}
 use Rattle.tonekit_core.proofs.Split.{split}
@@ -25,16 +18,16 @@ use Rattle.tonekit_records.proofs.Tallies.{TallyOf, tally_start, verdict_same, t
 
 -- ---- one record
 -- a record that is fine was due, and its body is fine
-pub fine_due : (r : List ℕ) (t : Tally) → record_verdict_of r t ≡ verdict.Fine → due_after t.last (kind r) ≡ true
+pub fine_due : (r : List ℕ) (t : Tally) → record_verdict_of r t ≡ Ok tt → due_after t.last (kind r) ≡ true
 unfolding record_verdict_of
 fine_due r t e = split (due_after t.last (kind r)) (λ d. d) (λ d. not_fine Misplaced (rw d at e))
 
-pub fine_body : (r : List ℕ) (t : Tally) → record_verdict_of r t ≡ verdict.Fine → body_verdict_of r t ≡ verdict.Fine
+pub fine_body : (r : List ℕ) (t : Tally) → record_verdict_of r t ≡ Ok tt → body_verdict_of r t ≡ Ok tt
 unfolding record_verdict_of
 fine_body r t e = rw (fine_due r t e) at e
 
 -- End is fine where it is due
-end_fine : (t : Tally) → due_after t.last 6 ≡ true → record_verdict_of (6 ∷ []) t ≡ verdict.Fine
+end_fine : (t : Tally) → due_after t.last 6 ≡ true → record_verdict_of (6 ∷ []) t ≡ Ok tt
 unfolding record_verdict_of body_verdict_of
 end_fine t d = rw d
 
@@ -115,7 +108,7 @@ ended s at st t fin e l k due h =
     let b : at + 0 + 1 ≡ e = omega arith in
     record { records = []; tally = t; reads = none; due = due; bytes = drop-cons s at 0 l ∙ ap₂ (λ x y. x ∷ drop y s) k z; end = b; held = cc }
 
-onward : (s : List ℕ) (at : ℕ) (st : Pst) (t : Tally) (fin : Pst) (e : ℕ) (r : List ℕ) → length r ≡ size_of (kind r) → (kind r ≡ 6 → ⊥) → record_verdict_of r t ≡ verdict.Fine
+onward : (s : List ℕ) (at : ℕ) (st : Pst) (t : Tally) (fin : Pst) (e : ℕ) (r : List ℕ) → length r ≡ size_of (kind r) → (kind r ≡ 6 → ⊥) → record_verdict_of r t ≡ Ok tt
     → drop at s ≡ r ++ drop (at + length r) s → AsRecords s (at + length r) (added (kind r) at st) (tallied r t) fin e → AsRecords s at st t fin e
 unfolding records_bytes added_all
 onward s at st t fin e r w n fine c x =
@@ -144,7 +137,7 @@ load_from (suc f) s r place at st t fin e o l h =
     let c = cut_here s at ok.inside ok.whole in
     let g = stands_front s at rec (drop (at + size_of (byte_at s at)) s) c l in
     let some : 0 < length rec = omega (arith, n, size_pos (byte_at s at)) in
-    let fine : record_verdict_of rec t ≡ verdict.Fine = sym (verdict_same s at st rec t g w o some) ∙ v in
+    let fine : record_verdict_of rec t ≡ Ok tt = sym (verdict_same s at st rec t g w o some) ∙ v in
     let d = fine_due rec t fine in
     split (eqb (byte_at s at) 6)
     (λ b. let is : byte_at s at ≡ 6 = eqb-true (byte_at s at) 6 b in

@@ -1,10 +1,5 @@
 -- A record's fields, and the tests of their ranges, are the same where it stands in a pack and by its own bytes. Assumes nothing.
-use Prim.Native.Nat.{ℕ, ◌+◌, ◌*◌, ◌≤◌, ◌<◌}
-use mathlib.Core.Path.{◌≡◌, refl, ◌∙◌, ap}
-use mathlib.Core.Bool.{Bool, true, ◌&&◌}
-use mathlib.Core.List.{List}
-use native.Mathlib.Omega.{arith}
-use lib.ListN.{length}
+use Rattle.std.proofs.Common.{ℕ, ◌+◌, ◌*◌, ◌≤◌, ◌<◌, ◌≡◌, refl, ◌∙◌, ap, Bool, true, ◌&&◌, List, arith, length}
 use lib.Ieee.{binary32, of_bits}
 use Rattle.tonekit_core.proofs.LoopLaws.{range_same}
 use Rattle.tonekit_bytes.specs.Fields.{byte_at, u32_at, f32_at}

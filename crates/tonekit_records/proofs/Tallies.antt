@@ -1,13 +1,9 @@
 -- The reader's verdict on a record is the one from its own bytes and the tally (`verdict_same`), and the tally goes along with the reader's state
 -- (`tally_next`). Assumes nothing.
-use Prim.Native.Nat.{ℕ, ◌+◌, ◌-◌, ◌≤◌, ◌<◌}
-use mathlib.Core.Path.{◌≡◌, refl, sym, ◌∙◌, ap, ap₂}
-use mathlib.Core.Bool.{Bool, true, false, not, ◌&&◌, ◌||◌}
-use mathlib.Core.List.{List, [], ◌∷◌, ◌++◌, map, map-append}
-use native.Mathlib.Omega.{arith}
-use lib.Dec.{eqb, leb, ltb}
-use borrow.Author.Tests.{lt-leb, le-ltb}
-use lib.ListN.{length, length-append, length-map}
+use Rattle.std.proofs.Common.{ℕ, ◌+◌, ◌-◌, ◌≤◌, ◌<◌, ◌≡◌, refl, sym, ◌∙◌, ap, ap₂, Bool, true, false, not, ◌&&◌, ◌||◌, List, [], ◌∷◌, ◌++◌, map, arith, eqb, leb, ltb, le-ltb, length, length-append}
+use mathlib.Core.List.{map-append}
+use borrow.Author.Tests.{lt-leb}
+use lib.ListN.{length-map}
 use lib.Seq.{get_or_at}
 use Rattle.tonekit_bytes.specs.Fields.{byte_at}
 use Rattle.tonekit_pack.specs.Pack.{Pst, in_turn, due_after, size_of, holds, zero_or_held, number_at, last_rule, tone_verdict, accent_verdict, rule_verdict, part_verdict, body_verdict, record_verdict, part_fine, added, start}

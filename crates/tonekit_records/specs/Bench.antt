@@ -1,11 +1,10 @@
 -- Worked examples, computed: the records of a small pack, the tally after each, and verdicts that turn on a tally.
-use Rattle.std.specs.Prelude.{ℕ, ◌≡◌, refl, List, [], ◌∷◌, ◌++◌, replicate}
+use Rattle.std.specs.Prelude.{ℕ, ◌≡◌, refl, List, [], ◌∷◌, ◌++◌, replicate, Result, Ok, Err}
 use Rattle.std.proofs.Common.{arith}
 use Rattle.std.specs.Float.Ieee.{lt, le, of_bits}
 use Rattle.tonekit_core.specs.Loop.{range, turns, loop_to, loop_on}
 use Rattle.tonekit_core.specs.declared.Refusal.TheVariants.{Misplaced, Crowded, OffScale, Doubled, Loose}
-use Rattle.tonekit_core.specs.declared.Verdict.{Verdict}
-use Rattle.tonekit_core.specs.declared.Verdict.TheVariants as verdict
+use Rattle.tonekit_core.specs.declared.Refusal.{Refusal}
 use Rattle.tonekit_pack.specs.Ranges.{above_zero, a_share, knot_fine, weight_fine, slot_fine, knots_fine, region_fine, tolerances_fine}
 use Rattle.tonekit_pack.specs.Pack.{Pst, loaded, due_after, size_of, holds, zero_or_held, settings_verdict, tone_verdict, accent_verdict, rule_verdict, part_verdict, body_verdict, record_verdict, added, start, read_pack}
 use Rattle.tonekit_records.specs.Records.{Tally, no_tally, among, zero_or_among, body_verdict_of, record_verdict_of, tallied, ReadsOn, none, more, records_bytes, added_all}
@@ -107,26 +106,26 @@ pack = refl
 
 -- ---- verdicts that turn on the tally
 -- what a record is after a tally; opened, it computes
-unfoldable after : Tally → List ℕ → Verdict
+unfoldable after : Tally → List ℕ → Result Unit Refusal
 unfolding record_verdict_of body_verdict_of among zero_or_among due_after settings_verdict above_zero a_share knot_fine weight_fine slot_fine knots_fine region_fine tolerances_fine range turns lt le of_bits
 after t r = record_verdict_of r t
 
 -- a tone after an accent
-late_tone : after with_accent tone ≡ verdict.Refused Misplaced
+late_tone : after with_accent tone ≡ Err Misplaced
 unfolding after
 late_tone = refl
 
 -- an accent whose parent stands before it, and one whose parent does not
-child : after whole (accent 8 7) ≡ verdict.Fine
+child : after whole (accent 8 7) ≡ Ok tt
 unfolding after
 child = refl
 
-no_parent : after whole (accent 8 9) ≡ verdict.Refused Loose
+no_parent : after whole (accent 8 9) ≡ Err Loose
 unfolding after
 no_parent = refl
 
 -- an accent's number again
-again : after whole (accent 7 0) ≡ verdict.Refused Doubled
+again : after whole (accent 7 0) ≡ Err Doubled
 unfolding after
 again = refl
 
@@ -137,11 +136,11 @@ seven = 7 ∷ 1 ∷ 2 ∷ 3 ∷ 4 ∷ 5 ∷ 6 ∷ []
 abbrev accents : List ℕ → Tally
 accents numbers = record { last = 3; tones = 4 ∷ []; accents = numbers; rules = 0; form = 0; parts = 0; total = 0 }
 
-eighth : after (accents seven) (accent 9 0) ≡ verdict.Fine
+eighth : after (accents seven) (accent 9 0) ≡ Ok tt
 unfolding after
 eighth = refl
 
-ninth : after (accents (8 ∷ seven)) (accent 9 0) ≡ verdict.Refused Crowded
+ninth : after (accents (8 ∷ seven)) (accent 9 0) ≡ Err Crowded
 unfolding after
 ninth = refl
 
@@ -149,10 +148,10 @@ ninth = refl
 abbrev single : ℕ → ℕ → Tally
 single last parts = record { last = last; tones = 4 ∷ []; accents = 7 ∷ []; rules = 1; form = 2; parts = parts; total = parts }
 
-light : after (single 4 0) part ≡ verdict.Refused OffScale
+light : after (single 4 0) part ≡ Err OffScale
 unfolding after
 light = refl
 
-second : after (single 5 1) part ≡ verdict.Refused Crowded
+second : after (single 5 1) part ≡ Err Crowded
 unfolding after
 second = refl

@@ -1,11 +1,10 @@
 -- A pack as a list of records, each by its own bytes. The verdict on a record turns on those bytes and on a tally of the records before it, not on where
 -- it stands.
-use Rattle.std.specs.Prelude.{ℕ, ◌+◌, ◌≡◌, Bool, true, false, cond, not, ◌&&◌, ◌||◌, List, [], ◌∷◌, ◌++◌, eqb, leb, ltb, length}
+use Rattle.std.specs.Prelude.{ℕ, ◌+◌, ◌≡◌, Bool, true, false, cond, not, ◌&&◌, ◌||◌, List, [], ◌∷◌, ◌++◌, eqb, leb, ltb, length, Result, Ok, Err}
 use Rattle.tonekit_core.specs.Layout.{settings_kind, tone_kind, tone_knot_count, accent_kind, accent_parent}
 use Rattle.tonekit_core.specs.Layout.{rule_kind, rule_tone, rule_prev, rule_form, part_kind, part_knot_count, end_kind}
 use Rattle.tonekit_core.specs.declared.Refusal.TheVariants.{Misplaced}
-use Rattle.tonekit_core.specs.declared.Verdict.{Verdict}
-use Rattle.tonekit_core.specs.declared.Verdict.TheVariants as verdict
+use Rattle.tonekit_core.specs.declared.Refusal.{Refusal}
 use Rattle.tonekit_bytes.specs.Fields.{byte_at}
 use Rattle.tonekit_pack.specs.Pack.{Pst, in_turn, due_after, size_of, number_at, settings_verdict, tone_fine, accent_fine, rule_fine, part_fine, added}
 
@@ -37,20 +36,20 @@ abbrev pub kind : List ℕ → ℕ
 kind r = byte_at r 0
 
 -- ---- the verdict on a record r that is due, after the tally t. It stands at offset 0 of its own bytes
-abbrev pub tone_verdict_of : List ℕ → Tally → Verdict
+abbrev pub tone_verdict_of : List ℕ → Tally → Result Unit Refusal
 tone_verdict_of r t = in_turn (leb 8 (length t.tones) || ltb 10 (byte_at r tone_knot_count)) (tone_fine r 0) (not (among t.tones (number_at r 0))) true
 
-abbrev pub accent_verdict_of : List ℕ → Tally → Verdict
+abbrev pub accent_verdict_of : List ℕ → Tally → Result Unit Refusal
 accent_verdict_of r t = in_turn (leb 8 (length t.accents)) (accent_fine r 0) (not (among t.accents (number_at r 0))) (zero_or_among t.accents (byte_at r accent_parent))
 
-abbrev pub rule_verdict_of : List ℕ → Tally → Verdict
+abbrev pub rule_verdict_of : List ℕ → Tally → Result Unit Refusal
 rule_verdict_of r t = in_turn (leb 64 t.rules) (rule_fine r 0) true (zero_or_among t.tones (byte_at r rule_tone) && zero_or_among t.tones (byte_at r rule_prev))
 
 -- "Form 2 is single": the last rule's
 abbrev pub last_single : Tally → Bool
 last_single t = eqb t.form 2
 
-abbrev pub part_verdict_of : List ℕ → Tally → Verdict
+abbrev pub part_verdict_of : List ℕ → Tally → Result Unit Refusal
 part_verdict_of r t =
     in_turn
     (leb 4 t.parts || (leb 128 t.total || ((last_single t && leb 1 t.parts) || ltb 10 (byte_at r part_knot_count))))
@@ -58,18 +57,18 @@ part_verdict_of r t =
     true
     true
 
-unfoldable pub body_verdict_of : List ℕ → Tally → Verdict
+unfoldable pub body_verdict_of : List ℕ → Tally → Result Unit Refusal
 body_verdict_of r t =
     cond (eqb (kind r) settings_kind) (settings_verdict r 0)
     (cond (eqb (kind r) tone_kind) (tone_verdict_of r t)
     (cond (eqb (kind r) accent_kind) (accent_verdict_of r t)
     (cond (eqb (kind r) rule_kind) (rule_verdict_of r t)
-    (cond (eqb (kind r) part_kind) (part_verdict_of r t) verdict.Fine))))
+    (cond (eqb (kind r) part_kind) (part_verdict_of r t) (Ok tt)))))
 
 -- the verdict on any whole record
-unfoldable pub record_verdict_of : List ℕ → Tally → Verdict
+unfoldable pub record_verdict_of : List ℕ → Tally → Result Unit Refusal
 unfolding body_verdict_of
-record_verdict_of r t = cond (not (due_after t.last (kind r))) (verdict.Refused Misplaced) (body_verdict_of r t)
+record_verdict_of r t = cond (not (due_after t.last (kind r))) (Err Misplaced) (body_verdict_of r t)
 
 -- the tally once r is fine
 unfoldable pub tallied : List ℕ → Tally → Tally
@@ -83,7 +82,7 @@ tallied r t =
 -- from the tally t, records that are whole and fine one after the other, none of them End, read on to the tally u
 pub data ReadsOn : Tally → List (List ℕ) → Tally → Type 0 where
   none : {t : Tally} → ReadsOn t [] t
-  more : {t u : Tally} {r : List ℕ} {rs : List (List ℕ)} → length r ≡ size_of (kind r) → (kind r ≡ end_kind → ⊥) → record_verdict_of r t ≡ verdict.Fine
+  more : {t u : Tally} {r : List ℕ} {rs : List (List ℕ)} → length r ≡ size_of (kind r) → (kind r ≡ end_kind → ⊥) → record_verdict_of r t ≡ Ok tt
       → ReadsOn (tallied r t) rs u → ReadsOn t (r ∷ rs) u
 
 -- the bytes of records, one behind the other

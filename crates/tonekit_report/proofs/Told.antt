@@ -1,16 +1,11 @@
 -- From what a call owes of an outcome to what a program tells of it, in a buffer in which every outcome has room. Assumes nothing.
-use Prim.Native.Nat.{ℕ, ◌≤◌}
-use mathlib.Core.Path.{◌≡◌, ◌∙◌, ap}
-use mathlib.Core.List.{List, ◌++◌}
-use native.Mathlib.Omega.{arith}
-use lib.ListN.{length, drop, length-append, length-drop}
+use Rattle.std.proofs.Common.{ℕ, ◌≤◌, ◌≡◌, ◌∙◌, ap, List, ◌++◌, arith, length, drop, length-append, length-drop, le-leb}
+use Rattle.std.proofs.Common.{Result, Ok}
 use lib.Seq.{sets, sets-eq}
-use borrow.Author.Tests.{le-leb}
 use Rattle.tonekit_core.specs.Calls.{Outcome, written, refused, answer_in, buffer_after, Delivers}
 use Rattle.tonekit_core.specs.Layout.{refusal_size}
 use Rattle.tonekit_core.proofs.Calls.{Writes}
-use Rattle.tonekit_core.specs.declared.Answer.{Answer}
-use Rattle.tonekit_core.specs.declared.Answer.TheVariants.{Written}
+use Rattle.tonekit_core.specs.declared.Rejection.{Rejection}
 use Rattle.tonekit_report.specs.Report.{refusal_bytes, Told, told_count, told_buffer}
 
 -- so much room is enough for what an outcome writes
@@ -22,12 +17,12 @@ front_length : (bs held : List ℕ) → length bs ≤ length held → length (bs
 front_length bs held h = omega (arith, h, length-append bs (drop (length bs) held), length-drop (length bs) held)
 
 -- so a short buffer, 9, is never told
-pub tells : (room : ℕ) (o : Outcome) (held mid out : List ℕ) (a : Answer) (n : ℕ) → length held ≡ room → refusal_size ≤ room → Fits room o
+pub tells : (room : ℕ) (o : Outcome) (held mid out : List ℕ) (a : Result ℕ Rejection) (n : ℕ) → length held ≡ room → refusal_size ≤ room → Fits room o
     → Delivers o held a mid → n ≡ told_count a → out ≡ told_buffer mid a → Told o held n out
 unfolding answer_in buffer_after
 tells room (written bs) held mid out a n k h f d c b =
     let f : length bs ≤ length held = omega (arith, k, f) in
-    let e : a ≡ Written (length bs) = d.answer ∙ rw (le-leb (length bs) (length held) f) in
+    let e : a ≡ Ok (length bs) = d.answer ∙ rw (le-leb (length bs) (length held) f) in
     let m : mid ≡ bs ++ drop (length bs) held = d.buffer ∙ rw (le-leb (length bs) (length held) f) in
     record { count = c ∙ ap told_count e; buffer = b ∙ ap (told_buffer mid) e ∙ m; same = ap length (b ∙ ap (told_buffer mid) e ∙ m) ∙ front_length bs held f }
 tells room (refused r place) held mid out a n k h f d c b =

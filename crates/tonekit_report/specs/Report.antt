@@ -1,12 +1,11 @@
 -- What a program writes on standard output: the bytes that a call makes of its input, or of a refusal "52, number, u32 place" (document 01, Bench cases).
-use Rattle.std.specs.Prelude.{ℕ, ◌≡◌, List, ◌∷◌, ◌++◌, length, drop}
+use Rattle.std.specs.Prelude.{ℕ, ◌≡◌, List, ◌∷◌, ◌++◌, length, drop, Result, Ok, Err}
 use Rattle.std.proofs.lemmas.List.Edits.{sets}
 use Rattle.tonekit_core.specs.Calls.{Outcome, written, refused}
 use Rattle.tonekit_core.specs.Layout.{refusal_kind, refusal_size}
 use Rattle.tonekit_core.specs.Words.{refusal_number}
 use Rattle.tonekit_core.specs.declared.Refusal.{Refusal}
-use Rattle.tonekit_core.specs.declared.Answer.{Answer}
-use Rattle.tonekit_core.specs.declared.Answer.TheVariants.{Written, Refused}
+use Rattle.tonekit_core.specs.declared.Rejection.{Rejection}
 use Rattle.tonekit_bytes.specs.Fields.{le32}
 
 -- six bytes; the place's low 32 bits
@@ -25,10 +24,10 @@ pub record Told (o : Outcome) (held : List ℕ) (n : ℕ) (out : List ℕ) : Typ
   pub same : length out ≡ length held
 
 -- of a call's answer: how many bytes there are to write, and the buffer, with the refusal's record at its front
-abbrev pub told_count : Answer → ℕ
-told_count (Written n) = n
-told_count (Refused r place) = refusal_size
+abbrev pub told_count : Result ℕ Rejection → ℕ
+told_count (Ok n) = n
+told_count (Err e) = refusal_size
 
-abbrev pub told_buffer : List ℕ → Answer → List ℕ
-told_buffer held (Written n) = held
-told_buffer held (Refused r place) = sets held 0 (refusal_bytes r place)
+abbrev pub told_buffer : List ℕ → Result ℕ Rejection → List ℕ
+told_buffer held (Ok n) = held
+told_buffer held (Err e) = sets held 0 (refusal_bytes e.why e.place)

@@ -5,33 +5,32 @@ ghost use Rattle.std.specs.Prelude.{◌≤◌, ◌≡◌, length, take};
 ghost use Rattle.tonekit_core.specs.Layout.{refusal_size};
 ghost use Rattle.tonekit_report.specs.Report.{refusal_bytes, told_count, told_buffer};
 
-use tonekit_core::{Answer, Refusal, layout};
+use tonekit_core::{Rejection, layout};
 
 // The refusal record: 52, the number, the place as a u32.
-pub fn refusal_record(r: Refusal, place: usize) -> [u8; layout::REFUSAL_SIZE]
-    ensures { result ≡ refusal_bytes r place }
+pub fn refusal_record(e: Rejection) -> [u8; layout::REFUSAL_SIZE]
+    ensures { result ≡ refusal_bytes e.why e.place }
 {
     [
         layout::REFUSAL_KIND,
-        tonekit_core::refusal_number(r),
-        (place % 256) as u8,
-        (place / 256 % 256) as u8,
-        (place / 65536 % 256) as u8,
-        (place / 16777216 % 256) as u8,
+        u8::from(e.why),
+        (e.place % 256) as u8,
+        (e.place / 256 % 256) as u8,
+        (e.place / 65536 % 256) as u8,
+        (e.place / 16777216 % 256) as u8,
     ]
 }
 
 // How many bytes at the front of a buffer a program writes, by what a call with that buffer answered. A
 // refusal's record is put there first.
-pub fn tell(a: Answer, out: &mut [u8]) -> usize
+pub fn tell(answer: Result<usize, Rejection>, out: &mut [u8]) -> usize
     requires { refusal_size ≤ length out.old }
-    ensures { (result ≡ told_count a) × (out.new ≡ told_buffer out.old a) }
+    ensures { (result ≡ told_count answer) × (out.new ≡ told_buffer out.old answer) }
 {
-    match a {
-        Answer::Written(n) => n,
-        Answer::Refused(r, place) => {
-            let bytes = refusal_record(r, place);
-            tonekit_bytes::put_bytes(out, 0, &bytes);
+    match answer {
+        Ok(n) => n,
+        Err(e) => {
+            tonekit_bytes::put_bytes(out, 0, &refusal_record(e));
             layout::REFUSAL_SIZE
         }
     }
@@ -41,8 +40,5 @@ pub fn tell(a: Answer, out: &mut [u8]) -> usize
 pub fn front(s: &[u8], n: usize) -> &[u8]
     ensures { result.now ≡ take n s.now }
 {
-    if n < s.len() {
-        return &s[0..n];
-    }
-    s
+    &s[..n.min(s.len())]
 }

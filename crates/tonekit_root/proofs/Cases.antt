@@ -1,12 +1,6 @@
 -- What the code of `sqrt` and `root_above` needs, by the cases of x.
-use Prim.Native.Nat.{ℕ, suc, zero, ◌+◌, ◌*◌, ◌/◌, ◌%◌, ◌^◌, ◌<◌}
-use mathlib.Core.Path.{◌≡◌, refl, sym, subst}
-use mathlib.Core.Bool.{Bool, true, false, not}
-use native.Mathlib.Nat.{lt_irrefl, zero-lt-suc}
-use native.Mathlib.Omega.{arith}
-use lib.Dec.{T}
-use lib.IntN.{ℤ}
-use lib.Ieee.{Float, nan, inf, fin, binary64, lt, eq, fits, to_bits, of_bits, is_nan}
+use Rattle.std.proofs.Common.{ℕ, suc, zero, ◌+◌, ◌*◌, ◌/◌, ◌%◌, ◌^◌, ◌<◌, ◌≡◌, refl, sym, subst, Bool, true, false, not, lt_irrefl, zero-lt-suc, arith, T, ℤ, Float, to_bits}
+use lib.Ieee.{nan, inf, fin, binary64, lt, eq, fits, of_bits, is_nan}
 use lib.Ieee.Bits.{of_bits-to_bits}
 use lib.Ieee.Exact.{HasValue}
 use Rattle.tonekit_float.proofs.Units.{units_value}

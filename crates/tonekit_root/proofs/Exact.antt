@@ -1,13 +1,5 @@
 -- The floats that the code takes apart and puts together, by their values.
-use Prim.Native.Nat.{ℕ, suc, zero, ◌+◌, ◌-◌, ◌*◌, ◌/◌, ◌%◌, ◌^◌, ◌≤◌, ◌<◌}
-use mathlib.Core.Path.{◌≡◌, refl, sym, ◌∙◌, ap}
-use mathlib.Core.Logic.{◌⊎◌, inl, inr, ⊎_elim}
-use mathlib.Core.Bool.{Bool, true, false, not}
-use native.Mathlib.Nat.{le_trans, le_of_eq, lt_of_lt_of_le, lt_of_le_of_lt, lt_irrefl, mul_comm, mul_assoc, mul_left_comm, one-mul, mul-pos, mul-le-mul_right, mul-div_cancel, div-one, pow-suc, pow-le-pow_right}
-use native.Mathlib.Omega.{arith}
-use lib.Dec.{T, ltb, eqb, eqb→eq, T_not, ltb→lt, nltb→le, lit<}
-use lib.IntN.{pos}
-use lib.Pow.{pow-add, pow_pos}
+use Rattle.std.proofs.Common.{lt_of_not-le, not-le_of_lt, pow_mono, mul-lt-mul_of_pos_right, mul-le-mul_left, ℕ, suc, zero, ◌+◌, ◌-◌, ◌*◌, ◌/◌, ◌%◌, ◌^◌, ◌≤◌, ◌<◌, ◌≡◌, refl, sym, ◌∙◌, ap, ◌⊎◌, inl, inr, ⊎_elim, Bool, true, false, not, le_trans, le_of_eq, lt_of_lt_of_le, lt_irrefl, mul_comm, mul_assoc, mul_left_comm, mul-pos, mul-le-mul_right, mul-div_cancel, div-one, pow-suc, arith, T, eqb, eqb→eq, T_not, lit<, pos, pow-add, pow_pos}
 use lib.Ieee.{binary64, size, round, mul, of_int, of_bits}
 use lib.Ieee.Digits.{size-le}
 use lib.Ieee.Fits.{eq→eqb}
@@ -52,18 +44,17 @@ four_two (suc i) =
 pub four_pos : (i : ℕ) → 0 < 4 ^ i
 four_pos i = lt_of_lt_of_le (pow_pos (2 * i)) (le_of_eq (sym (four_two i)))
 
-pub raised_less : (x n : ℕ) → 0 < x → x * 4 ^ n < 2 ^ 52 → n < 26
-raised_less x n p h = ⊎_elim (λ g. g) (λ g. absurd (lt_irrefl (2 ^ 52) (lt_of_le_of_lt (big g) h))) (either n 26)
-  where
-    either : (a b : ℕ) → (a < b) ⊎ (b ≤ a)
-    either a b = go (ltb a b) (ltb→lt a b) (nltb→le a b)
-      where
-        go : (t : Bool) → (T t → a < b) → (T (not t) → b ≤ a) → (a < b) ⊎ (b ≤ a)
-        go true p q = inl (p tt)
-        go false p q = inr (q tt)
+-- x has d + 1 digits; n pairs of zeros behind them make it 53 or 54
+pub few_digits : (x d : ℕ) → 2 ^ d ≤ x → x < 2 ^ 52 → d < 52
+few_digits x d p q = lt_of_not-le (λ (g : 52 ≤ d). not-le_of_lt q (le_trans (pow_mono g) p))
 
-    big : 26 ≤ n → 2 ^ 52 ≤ x * 4 ^ n
-    big g = le_trans (pow-le-pow_right {n = 4} (lit< tt) g) (le_trans (le_of_eq (sym (one-mul (4 ^ n)))) (mul-le-mul_right (4 ^ n) p))
+pub raised_low : (x d n : ℕ) → 2 ^ d ≤ x → 52 ≤ d + 2 * n → 2 ^ 52 ≤ x * 2 ^ (2 * n)
+raised_low x d n p h = le_trans (pow_mono h) (le_trans (le_of_eq (pow-add 2 d (2 * n))) (mul-le-mul_right (2 ^ (2 * n)) p))
+
+pub raised_high : (x d n : ℕ) → x < 2 * 2 ^ d → d + 2 * n ≤ 53 → x * 2 ^ (2 * n) < 2 ^ 54
+raised_high x d n p h =
+    lt_of_lt_of_le (mul-lt-mul_of_pos_right p (pow_pos (2 * n)))
+    (le_trans (le_of_eq (mul_assoc 2 (2 ^ d) (2 ^ (2 * n)) ∙ ap (λ (z : ℕ). 2 * z) (sym (pow-add 2 d (2 * n))))) (mul-le-mul_left 2 (pow_mono h)))
 
 -- ---- the definition, from the digits a of x: X is a * 4 ^ h, or a is X * 4 ^ n
 pub size_four : (a h : ℕ) → 0 < a → size (a * 4 ^ h) ≡ size a + 2 * h

@@ -1,13 +1,6 @@
 -- What callers may cite of the square root. Nothing above unfolds its definition. Assumes nothing.
-use Prim.Native.Nat.{ℕ, suc, zero, ◌+◌, ◌-◌, ◌*◌, ◌/◌, ◌^◌, ◌<◌, zero-le}
-use mathlib.Core.Path.{◌≡◌, refl, sym, ◌∙◌, ap, subst}
-use mathlib.Core.Bool.{Bool, true, false, not, true≢false}
-use native.Mathlib.Nat.{le_trans, le_of_eq, lt_irrefl, lt_of_lt_of_le, mul-pos, zero-mul, zero-lt-suc}
-use native.Mathlib.Omega.{arith}
-use lib.Dec.{T, lit<}
-use lib.IntN.{ℤ}
-use lib.Pow.{pow_pos}
-use lib.Ieee.{Float, nan, inf, fin, up, binary64, size, round, lt, le, eq, is_nan, fits}
+use Rattle.std.proofs.Common.{ℕ, suc, zero, ◌+◌, ◌-◌, ◌*◌, ◌/◌, ◌^◌, ◌<◌, zero-le, ◌≡◌, refl, sym, ◌∙◌, ap, subst, Bool, true, false, not, true≢false, le_trans, le_of_eq, lt_irrefl, lt_of_lt_of_le, mul-pos, zero-mul, zero-lt-suc, arith, T, lit<, ℤ, pow_pos, Float}
+use lib.Ieee.{nan, inf, fin, up, binary64, size, round, lt, le, eq, is_nan, fits}
 use lib.Ieee.Exact.{HasValue}
 use lib.Ieee.Fits.{nan-fits, round-fits, up_pos, down_pos}
 use lib.Ieee.Order.{round_mono}

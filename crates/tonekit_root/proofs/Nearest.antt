@@ -1,10 +1,6 @@
 -- The definition's whole root, and that it is the one number nearest to the root.
-use Prim.Native.Nat.{ℕ, suc, zero, ◌+◌, ◌-◌, ◌*◌, ◌/◌, ◌^◌, ◌≤◌, ◌<◌}
-use mathlib.Core.Path.{◌≡◌, sym, ap, subst}
-use mathlib.Core.Bool.{Bool, true, false, not, cond}
-use native.Mathlib.Nat.{le_of_eq, lt_of_lt_of_le, mul-le-mul, lt_irrefl, le_antisymm, div-lt_iff_lt-mul, pow-suc, le_of_suc-le-suc, lt_of_not-le}
-use native.Mathlib.Omega.{arith}
-use lib.Dec.{T, leb, ltb, leb→le, nleb→lt, ltb→lt, nltb→le}
+use Rattle.std.proofs.Common.{ℕ, suc, zero, ◌+◌, ◌-◌, ◌*◌, ◌/◌, ◌^◌, ◌≤◌, ◌<◌, ◌≡◌, sym, ap, subst, Bool, true, false, not, cond, le_of_eq, lt_of_lt_of_le, mul-le-mul, lt_irrefl, le_antisymm, div-lt_iff_lt-mul, pow-suc, le_of_suc-le-suc, lt_of_not-le, arith, T, leb, ltb, leb→le, ltb→lt, nltb→le}
+use lib.Dec.{nleb→lt}
 use Rattle.tonekit_root.specs.Root.{isqrt, nearest_root, Near}
 use Rattle.tonekit_root.proofs.Squares.{twice_square, next_square, odd_square}
 

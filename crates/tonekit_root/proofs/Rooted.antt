@@ -1,13 +1,8 @@
 -- The root by whole-number squares: among all f64s none is nearer to it. Assumes nothing.
-use Prim.Native.Nat.{ℕ, suc, ◌+◌, ◌-◌, ◌*◌, ◌/◌, ◌^◌, ◌≤◌, ◌<◌, zero-le}
-use mathlib.Core.Path.{◌≡◌, refl, sym, ◌∙◌, ap, subst}
-use mathlib.Core.Logic.{◌⊎◌, inl, inr, ⊎_elim}
-use mathlib.Core.Bool.{Bool, true, false, not}
-use native.Mathlib.Nat.{le_trans, le_of_eq, le_of_lt, lt_irrefl, lt_of_lt_of_le, lt_of_le_of_lt, lt_of_not-le, le_of_suc-le-suc, mul-one, one-mul, mul_assoc, mul-le-mul, mul-le-mul_left, mul-le-mul_right, mul-lt-mul_of_pos_right, lt_of_mul-lt-mul_right, mul-mul-mul_comm, add-mul, mul-div_cancel, div-one}
-use native.Mathlib.Omega.{arith}
-use lib.Dec.{T, ltb, ltb→lt, nltb→le, lit<}
-use lib.Pow.{pow-add, pow_pos, pow_mono, pow-lt}
-use lib.Ieee.{Float, binary64, size, round}
+use Rattle.std.proofs.Common.{ℕ, suc, ◌+◌, ◌-◌, ◌*◌, ◌/◌, ◌^◌, ◌≤◌, ◌<◌, zero-le, ◌≡◌, refl, sym, ◌∙◌, ap, subst, ◌⊎◌, inl, inr, ⊎_elim, Bool, true, false, not, le_trans, le_of_eq, le_of_lt, lt_irrefl, lt_of_lt_of_le, lt_of_le_of_lt, lt_of_not-le, le_of_suc-le-suc, mul-one, one-mul, mul_assoc, mul-le-mul, mul-le-mul_left, mul-le-mul_right, mul-lt-mul_of_pos_right, lt_of_mul-lt-mul_right, add-mul, mul-div_cancel, div-one, arith, T, ltb, ltb→lt, nltb→le, lit<, pow-add, pow_pos, pow_mono, Float}
+use native.Mathlib.Nat.{mul-mul-mul_comm}
+use lib.Pow.{pow-lt}
+use lib.Ieee.{binary64, size, round}
 use lib.Ieee.Digits.{size-lt, size-le, size_reaches}
 use lib.Ieee.Exact.{HasValue, round_exact}
 use lib.Ieee.Positive.{first_pos}

@@ -1,10 +1,6 @@
 -- Squares, and the state of the loop that takes the digits of a root one by one. Assumes nothing.
-use Prim.Native.Nat.{ℕ, suc, zero, ◌+◌, ◌-◌, ◌*◌, ◌^◌, ◌≤◌, ◌<◌}
-use mathlib.Core.Path.{◌≡◌, sym, ◌∙◌, ap, subst}
-use native.Mathlib.Nat.{le_trans, mul-le-mul, mul-le-mul_left, lt_irrefl, mul-mul-mul_comm, add-mul, mul-add, mul_assoc, pow-suc}
-use native.Mathlib.Numerals.{add-one}
-use native.Mathlib.Omega.{arith}
-use lib.Pow.{pow_mono}
+use Rattle.std.proofs.Common.{ℕ, suc, zero, ◌+◌, ◌-◌, ◌*◌, ◌^◌, ◌≤◌, ◌<◌, ◌≡◌, sym, ◌∙◌, ap, subst, le_trans, mul-le-mul, mul-le-mul_left, lt_irrefl, add-mul, mul-add, mul_assoc, pow-suc, add-one, arith, pow_mono}
+use native.Mathlib.Nat.{mul-mul-mul_comm}
 use Rattle.tonekit_root.specs.Root.{Near}
 
 pub square_fits : (m : ℕ) → m ≤ 134217728 → m * m < 2 ^ 64

@@ -6,41 +6,21 @@ ghost use Rattle.std.specs.Float.Ieee as Ieee;
 ghost use Rattle.std.specs.Float.{binary64};
 ghost use Rattle.tonekit_root.specs.Root.{Near, root_of};
 
-// The whole root of an a below 2^54, by halving.
-fn whole_root(a: u64) -> u64
-    requires { a < 2 ^ 54 }
-    ensures { (result * result ≤ a) × (a < (result + 1) * (result + 1)) × (result < 2 ^ 27) }
-{
-    let mut lo = 0u64;
-    let mut hi = 134217728u64;
-    while 1 < hi - lo {
-        let mid = (lo + hi) / 2;
-        if mid * mid <= a {
-            lo = mid;
-        } else {
-            hi = mid;
-        }
-    }
-    lo
-}
-
 // The whole number nearest to the root of a * 2^52: the whole root of a and 26 more binary digits,
 // each with what is left over, and then one more if what is left is past the half.
 fn digits_root(a: u64) -> u64
     requires { (2 ^ 52 ≤ a) × (a < 2 ^ 54) }
     ensures { Near (a * 2 ^ 52) result × (result ≤ 2 ^ 53) }
 {
-    let mut r = whole_root(a);
+    let mut r = a.isqrt();
     let mut left = a - r * r;
-    let mut i = 0u64;
-    while i < 26 {
-        r = 2 * r;
-        left = 4 * left;
+    for _ in 0..26u64 {
+        r *= 2;
+        left *= 4;
         if 2 * r < left {
-            left = left - (2 * r + 1);
-            r = r + 1;
+            left -= 2 * r + 1;
+            r += 1;
         }
-        i += 1;
     }
     if r < left { r + 1 } else { r }
 }
@@ -65,13 +45,11 @@ fn raised(x: u64) -> Scaled
     requires { (0 < x) × (x < 2 ^ 52) }
     ensures { (result.a ≡ x * 4 ^ result.n) × (2 ^ 52 ≤ result.a) × (result.a < 2 ^ 54) × (result.n ≤ 26) }
 {
-    let mut a = x;
-    let mut n = 0u64;
-    while a < 0x10_0000_0000_0000 {
-        a = 4 * a;
-        n += 1;
+    let n = (53 - x.ilog2()) / 2;
+    Scaled {
+        a: x << (2 * n),
+        n: u64::from(n),
     }
-    Scaled { a, n }
 }
 
 // The root of an x above 0 and below infinity.

@@ -1,8 +1,8 @@
 -- What `clamp_log` returns is an f32, lies within ±1,000,000 and is no NaN, whatever it is given. Assumes nothing.
-use mathlib.Core.Path.{◌≡◌, refl}
-use mathlib.Core.Bool.{Bool, true, false, cond}
-use lib.Dec.{T}
-use lib.Ieee.{Float, nan, inf, fin, binary32, is_nan, neg, lt, le, round, of_bits, fits}
+use Rattle.std.proofs.Common.{◌≡◌, refl, Bool, true, false, cond, T, Float}
+use Rattle.std.specs.Float.{nan, inf, binary32}
+use Rattle.std.specs.Float.Ieee.{is_nan, neg, lt, le, round, of_bits}
+use lib.Ieee.{fin, fits}
 use lib.Ieee.Fits.{cond-fits}
 use lib.Ieee.Scale.{finite}
 use Rattle.tonekit_float.specs.Narrow.{narrowed}

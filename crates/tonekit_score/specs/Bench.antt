@@ -1,5 +1,5 @@
 -- Worked cases of the definitions, by computing.
-use Rattle.std.specs.Prelude.{◌≡◌, refl, false}
+use Rattle.std.specs.Prelude.{◌≡◌, refl, false, Some, None}
 use Rattle.std.specs.Float.{nan, inf, binary32, binary64}
 use Rattle.std.specs.Float.Ieee.{is_nan, eq, neg, add, sub, mul, div, lt, le, round, of_int, of_bits}
 use Rattle.tonekit_float.specs.Narrow.{narrowed}
@@ -40,11 +40,11 @@ unfolding value_of add_to ln_of exp_of is_nan eq neg add sub mul div lt le round
 of_two = refl
 
 -- both ends belong to a region: point 9 of one that ends at 1, voiced 0.25
-pub at_region_end : point_weight (record { flag = 1; from = of_bits binary32 0x3f00_0000; to = of_bits binary32 0x3f80_0000 }) 9 (of_bits binary32 0x3e80_0000) ≡ zero64
+pub at_region_end : point_weight (Some (record { from = of_bits binary32 0x3f00_0000; to = of_bits binary32 0x3f80_0000 })) 9 (of_bits binary32 0x3e80_0000) ≡ zero64
 unfolding point_weight excused lt le div round of_int of_bits
 at_region_end = refl
 
 -- no region: at least 0.25
-pub unvoiced : point_weight (record { flag = 0; from = zero32; to = zero32 }) 9 zero32 ≡ of_bits binary32 0x3e80_0000
+pub unvoiced : point_weight None 9 zero32 ≡ of_bits binary32 0x3e80_0000
 unfolding point_weight excused greater is_nan lt of_bits
 unvoiced = refl

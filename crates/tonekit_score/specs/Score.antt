@@ -1,5 +1,5 @@
 -- score.rs: calibrated likelihoods of one shape under weighted components. The operations are the Rust's, in its order; sums begin at +0.
-use Rattle.std.specs.Prelude.{ℕ, ◌+◌, ◌*◌, Bool, true, false, cond, not, ◌&&◌, ◌||◌, List, eqb, pos, get_or, Float}
+use Rattle.std.specs.Prelude.{ℕ, ◌+◌, ◌*◌, Bool, false, cond, not, ◌&&◌, ◌||◌, Option, Some, None, List, pos, get_or, Float}
 use Rattle.std.specs.Float.{nan, binary32, binary64}
 use Rattle.std.specs.Float.Ieee.{is_nan, neg, add, sub, mul, div, lt, le, eq, of_int, of_bits}
 use Rattle.tonekit_core.specs.Loop.{range}
@@ -17,6 +17,7 @@ use Rattle.tonekit_score.specs.declared.LogSumExp.{LogSumExp}
 use Rattle.tonekit_score.specs.declared.Mixture.{Mixture}
 use Rattle.tonekit_score.specs.declared.Mixture.TheVariants.{Scored, Nothing}
 use Rattle.tonekit_score.specs.declared.Squares.{Squares}
+use Rattle.tonekit_score.specs.declared.Lead.{Lead}
 use Rattle.tonekit_score.specs.declared.Mixing.{Mixing}
 
 abbrev pub zero64 : Float
@@ -86,13 +87,12 @@ value_of s = cond (lt zero64 s.sum) (add binary64 s.max (ln_of s.sum)) neg_inf
 abbrev pub place_of : ℕ → Float
 place_of k = div binary32 (of_int binary32 (pos k)) (of_bits binary32 0x4110_0000)
 
--- inside the region of the component's tone a point voiced less than 0.5 has no weight; every other point at least 0.25
-unfoldable pub excused : Region → ℕ → Float → Bool
-excused r k voiced =
-    lt voiced (of_bits binary32 0x3f00_0000)
-    && (not (eqb r.flag 0) && (le r.from (place_of k) && le (place_of k) r.to))
+-- inside the region of the component's tone, if it has one, a point voiced less than 0.5 has no weight; every other point at least 0.25
+unfoldable pub excused : Option Region → ℕ → Float → Bool
+excused None k voiced = false
+excused (Some r) k voiced = lt voiced (of_bits binary32 0x3f00_0000) && (le r.from (place_of k) && le (place_of k) r.to)
 
-unfoldable pub point_weight : Region → ℕ → Float → Float
+unfoldable pub point_weight : Option Region → ℕ → Float → Float
 point_weight r k voiced = cond (excused r k voiced) zero64 (greater voiced (of_bits binary32 0x3e80_0000))
 
 -- point k of the component at a slot: ten points a slot
@@ -100,13 +100,13 @@ abbrev pub point_at : List Float → ℕ → ℕ → Float
 point_at points slot k = get_or points (10 * slot + k) nan
 
 -- `weighted_mean_square`: Σ w r² and Σ w
-abbrev pub square_turn : List Float → List Float → Region → List Float → ℕ → ℕ → Squares → Squares
+abbrev pub square_turn : List Float → List Float → Option Region → List Float → ℕ → ℕ → Squares → Squares
 square_turn contour weights r points slot k s =
     let w = point_weight r k (get_or weights k nan) in
     let d = sub binary64 (get_or contour k nan) (point_at points slot k) in
     record { weighted = add binary64 s.weighted (mul binary64 (mul binary64 w d) d); total = add binary64 s.total w }
 
-unfoldable pub squares_of : ToneShape → Region → List Float → ℕ → Squares
+unfoldable pub squares_of : ToneShape → Option Region → List Float → ℕ → Squares
 squares_of x r points slot = range (square_turn x.contour x.weights r points slot) 0 10 (record { weighted = zero64; total = zero64 })
 
 -- ½ (Δ / σ)²
@@ -121,7 +121,7 @@ ends_of x s points slot =
     add binary64 (end_term onset s.sigmaonset) (end_term offset s.sigmaoffset)
 
 -- d² of the component at a slot: the ends, and the contour where it is evidence
-unfoldable pub distance_of : ToneShape → Scoring → Region → List Float → ℕ → Float
+unfoldable pub distance_of : ToneShape → Scoring → Option Region → List Float → ℕ → Float
 distance_of x s r points slot =
     let ends = ends_of x s points slot in
     let q = squares_of x r points slot in
@@ -135,27 +135,27 @@ log_of s d2 = sub binary64 (mul binary64 (neg half) d2) s.logsigma
 
 -- `mixture`: components i with weights and squared distances; a component of weight not above 0 is passed over, the first of equal scores is the best
 abbrev pub no_mixing : Mixing
-no_mixing = record { total = empty; found = false; score = zero64; index = 0; distance = zero64 }
+no_mixing = record { total = empty; best = None }
 
-abbrev pub leads : Bool → Float → Float → Bool
-leads found best score = not found || lt best score
+abbrev pub led : Option Lead → Lead → Lead
+led None next = next
+led (Some best) next = cond (lt best.score next.score) next best
 
 unfoldable pub mixed : Mixing → ℕ → Float → Float → Mixing
-mixed m i score d2 =
-    let best = leads m.found m.score score in
-    record {
-      total = add_to m.total score;
-      found = true;
-      score = cond best score m.score;
-      index = cond best i m.index;
-      distance = cond best d2 m.distance;
-    }
+mixed m i score d2 = record {
+  total = add_to m.total score;
+  best = Some (led m.best (record { score = score; index = i; distance = d2 }));
+}
 
 unfoldable pub mix_turn : Scoring → Mixing → ℕ → Float → Float → Mixing
 mix_turn s m i weight d2 = cond (le weight zero32) m (mixed m i (add binary64 (ln_of weight) (log_of s d2)) d2)
 
+abbrev pub mixture_with : LogSumExp → Option Lead → Mixture
+mixture_with total None = Nothing
+mixture_with total (Some best) = Scored (value_of total) best.index best.distance
+
 abbrev pub mixture_of : Mixing → Mixture
-mixture_of m = cond m.found (Scored (value_of m.total) m.index m.distance) Nothing
+mixture_of m = mixture_with m.total m.best
 
 -- the mixture's log-likelihood, −infinity where there is nothing to score; calibrated
 abbrev pub mixture_log : Mixture → Float

@@ -1,13 +1,13 @@
 // `score` of the Rust: how likely one shape is under looked-up components.
 #![tactic(auto)]
 
-ghost use Rattle.std.specs.Prelude.{◌≡◌, not, ◌+◌, ◌*◌, ◌≤◌, ◌<◌, length};
+ghost use Rattle.std.specs.Prelude.{◌≡◌, ◌+◌, ◌*◌, ◌≤◌, ◌<◌, length};
 ghost use Rattle.std.specs.Float.{binary64};
 ghost use Rattle.std.specs.Float.Ieee.{mul};
-ghost use Rattle.tonekit_score.specs.Score.{neg_inf, widen_for, scoring_of, clamp_log, empty, add_to, value_of, excused};
-ghost use Rattle.tonekit_score.specs.Score.{point_weight, squares_of, end_term, ends_of, distance_of, log_of, leads};
-ghost use Rattle.tonekit_score.specs.Score.{no_mixing, mixture_of, mixture_log, calibrate};
-ghost use Rattle.tonekit_score.specs.Terms.{no_lead, led, lead_of, mixing_with, no_term, term_of};
+ghost use Rattle.tonekit_score.specs.Score.{widen_for, scoring_of, clamp_log, empty, add_to, value_of, excused};
+ghost use Rattle.tonekit_score.specs.Score.{point_weight, squares_of, end_term, ends_of, distance_of, log_of};
+ghost use Rattle.tonekit_score.specs.Score.{no_mixing, led, mixture_of, mixture_log, calibrate};
+ghost use Rattle.tonekit_score.specs.Terms.{term_of};
 
 use tonekit_core::MeasureIssue;
 use tonekit_shape::ToneShape;
@@ -21,10 +21,9 @@ pub struct Tolerance {
     pub turning: f32,
 }
 
-// Where in a tone missing pitch is not penalised; `flag` is 0 where nowhere.
+// Where in a tone missing pitch is not penalised.
 #[derive(Clone, Copy)]
 pub struct Region {
-    pub flag: u8,
     pub from: f32,
     pub to: f32,
 }
@@ -50,6 +49,7 @@ pub struct LogSumExp {
 
 // Either a scored mixture, with its log-likelihood, the index of its best component and that one's
 // squared distance; or nothing to score.
+// Stays: the Rust's own form of a mixture, which its readers look for.
 #[derive(Clone, Copy)]
 pub enum Mixture {
     Scored(f64, usize, f64),
@@ -57,75 +57,70 @@ pub enum Mixture {
 }
 
 // A weighted sum of squares and the weights' sum.
-#[derive(Drop)]
+#[derive(Clone, Copy)]
 pub struct Squares {
     pub weighted: f64,
     pub total: f64,
 }
 
-// The best so far, if there is one: its score, its index and its squared distance.
-#[derive(Drop)]
+// The best component, or tone, so far: its score, its index and its squared distance.
+#[derive(Clone, Copy)]
 pub struct Lead {
-    pub found: bool,
     pub score: f64,
     pub index: usize,
     pub distance: f64,
 }
 
-// A term of a mixture: what a component brings to it, if it counts.
-#[derive(Drop)]
+// What a component brings to a mixture.
+#[derive(Clone, Copy)]
 pub struct Term {
-    pub counts: bool,
     pub score: f64,
     pub distance: f64,
 }
 
 // A mixture so far: the sum, and the best component, if there is one.
-#[derive(Drop)]
+#[derive(Clone, Copy)]
 pub struct Mixing {
     pub total: LogSumExp,
-    pub found: bool,
-    pub score: f64,
-    pub index: usize,
-    pub distance: f64,
+    pub best: Option<Lead>,
 }
 
 // The factor on every tolerance: 1.5 under LowSnr, Clipped or ColdStartRegister, else 1.
+#[tactic(auto, unfolding(crate::specs::Score::widen_for))]
 pub fn widen_for(issues: u16) -> f32
     ensures { result ≡ widen_for issues }
 {
-    if tonekit_core::has_issue(issues, MeasureIssue::LowSnr) {
-        return 1.5;
+    if tonekit_core::has_issue(issues, MeasureIssue::LowSnr)
+        || tonekit_core::has_issue(issues, MeasureIssue::Clipped)
+        || tonekit_core::has_issue(issues, MeasureIssue::ColdStartRegister)
+    {
+        1.5
+    } else {
+        1.0
     }
-    if tonekit_core::has_issue(issues, MeasureIssue::Clipped) {
-        return 1.5;
-    }
-    if tonekit_core::has_issue(issues, MeasureIssue::ColdStartRegister) {
-        return 1.5;
-    }
-    1.0
 }
 
 // A tolerance widened.
 pub fn widened(sigma: f32, widen: f64) -> f64
     ensures { result ≡ mul binary64 sigma widen }
 {
-    tonekit_float::widen(sigma) * widen
+    f64::from(sigma) * widen
 }
 
 // How a judgement scores: the tolerances widened for the issues, and the logarithm of their product,
 // which every component shares.
+#[tactic(auto, unfolding(crate::specs::Score::scoring_of))]
 pub fn scoring_of(temperature: f32, t: Tolerance, issues: u16) -> Scoring
     ensures { result ≡ scoring_of temperature t issues }
 {
-    let widen = tonekit_float::widen(widen_for(issues));
+    let widen = f64::from(widen_for(issues));
     let sc = widened(t.contour, widen);
     let so = widened(t.onset, widen);
     let sf = widened(t.offset, widen);
     Scoring {
         widen,
         contour: !tonekit_core::has_issue(issues, MeasureIssue::TooShort),
-        temperature: tonekit_float::widen(temperature),
+        temperature: f64::from(temperature),
         sigmacontour: sc,
         sigmaonset: so,
         sigmaoffset: sf,
@@ -134,10 +129,11 @@ pub fn scoring_of(temperature: f32, t: Tolerance, issues: u16) -> Scoring
 }
 
 // v as an f32 within -1,000,000 and 1,000,000; a NaN gives the lower bound.
+#[tactic(auto, unfolding(crate::specs::Score::clamp_log))]
 pub fn clamp_log(v: f64) -> f32
     ensures { result ≡ clamp_log v }
 {
-    if v != v {
+    if v.is_nan() {
         return tonekit_float::narrow(-1000000.0);
     }
     if v < -1000000.0 {
@@ -149,29 +145,23 @@ pub fn clamp_log(v: f64) -> f32
     tonekit_float::narrow(v)
 }
 
-// Minus infinity, which no constant may hold.
-fn neg_infinity() -> f64
-    ensures { result ≡ neg_inf }
-{
-    f64::from_bits(0xFFF0_0000_0000_0000)
-}
-
 impl LogSumExp {
     // The sum of no scores: minus infinity.
     pub fn empty() -> LogSumExp
         ensures { result ≡ empty }
     {
         LogSumExp {
-            max: neg_infinity(),
+            max: f64::NEG_INFINITY,
             sum: 0.0,
         }
     }
 
     // The sum with one more score; minus infinity adds nothing.
+    #[tactic(auto, unfolding(crate::specs::Score::add_to))]
     pub fn add(self, v: f64) -> LogSumExp
         ensures { result ≡ add_to self v }
     {
-        if v == neg_infinity() {
+        if v == f64::NEG_INFINITY {
             return self;
         }
         if self.max < v {
@@ -188,13 +178,14 @@ impl LogSumExp {
     }
 
     // The logarithm of the sum of the scores' exponentials.
+    #[tactic(auto, unfolding(crate::specs::Score::value_of))]
     pub fn value(self) -> f64
         ensures { result ≡ value_of self }
     {
         if 0.0 < self.sum {
             return self.max + tonekit_log::ln(self.sum);
         }
-        neg_infinity()
+        f64::NEG_INFINITY
     }
 }
 
@@ -206,36 +197,35 @@ pub fn add_to(s: &mut LogSumExp, v: f64)
 }
 
 // Whether point k, voiced so much, lies in the region and carries no weight.
-fn excused(r: Region, k: usize, voiced: f32) -> bool
+#[tactic(auto, unfolding(crate::specs::Score::excused))]
+fn excused(region: Option<Region>, k: usize, voiced: f32) -> bool
     requires { k < 10 }
-    ensures { result ≡ excused r k voiced }
+    ensures { result ≡ excused region k voiced }
 {
-    if voiced < 0.5 {
-        if r.flag != 0 {
-            let u = tonekit_float::f32_of(k as u32) / 9.0;
-            if r.from <= u {
-                return u <= r.to;
-            }
-        }
-    }
-    false
+    let Some(r) = region else {
+        return false;
+    };
+    let u = tonekit_float::f32_of(k as u32) / 9.0;
+    voiced < 0.5 && r.from <= u && u <= r.to
 }
 
 // The weight of point k: none where it is excused, else at least 0.25.
-fn point_weight(r: Region, k: usize, voiced: f32) -> f64
+#[tactic(auto, unfolding(crate::specs::Score::point_weight))]
+fn point_weight(region: Option<Region>, k: usize, voiced: f32) -> f64
     requires { k < 10 }
-    ensures { result ≡ point_weight r k voiced }
+    ensures { result ≡ point_weight region k voiced }
 {
-    if excused(r, k, voiced) {
+    if excused(region, k, voiced) {
         return 0.0;
     }
-    tonekit_float::widen(tonekit_float::max_f32(voiced, 0.25))
+    f64::from(tonekit_float::greater(voiced, 0.25))
 }
 
 // The weighted squares of the shape's distances from the component at a slot.
-fn squares_of(x: ToneShape, r: Region, points: &[f32], slot: usize) -> Squares
+// Stays: a slice of the slot's ten points would carry its length through the same contracts.
+fn squares_of(x: ToneShape, region: Option<Region>, points: &[f32], slot: usize) -> Squares
     requires { 10 * slot + 10 ≤ length points.now }
-    ensures { result ≡ squares_of x r points.now slot }
+    ensures { result ≡ squares_of x region points.now slot }
 {
     let contour = x.contour;
     let weights = x.weights;
@@ -243,9 +233,10 @@ fn squares_of(x: ToneShape, r: Region, points: &[f32], slot: usize) -> Squares
         weighted: 0.0,
         total: 0.0,
     };
+    // Stays: k is also the point's place in the region, and the lists are three.
     for k in 0..10usize {
-        let w = point_weight(r, k, weights[k]);
-        let d = tonekit_float::widen(contour[k]) - tonekit_float::widen(points[10 * slot + k]);
+        let w = point_weight(region, k, weights[k]);
+        let d = f64::from(contour[k]) - f64::from(points[10 * slot + k]);
         q = Squares {
             weighted: q.weighted + w * d * d,
             total: q.total + w,
@@ -255,6 +246,7 @@ fn squares_of(x: ToneShape, r: Region, points: &[f32], slot: usize) -> Squares
 }
 
 // Half the square of a difference in units of its tolerance.
+#[tactic(auto, unfolding(crate::specs::Score::end_term))]
 fn end_term(d: f64, sigma: f64) -> f64
     ensures { result ≡ end_term d sigma }
 {
@@ -262,26 +254,34 @@ fn end_term(d: f64, sigma: f64) -> f64
 }
 
 // The two ends' share of the squared distance.
+#[tactic(auto, unfolding(crate::specs::Score::ends_of))]
 fn ends_of(x: ToneShape, s: Scoring, points: &[f32], slot: usize) -> f64
     requires { 10 * slot + 10 ≤ length points.now }
     ensures { result ≡ ends_of x s points.now slot }
 {
     let contour = x.contour;
     let first = 10 * slot;
-    let onset = tonekit_float::widen(contour[0]) - tonekit_float::widen(points[first]);
-    let offset = tonekit_float::widen(contour[9]) - tonekit_float::widen(points[first + 9]);
+    let onset = f64::from(contour[0]) - f64::from(points[first]);
+    let offset = f64::from(contour[9]) - f64::from(points[first + 9]);
     end_term(onset, s.sigmaonset) + end_term(offset, s.sigmaoffset)
 }
 
-// The squared distance of a shape from the component at a slot, whose tone has region r. The points
+// The squared distance of a shape from the component at a slot, whose tone has that region or none. The points
 // of the slot are there: a caller that listed the component has put them.
-pub fn distance_of(x: ToneShape, s: Scoring, r: Region, points: &[f32], slot: usize) -> f64
+#[tactic(auto, unfolding(crate::specs::Score::distance_of))]
+pub fn distance_of(
+    x: ToneShape,
+    s: Scoring,
+    region: Option<Region>,
+    points: &[f32],
+    slot: usize,
+) -> f64
     requires { 10 * slot + 10 ≤ length points.now }
-    ensures { result ≡ distance_of x s r points.now slot }
+    ensures { result ≡ distance_of x s region points.now slot }
 {
     let ends = ends_of(x, s, points, slot);
     if s.contour {
-        let q = squares_of(x, r, points, slot);
+        let q = squares_of(x, region, points, slot);
         if 0.0 < q.total {
             return ends + q.weighted / q.total / (s.sigmacontour * s.sigmacontour);
         }
@@ -290,128 +290,55 @@ pub fn distance_of(x: ToneShape, s: Scoring, r: Region, points: &[f32], slot: us
 }
 
 // The log-likelihood at a squared distance, before weighting.
+#[tactic(auto, unfolding(crate::specs::Score::log_of))]
 fn log_of(s: Scoring, d2: f64) -> f64
     ensures { result ≡ log_of s d2 }
 {
     -0.5 * d2 - s.logsigma
 }
 
-// Whether a score takes the lead: where there was none, or where it is above the best.
-fn leads(found: bool, best: f64, score: f64) -> bool
-    ensures { result ≡ leads found best score }
-{
-    if found {
-        return best < score;
-    }
-    true
-}
-
 // The mixture of nothing.
 pub fn no_mixing() -> Mixing
     ensures { result ≡ no_mixing }
 {
-    let total = LogSumExp::empty();
     Mixing {
-        total,
-        found: false,
-        score: 0.0,
-        index: 0,
-        distance: 0.0,
+        total: LogSumExp::empty(),
+        best: None,
     }
 }
 
-// The best of none.
-pub fn no_lead() -> Lead
-    ensures { result ≡ no_lead }
+// The best with one more that has a score; the first of equals stays.
+pub fn led(best: Option<Lead>, next: Lead) -> Lead
+    ensures { result ≡ led best next }
 {
-    Lead {
-        found: false,
-        score: 0.0,
-        index: 0,
-        distance: 0.0,
+    match best {
+        Some(best) => { if best.score < next.score { next } else { best } }
+        None => next,
     }
 }
 
-// The best with one more score; the first of equals stays.
-pub fn led(l: Lead, i: usize, score: f64, d2: f64) -> Lead
-    ensures { result ≡ led l i score d2 }
-{
-    if leads(l.found, l.score, score) {
-        return Lead {
-            found: true,
-            score,
-            index: i,
-            distance: d2,
-        };
-    }
-    Lead {
-        found: true,
-        score: l.score,
-        index: l.index,
-        distance: l.distance,
-    }
-}
-
-// The best component of a mixture so far.
-pub fn lead_of(m: Mixing) -> Lead
-    ensures { result ≡ lead_of m }
-{
-    Lead {
-        found: m.found,
-        score: m.score,
-        index: m.index,
-        distance: m.distance,
-    }
-}
-
-// The mixture of that sum and that best component.
-pub fn mixing_with(total: LogSumExp, l: Lead) -> Mixing
-    ensures { result ≡ mixing_with total l }
-{
-    Mixing {
-        total,
-        found: l.found,
-        score: l.score,
-        index: l.index,
-        distance: l.distance,
-    }
-}
-
-// The term of a component that is passed over.
-pub fn no_term() -> Term
-    ensures { result ≡ no_term }
-{
-    Term {
-        counts: false,
-        score: 0.0,
-        distance: 0.0,
-    }
-}
-
-// The term of a component of that weight and squared distance, passed over where the weight is not
-// above 0.
-pub fn term_of(s: Scoring, weight: f32, d2: f64) -> Term
+// The term of a component of that weight and squared distance, none where the weight is not above 0.
+#[tactic(auto, unfolding(crate::specs::Terms::term_of))]
+pub fn term_of(s: Scoring, weight: f32, d2: f64) -> Option<Term>
     ensures { result ≡ term_of s weight d2 }
 {
     if weight <= 0.0 {
-        return no_term();
+        return None;
     }
-    Term {
-        counts: true,
-        score: tonekit_log::ln(tonekit_float::widen(weight)) + log_of(s, d2),
+    Some(Term {
+        score: tonekit_log::ln(f64::from(weight)) + log_of(s, d2),
         distance: d2,
-    }
+    })
 }
 
 // What a mixture comes to.
 pub fn mixture_of(m: Mixing) -> Mixture
     ensures { result ≡ mixture_of m }
 {
-    let total = m.total;
-    if m.found {
-        return Mixture::Scored(total.value(), m.index, m.distance);
+    match m.best {
+        Some(best) => Mixture::Scored(m.total.value(), best.index, best.distance),
+        None => Mixture::Nothing,
     }
-    Mixture::Nothing
 }
 
 // A mixture's log-likelihood, minus infinity where there was nothing to score.
@@ -420,11 +347,12 @@ pub fn mixture_log(m: Mixture) -> f64
 {
     match m {
         Mixture::Scored(ll, _, _) => ll,
-        Mixture::Nothing => neg_infinity(),
+        Mixture::Nothing => f64::NEG_INFINITY,
     }
 }
 
 // A log-likelihood divided by the temperature and clamped.
+#[tactic(auto, unfolding(crate::specs::Score::calibrate))]
 pub fn calibrate(s: Scoring, ll: f64) -> f32
     ensures { result ≡ calibrate s ll }
 {

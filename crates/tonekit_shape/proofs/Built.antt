@@ -1,14 +1,10 @@
 -- A shape is built from its measures; its curve is drawn over any values (`drawn_over`). Assumes nothing.
-use Prim.Native.Nat.{ℕ, zero, suc, ◌+◌, ◌-◌, ◌≤◌}
-use mathlib.Core.Path.{◌≡◌, refl, sym, ◌∙◌, ap}
-use mathlib.Core.List.{List}
-use native.Mathlib.Omega.{arith}
-use lib.ListN.{length, take, replicate, set, length-replicate}
-use lib.Seq.{length-take-le}
-use lib.Ieee.{Float, binary32, mul, div}
+use Rattle.std.proofs.Common.{ℕ, zero, suc, ◌+◌, ◌-◌, ◌≤◌, ◌≡◌, refl, sym, ◌∙◌, ap, List, arith, length, take, replicate, set, length-take-le, Float}
+use Rattle.std.specs.Prelude.{Option}
+use lib.ListN.{length-replicate}
+use lib.Ieee.{binary32, mul, div}
 use Rattle.tonekit_float.specs.Narrow.{narrowed}
 use Rattle.tonekit_contour.specs.Turning.{turning_point}
-use Rattle.tonekit_contour.specs.declared.Turning.{Turning}
 use Rattle.tonekit_core.specs.Loop.{turns, range}
 use Rattle.tonekit_query.specs.Frames.{frame_at}
 use Rattle.tonekit_fit.specs.Chao.{zero64, semitones_of, width_of}
@@ -16,7 +12,7 @@ use Rattle.tonekit_fit.specs.Fit.{line_slope, quadratic_coefficient}
 use Rattle.tonekit_shape.specs.declared.Extent.{Extent}
 use Rattle.tonekit_shape.specs.declared.ToneShape.{ToneShape}
 use Rattle.tonekit_shape.proofs.Fill.{Listed, listed_none, listed_more, listed_all}
-use Rattle.tonekit_shape.specs.Extract.{frames_in, semitone_turn, semitones, holes_filled, chao_curve, list_of, drawn, smoothed, contour_of, weights_of, ten32, whole32, mean_of, range_of, span_frames, confidence, turns_of, turning_of, shape_of}
+use Rattle.tonekit_shape.specs.Extract.{frames_in, semitone_turn, semitones, holes_filled, chao_curve, list_of, drawn, smoothed, contour_of, weights_of, ten32, whole32, mean_of, range_of, span_frames, confidence, turning_of, shape_of}
 
 -- the part's semitones, one after the other
 module _ (frames : List ℕ) (first : ℕ) where
@@ -38,7 +34,7 @@ module _ (frames : List ℕ) (first : ℕ) where
   drawn_over floor ceil l m e =
       ap (λ (t : List Float). chao_curve floor (width_of floor ceil) (holes_filled frames first t)) (semitones_are l ∙ ap (list_of semitone) e ∙ sym (semitones_are m))
 
-pub built : (frames : List ℕ) (e : Extent) (start end : ℕ) (floor ceil : Float) (z : List Float) {chao contour weights : List Float} {mean s slope q curvature range voiced span conf turning : Float} {turn : Turning} {turns : ℕ}
+pub built : (frames : List ℕ) (e : Extent) (start end : ℕ) (floor ceil : Float) (z : List Float) {chao contour weights : List Float} {mean s slope q curvature range voiced span conf : Float} {turn turning : Option Float}
     → length z ≡ frames_in e
     → chao ≡ drawn frames e.first floor ceil z
     → contour ≡ contour_of chao
@@ -49,7 +45,6 @@ pub built : (frames : List ℕ) (e : Extent) (start end : ℕ) (floor ceil : Flo
     → q ≡ quadratic_coefficient (record { frames = frames; first = e.first; chao = chao }) e.count
     → curvature ≡ narrowed q
     → turn ≡ turning_point (smoothed chao)
-    → turns ≡ turns_of turn
     → turning ≡ turning_of turn
     → range ≡ range_of contour
     → span ≡ span_frames start end
@@ -62,7 +57,6 @@ pub built : (frames : List ℕ) (e : Extent) (start end : ℕ) (floor ceil : Flo
       mean = mean;
       slope = slope;
       curvature = curvature;
-      turns = turns;
       turning = turning;
       range = range;
       duration = mul binary32 span ten32;
@@ -72,9 +66,9 @@ pub built : (frames : List ℕ) (e : Extent) (start end : ℕ) (floor ceil : Flo
     })
     (shape_of frames e start end floor ceil)
 unfolding shape_of
-built frames e start end floor ceil z z-long chao-is contour-is weights-is mean-is s-is slope-is q-is curvature-is turn_is turns-is turning-is range-is span-is voiced-is conf-is =
+built frames e start end floor ceil z z-long chao-is contour-is weights-is mean-is s-is slope-is q-is curvature-is turn_is turning-is range-is span-is voiced-is conf-is =
     let over = drawn_over frames e.first floor ceil z (replicate (frames_in e) zero64) (z-long ∙ sym (length-replicate (frames_in e) zero64)) in
-    rw (slope-is, s-is, curvature-is, q-is, turns-is, turning-is, turn_is, mean-is, range-is, contour-is, weights-is, conf-is, voiced-is, span-is, chao-is, over)
+    rw (slope-is, s-is, curvature-is, q-is, turning-is, turn_is, mean-is, range-is, contour-is, weights-is, conf-is, voiced-is, span-is, chao-is, over)
 
 -- the front of the place for it
 pub front_length : (n m : ℕ) (x : Float) → n ≤ m → length (take n (replicate m x)) ≡ n

@@ -1,12 +1,7 @@
 -- Lists that are written from the front: what is written so far, and the rest as it was. Assumes nothing.
-use Prim.Native.Nat.{ℕ, zero, suc, ◌+◌, ◌-◌, ◌≤◌, ◌<◌}
-use mathlib.Core.Path.{◌≡◌, refl, sym, ◌∙◌, ap}
-use mathlib.Core.List.{List, [], ◌∷◌, ◌++◌, append_assoc, append-nil}
-use native.Mathlib.Numerals.{add-one}
-use native.Mathlib.Omega.{arith}
-use lib.ListN.{length, drop, get_or, set, length-append, length-drop, drop_of_length-le}
-use lib.Seq.{drop-cons, set_at, get_or-append-add, get_or-drop}
-use lib.Ieee.{Float, nan}
+use Rattle.std.proofs.Common.{ℕ, zero, suc, ◌+◌, ◌-◌, ◌≤◌, ◌<◌, ◌≡◌, refl, sym, ◌∙◌, ap, List, [], ◌∷◌, ◌++◌, append_assoc, append-nil, add-one, arith, length, drop, get_or, set, length-append, length-drop, drop_of_length-le, drop-cons, get_or-append-add, get_or-drop, Float}
+use lib.Seq.{set_at}
+use lib.Ieee.{nan}
 use Rattle.tonekit_shape.specs.Extract.{list_of}
 
 -- one more place written

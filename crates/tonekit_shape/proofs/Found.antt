@@ -1,11 +1,6 @@
 -- What an extent keeps while frames are looked at. Assumes nothing.
-use Prim.Native.Nat.{ℕ, ◌+◌, ◌≤◌, ◌<◌}
-use mathlib.Core.Path.{◌≡◌, refl}
-use mathlib.Core.Bool.{Bool, true, false, cond}
-use mathlib.Core.List.{List}
-use native.Mathlib.Omega.{arith}
-use lib.Dec.{eqb}
-use borrow.Author.Tests.{eqb-true, eqb-false}
+use Rattle.std.proofs.Common.{ℕ, ◌+◌, ◌≤◌, ◌<◌, ◌≡◌, refl, Bool, true, false, cond, List, arith, eqb, eqb-true}
+use borrow.Author.Tests.{eqb-false}
 use Rattle.tonekit_fit.specs.Chao.{voiced}
 use Rattle.tonekit_shape.specs.declared.Extent.{Extent}
 use Rattle.tonekit_shape.specs.Extract.{extent_turn, frames_in}

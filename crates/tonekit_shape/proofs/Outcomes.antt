@@ -1,14 +1,11 @@
 -- What the call `write_shape` makes of a query, way by way. Assumes nothing.
-use Prim.Native.Nat.{ℕ, ◌≤◌, ◌<◌}
-use mathlib.Core.Path.{◌≡◌, sym, ◌∙◌, ap}
-use mathlib.Core.List.{List}
-use borrow.Author.Tests.{lt-ltb, le-ltb}
+use Rattle.std.proofs.Common.{ℕ, ◌≤◌, ◌<◌, ◌≡◌, sym, ◌∙◌, ap, List, lt-ltb, le-ltb}
+use Rattle.std.specs.Prelude.{Ok, Err}
 use Rattle.tonekit_core.specs.Calls.{refused, written}
-use Rattle.tonekit_core.specs.declared.Refusal.{Refusal}
 use Rattle.tonekit_core.specs.declared.Refusal.TheVariants.{Unvoiced}
 use Rattle.tonekit_query.specs.Query.{load_query, frames_of}
 use Rattle.tonekit_query.specs.declared.Query.{Query}
-use Rattle.tonekit_query.specs.declared.QueryRead.TheVariants as read
+use Rattle.tonekit_core.specs.declared.Rejection.{Rejection}
 use Rattle.tonekit_shape.specs.declared.Extent.{Extent}
 use Rattle.tonekit_shape.specs.declared.ToneShape.{ToneShape}
 use Rattle.tonekit_shape.specs.Extract.{extent_of, shape_of}
@@ -24,11 +21,11 @@ module _ (frames : List ℕ) (q : Query) (e : Extent) (is : e ≡ extent_of fram
   enough_voiced x h x-is =
       ap (λ (y : ToneShape). written (shape_bytes q.start q.end q.issues y)) x-is ∙ sym (ap (shaped frames q) (sym is) ∙ rw (le-ltb e.count 3 h))
 
-pub query_good : (s frames : List ℕ) (q : Query) → load_query s ≡ read.Good q → frames ≡ frames_of s q.count
+pub query_good : (s frames : List ℕ) (q : Query) → load_query s ≡ Ok q → frames ≡ frames_of s q.count
     → shaped frames q (extent_of frames q.count q.start q.end) ≡ shape_outcome s
 unfolding shape_outcome
 query_good s frames q e f = rw (e, f)
 
-pub query_bad : (s : List ℕ) (r : Refusal) (place : ℕ) → load_query s ≡ read.Refused r place → shape_outcome s ≡ refused r place
+pub query_bad : (s : List ℕ) (r : Rejection) → load_query s ≡ Err r → shape_outcome s ≡ refused r.why r.place
 unfolding shape_outcome
-query_bad s r place e = rw e
+query_bad s r e = rw e

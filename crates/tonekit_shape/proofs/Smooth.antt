@@ -1,10 +1,6 @@
 -- A frame's mean with its neighbours, on a curve whose earlier frames are smoothed already. Assumes nothing.
-use Prim.Native.Nat.{ℕ, zero, suc, ◌+◌, ◌-◌, ◌≤◌, ◌<◌}
-use mathlib.Core.Path.{◌≡◌, refl, ap}
-use mathlib.Core.List.{List}
-use native.Mathlib.Omega.{arith}
-use lib.ListN.{length, get_or}
-use lib.Ieee.{Float, nan}
+use Rattle.std.proofs.Common.{ℕ, zero, suc, ◌+◌, ◌-◌, ◌≤◌, ◌<◌, ◌≡◌, refl, ap, List, arith, length, get_or, Float}
+use lib.Ieee.{nan}
 use Rattle.tonekit_shape.specs.Extract.{mean_with, smoothed_at}
 use Rattle.tonekit_shape.proofs.Fill.{Listed, listed_rest, listed_same}
 

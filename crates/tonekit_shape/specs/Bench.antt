@@ -1,12 +1,12 @@
 -- Shapes of a few frames, and what the call answers, each by computing.
-use Rattle.std.specs.Prelude.{ℕ, ◌≡◌, refl, true, false, List, [], ◌∷◌, ◌++◌, map, pos, negsuc, length, replicate, Float}
-use Rattle.std.specs.Float.{nan, inf, fin, binary32}
+use Rattle.std.specs.Prelude.{ℕ, ◌≡◌, refl, true, false, List, [], ◌∷◌, ◌++◌, map, pos, negsuc, length, replicate, Float, Some, None}
+use Rattle.std.specs.Float.{nan, inf, fin, binary32, float_with_sign}
 use Rattle.std.specs.Float.Ieee.{add, sub, mul, div, lt, le, eq, neg, of_bits, to_bits, of_int, round, is_nan}
 use Rattle.tonekit_core.specs.Calls.{refused}
 use Rattle.tonekit_core.specs.Loop.{range, range_to, while}
 use Rattle.tonekit_core.specs.Words.{with_issue}
 use Rattle.tonekit_core.specs.declared.Refusal.TheVariants.{CutShort, Unvoiced}
-use Rattle.tonekit_float.specs.Magnitude.{magnitude, total_le}
+use Rattle.tonekit_float.specs.Magnitude.{total_le}
 use Rattle.tonekit_float.specs.Narrow.{narrowed}
 use Rattle.tonekit_float.specs.Pick.{lesser, greater}
 use Rattle.tonekit_float.specs.Whole.{whole_part, round_up}
@@ -75,15 +75,14 @@ level : shape_of (tone ++ (tone ++ tone)) (record { count = 3; first = 0; last =
       mean = num 3;
       slope = num 0;
       curvature = num 0;
-      turns = 0;
-      turning = num 0;
+      turning = None;
       range = num 0;
       duration = fin false 15 (pos 1);
       fraction = num 1;
       confidence = num 1;
       frames = 3;
     }
-unfolding shape_of drawn semitones holes_filled chao_curve mean_with list_of mean_of range_of confidence half_width reach curve_at step_of mean_over rounded position whole_part round_up narrowed lesser greater magnitude total_le range range_to while hz_to_st width_of st_to_chao log2_of line_slope point_added moments_of normal_equations first_unknown lead_of quadratic_coefficient greatest first_near last_near extremum stands chosen turning_point frame_at add sub mul div lt le eq neg of_int of_bits round is_nan
+unfolding shape_of drawn semitones holes_filled chao_curve mean_with list_of mean_of range_of confidence half_width reach curve_at step_of mean_over rounded position whole_part round_up narrowed lesser greater float_with_sign total_le range range_to while hz_to_st width_of st_to_chao log2_of line_slope point_added moments_of normal_equations first_unknown lead_of quadratic_coefficient greatest first_near last_near extremum stands chosen turning_point frame_at add sub mul div lt le eq neg of_int of_bits round is_nan
 level = refl
 
 -- "Fewer than 3 voiced frames: 11", at place 0; no bytes at all: 2 at 0
@@ -113,8 +112,7 @@ shape51 = record {
   mean = f32 0x5c5b_5a59;
   slope = f32 0x605f_5e5d;
   curvature = f32 0x6463_6261;
-  turns = 101;
-  turning = f32 0x6968_6766;
+  turning = Some (f32 0x6968_6766);
   range = f32 0x6d6c_6b6a;
   duration = f32 0x7170_6f6e;
   fraction = f32 0x7574_7372;
@@ -128,7 +126,7 @@ record51 =
     25 ∷ 26 ∷ 27 ∷ 28 ∷ 29 ∷ 30 ∷ 31 ∷ 32 ∷ 33 ∷ 34 ∷ 35 ∷ 36 ∷ 37 ∷ 38 ∷ 39 ∷ 40 ∷ 41 ∷ 42 ∷ 43 ∷ 44 ∷ 45 ∷ 46 ∷ 47 ∷ 48 ∷ 49 ∷
     50 ∷ 51 ∷ 52 ∷ 53 ∷ 54 ∷ 55 ∷ 56 ∷ 57 ∷ 58 ∷ 59 ∷ 60 ∷ 61 ∷ 62 ∷ 63 ∷ 64 ∷ 65 ∷ 66 ∷ 67 ∷ 68 ∷ 69 ∷ 70 ∷ 71 ∷ 72 ∷ 73 ∷ 74 ∷
     75 ∷ 76 ∷ 77 ∷ 78 ∷ 79 ∷ 80 ∷ 81 ∷ 82 ∷ 83 ∷ 84 ∷ 85 ∷ 86 ∷ 87 ∷ 88 ∷ 89 ∷ 90 ∷ 91 ∷ 92 ∷ 93 ∷ 94 ∷ 95 ∷ 96 ∷ 97 ∷ 98 ∷ 99 ∷
-    100 ∷ 101 ∷ 102 ∷ 103 ∷ 104 ∷ 105 ∷ 106 ∷ 107 ∷ 108 ∷ 109 ∷ 110 ∷ 111 ∷ 112 ∷ 113 ∷ 114 ∷ 115 ∷ 116 ∷ 117 ∷ 118 ∷ 119 ∷ 120 ∷ 121 ∷ 122 ∷ 123 ∷ []
+    100 ∷ 1 ∷ 102 ∷ 103 ∷ 104 ∷ 105 ∷ 106 ∷ 107 ∷ 108 ∷ 109 ∷ 110 ∷ 111 ∷ 112 ∷ 113 ∷ 114 ∷ 115 ∷ 116 ∷ 117 ∷ 118 ∷ 119 ∷ 120 ∷ 121 ∷ 122 ∷ 123 ∷ []
 
 fields51 : shape_bytes 0x0403_0201 0x0807_0605 0x7b7a shape51 ≡ record51
 unfolding shape_bytes fit_bytes measure_bytes united f32s_bytes of_bits to_bits round
@@ -139,5 +137,5 @@ names51 : (map (u32_at record51) (shape_start ∷ shape_end ∷ shape_contour �
     ≡ 0x0403_0201 ∷ 0x0807_0605 ∷ 0x0c0b_0a09 ∷ 0x3433_3231 ∷ 0x5c5b_5a59 ∷ 0x605f_5e5d ∷ [])
     × (map (u32_at record51) (shape_curvature ∷ shape_turning ∷ shape_range ∷ shape_duration ∷ shape_fraction ∷ shape_confidence ∷ [])
     ≡ 0x6463_6261 ∷ 0x6968_6766 ∷ 0x6d6c_6b6a ∷ 0x7170_6f6e ∷ 0x7574_7372 ∷ 0x7978_7776 ∷ [])
-    × (byte_at record51 shape_turns ≡ 101) × (u16_at record51 shape_issues ≡ 0x7b7a) × (length record51 ≡ shape_size)
-names51 = (refl, refl, refl, refl, refl)
+    × (byte_at record51 shape_turns ≡ 1) × (u16_at record51 shape_issues ≡ 0x7b7a) × (length record51 ≡ shape_size) × (shape_turns ≡ 101)
+names51 = (refl, refl, refl, refl, refl, refl)

@@ -1,5 +1,5 @@
 -- extract.rs, `extract` and `shape_of`: the shape of the syllable in a span of a query's frames.
-use Rattle.std.specs.Prelude.{ℕ, zero, suc, ◌+◌, ◌-◌, ◌≤◌, ◌<◌, ◌≡◌, true, false, cond, List, [], ◌∷◌, ◌++◌, eqb, ltb, pos, length, get_or, set, replicate, Float}
+use Rattle.std.specs.Prelude.{ℕ, zero, suc, ◌+◌, ◌-◌, ◌≤◌, ◌<◌, ◌≡◌, true, false, cond, List, [], ◌∷◌, ◌++◌, eqb, min, pos, length, get_or, set, replicate, Float, Option, Some, None}
 use Rattle.std.specs.Float.{nan, inf, binary32, binary64}
 use Rattle.std.specs.Float.Ieee.{add, sub, mul, div, of_int, of_bits}
 use Rattle.tonekit_core.specs.Loop.{range}
@@ -7,8 +7,6 @@ use Rattle.tonekit_float.specs.Pick.{lesser, greater}
 use Rattle.tonekit_float.specs.Narrow.{narrowed}
 use Rattle.tonekit_contour.specs.Position.{whole64}
 use Rattle.tonekit_contour.specs.Turning.{turning_point}
-use Rattle.tonekit_contour.specs.declared.Turning.{Turning}
-use Rattle.tonekit_contour.specs.declared.Turning.TheVariants.{At, Nowhere}
 use Rattle.tonekit_query.specs.Frames.{frame_at}
 use Rattle.tonekit_fit.specs.Chao.{zero64, semitones_of, voiced, confidence_of, width_of, st_to_chao}
 use Rattle.tonekit_fit.specs.Fit.{Part, line_slope, quadratic_coefficient}
@@ -21,11 +19,8 @@ abbrev pub extent_turn : List ℕ → ℕ → Extent → Extent
 extent_turn frames i e =
     cond (voiced frames i) (record { count = e.count + 1; first = cond (eqb e.count 0) i e.first; last = i }) e
 
-abbrev pub stop_of : ℕ → ℕ → ℕ
-stop_of end count = cond (ltb end count) end count
-
 unfoldable pub extent_of : List ℕ → ℕ → ℕ → ℕ → Extent
-extent_of frames count start end = range (extent_turn frames) start (stop_of end count) (record { count = 0; first = 0; last = 0 })
+extent_of frames count start end = range (extent_turn frames) start (min end count) (record { count = 0; first = 0; last = 0 })
 
 -- frames of the voiced part: n
 abbrev pub frames_in : Extent → ℕ
@@ -108,6 +103,10 @@ list_of f (suc n) = list_of f n ++ (f n ∷ [])
 abbrev pub smoothed : List Float → List Float
 smoothed l = list_of (smoothed_at l) (length l)
 
+-- where R says what each of ten places may hold, l holds what each function gives that gives the same
+abbrev pub Lists : (ℕ → Float → Type 0) → List Float → Type 0
+Lists R l = (f : ℕ → Float) → ((k : ℕ) (x : Float) → k < 10 → R k x → x ≡ f k) → l ≡ list_of f 10
+
 -- ten points, and the voiced weight of each
 abbrev pub contour_of : List Float → List Float
 contour_of chao = list_of (contour_at chao) 10
@@ -155,28 +154,22 @@ confidence_turn frames first j t = confidence_added frames (first + j) t
 unfoldable pub confidence : List ℕ → Extent → Float
 confidence frames e = div binary32 (range (confidence_turn frames e.first) 0 (frames_in e) zero32) (whole32 e.count)
 
--- 1 and the place, or 0 and +0
-abbrev pub turns_of : Turning → ℕ
-turns_of (At u) = 1
-turns_of Nowhere = 0
-
-abbrev pub turning_of : Turning → Float
-turning_of (At u) = narrowed u
-turning_of Nowhere = zero32
+-- where the curve turns, as an f32
+abbrev pub turning_of : Option Float → Option Float
+turning_of (Some u) = Some (narrowed u)
+turning_of None = None
 
 -- `shape_of`, for an extent of at least 3 voiced frames
 unfoldable pub shape_of : List ℕ → Extent → ℕ → ℕ → Float → Float → ToneShape
 shape_of frames e start end floor ceil =
     let p = part_of frames e floor ceil in
-    let turn = turning_point (smoothed p.chao) in
     record {
       contour = contour_of p.chao;
       weights = weights_of frames e.first (frames_in e);
       mean = mean_of (contour_of p.chao);
       slope = narrowed (line_slope p e.count);
       curvature = narrowed (quadratic_coefficient p e.count);
-      turns = turns_of turn;
-      turning = turning_of turn;
+      turning = turning_of (turning_point (smoothed p.chao));
       range = range_of (contour_of p.chao);
       duration = mul binary32 (span_frames start end) ten32;
       fraction = div binary32 (whole32 e.count) (span_frames start end);

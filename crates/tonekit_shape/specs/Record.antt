@@ -1,5 +1,5 @@
--- Document 01's Shape record, kind 51, written from a query alone.
-use Rattle.std.specs.Prelude.{ℕ, cond, List, [], ◌∷◌, ◌++◌, ltb}
+-- The shape record, kind 51, written from a query alone.
+use Rattle.std.specs.Prelude.{ℕ, cond, List, [], ◌∷◌, ◌++◌, ltb, Float, Option, Some, None, Result, Ok, Err}
 use Rattle.tonekit_core.specs.Calls.{Outcome, refused, written}
 use Rattle.tonekit_core.specs.Layout.{shape_kind}
 use Rattle.tonekit_core.specs.Words.{with_issue}
@@ -8,9 +8,8 @@ use Rattle.tonekit_core.specs.declared.MeasureIssue.TheVariants as issue
 use Rattle.tonekit_bytes.specs.Fields.{le16, le32, f32_bytes, f32s_bytes}
 use Rattle.tonekit_query.specs.Query.{load_query, frames_of}
 use Rattle.tonekit_query.specs.declared.Query.{Query}
-use Rattle.tonekit_query.specs.declared.QueryRead.{QueryRead}
-use Rattle.tonekit_query.specs.declared.QueryRead.TheVariants.{Good, Refused}
-use Rattle.tonekit_shape.specs.Extract.{extent_of, shape_of}
+use Rattle.tonekit_core.specs.declared.Rejection.{Rejection}
+use Rattle.tonekit_shape.specs.Extract.{zero32, extent_of, shape_of}
 use Rattle.tonekit_shape.specs.declared.Extent.{Extent}
 use Rattle.tonekit_shape.specs.declared.ToneShape.{ToneShape}
 
@@ -22,9 +21,19 @@ united issues n = cond (ltb n 8) (with_issue issues issue.TooShort) issues
 abbrev pub span_bytes : ℕ → ℕ → List ℕ
 span_bytes start end = (shape_kind ∷ []) ++ (le32 start ++ le32 end)
 
+-- the turning point's flag and value: 1 and the place, or 0 and +0
+abbrev pub turns_of : Option Float → ℕ
+turns_of (Some u) = 1
+turns_of None = 0
+
+abbrev pub turning_value : Option Float → Float
+turning_value (Some u) = u
+turning_value None = zero32
+
 -- "mean, slope, curvature f32; turning flag u8 and f32"
 unfoldable pub fit_bytes : ToneShape → List ℕ
-fit_bytes x = f32_bytes x.mean ++ (f32_bytes x.slope ++ (f32_bytes x.curvature ++ ((x.turns ∷ []) ++ f32_bytes x.turning)))
+fit_bytes x =
+    f32_bytes x.mean ++ (f32_bytes x.slope ++ (f32_bytes x.curvature ++ ((turns_of x.turning ∷ []) ++ f32_bytes (turning_value x.turning))))
 
 -- "range, duration_ms, voiced_fraction, f0_confidence f32; issues u16"
 unfoldable pub measure_bytes : ToneShape → ℕ → List ℕ
@@ -41,9 +50,9 @@ shaped frames q e =
     cond (ltb e.count 3) (refused refusal.Unvoiced 0)
     (written (shape_bytes q.start q.end q.issues (shape_of frames e q.start q.end q.floor q.ceil)))
 
-abbrev pub shaped_from : List ℕ → QueryRead → Outcome
-shaped_from s (Refused r place) = refused r place
-shaped_from s (Good q) =
+abbrev pub shaped_from : List ℕ → Result Query Rejection → Outcome
+shaped_from s (Err r) = refused r.why r.place
+shaped_from s (Ok q) =
     let frames = frames_of s q.count in
     shaped frames q (extent_of frames q.count q.start q.end)
 

@@ -1,25 +1,28 @@
 // The curve of a voiced part, one value a frame, made where it stands: semitones, unvoiced frames
 // filled between voiced ones, Chao values, and the 3-frame mean for the turning point.
-ghost use Rattle.std.specs.Prelude.{◌≡◌, ◌+◌, ◌≤◌, ◌<◌, length};
+ghost use Rattle.std.specs.Prelude.{◌≡◌, ◌≤◌, ◌<◌, length};
 ghost use Rattle.tonekit_fit.specs.Chao.{width_of};
 ghost use Rattle.tonekit_shape.specs.Extract.{semitones, gap_filled, holes_filled, chao_curve, mean_with, smoothed};
 
-// Each frame's semitones, 0 where it is unvoiced: one logarithm a voiced frame. The part's first
-// frame is frame `first` (here and below the caller has read at most 1,024 frames).
-pub fn semitones(curve: &mut [f64], frames: &[u8], first: usize)
-    requires { (first ≤ 1024) × (length curve.old ≤ 1024) }
-    ensures { curve.new ≡ semitones frames.now first curve.old }
+use tonekit_fit::Frames;
+
+// Each frame's semitones, 0 where it is unvoiced: one logarithm a voiced frame.
+#[tactic(auto, using(tonekit_core::specs::Loop::again, tonekit_core::specs::Loop::ended), unfolding(crate::specs::Extract::semitones))]
+pub fn semitones(curve: &mut [f64], frames: Frames<'_>)
+    ensures { curve.new ≡ semitones frames.entry.bytes.now frames.entry.first curve.old }
 {
-    for j in 0..curve.len() {
-        curve[j] = tonekit_fit::semitones_of(frames, first + j);
+    for (j, st) in curve.iter_mut().enumerate() {
+        *st = frames.semitones(j);
     }
 }
 
 // The frames between prev and j, on the line from one to the other.
+#[tactic(auto, using(tonekit_core::specs::Loop::again, tonekit_core::specs::Loop::ended))]
 fn fill_gap(curve: &mut [f64], prev: usize, j: usize)
     requires { (prev < j) × (j < length curve.old) }
     ensures { curve.new ≡ gap_filled prev j curve.old }
 {
+    // Stays: each value written lies between two others that are read, at prev and at j.
     for g in prev + 1..j {
         let t = tonekit_float::f64_of(g - prev) / tonekit_float::f64_of(j - prev);
         curve[g] = curve[prev] + t * (curve[j] - curve[prev]);
@@ -27,28 +30,28 @@ fn fill_gap(curve: &mut [f64], prev: usize, j: usize)
 }
 
 // The unvoiced frames, filled by linear interpolation in semitones.
-pub fn fill_holes(curve: &mut [f64], frames: &[u8], first: usize)
-    requires { (first ≤ 1024) × (length curve.old ≤ 1024) }
-    ensures { curve.new ≡ holes_filled frames.now first curve.old }
+#[tactic(auto, using(tonekit_core::specs::Loop::again, tonekit_core::specs::Loop::ended))]
+pub fn fill_holes(curve: &mut [f64], frames: Frames<'_>)
+    ensures { curve.new ≡ holes_filled frames.entry.bytes.now frames.entry.first curve.old }
 {
     let mut prev = 0;
     for j in 1..curve.len() {
-        if !tonekit_fit::voiced(frames, first + j) {
-            continue;
+        if frames.voiced(j) {
+            fill_gap(curve, prev, j);
+            prev = j;
         }
-        fill_gap(curve, prev, j);
-        prev = j;
     }
 }
 
 // Chao values in the register from floor to ceil.
+#[tactic(auto, using(tonekit_core::specs::Loop::again, tonekit_core::specs::Loop::ended), unfolding(crate::specs::Extract::chao_curve))]
 pub fn chao(curve: &mut [f64], floor: f32, ceil: f32)
     ensures { curve.new ≡ chao_curve floor (width_of floor ceil) curve.old }
 {
-    let low = tonekit_float::widen(floor);
+    let low = f64::from(floor);
     let width = tonekit_fit::width_of(floor, ceil);
-    for j in 0..curve.len() {
-        curve[j] = tonekit_fit::st_to_chao(low, width, curve[j]);
+    for value in curve.iter_mut() {
+        *value = tonekit_fit::st_to_chao(low, width, *value);
     }
 }
 
@@ -67,11 +70,13 @@ fn mean_with(curve: &[f64], j: usize, before: f64) -> f64
 }
 
 // The 3-frame-smoothed curve. `before` keeps a frame's own value when its mean takes its place.
+#[tactic(auto, using(crate::proofs::Fill::listed_none, crate::proofs::Fill::listed_more, crate::proofs::Fill::listed_all, crate::proofs::Fill::listed_rest, crate::proofs::Smooth::smooth_turn))]
 pub fn smooth(curve: &mut [f64])
     requires { 2 ≤ length curve.old }
     ensures { curve.new ≡ smoothed curve.old }
 {
     let mut before = 0.0;
+    // Stays: each value written is read with the one behind it, which an iterator that lends one at a time has not.
     for j in 0..curve.len() {
         let here = curve[j];
         curve[j] = mean_with(curve, j, before);

@@ -1,38 +1,37 @@
-// The shape record, document 01's kind 51.
-ghost use Rattle.std.specs.Prelude.{◌≡◌, ◌≤◌, length};
+// The shape record, the format's kind 51.
+ghost use Rattle.std.specs.Prelude.{◌≡◌};
 ghost use Rattle.std.proofs.lemmas.List.Edits.{sets};
-ghost use Rattle.tonekit_core.specs.Calls.{Delivers, written};
-ghost use Rattle.tonekit_core.specs.Layout.{shape_size, shape_mean, shape_range};
+ghost use Rattle.tonekit_core.specs.Layout.{shape_mean, shape_range};
 ghost use Rattle.tonekit_shape.specs.Record.{span_bytes, fit_bytes, measure_bytes, shape_bytes};
 
 use crate::{ToneShape, united};
-use tonekit_core::{Answer, Refusal, layout};
+use tonekit_core::layout::{self, SHAPE_SIZE};
+use tonekit_query::Query;
 
 // The kind and the span.
-fn put_span(out: &mut [u8], start: u32, end: u32)
-    requires { shape_size ≤ length out.old }
-    ensures { out.new ≡ sets out.old 0 (span_bytes start end) }
+fn put_span(out: &mut [u8; SHAPE_SIZE], q: Query)
+    ensures { out.new ≡ sets out.old 0 (span_bytes q.start q.end) }
 {
     tonekit_bytes::put_u8(out, 0, layout::SHAPE_KIND);
-    tonekit_bytes::put_u32(out, layout::SHAPE_START, start);
-    tonekit_bytes::put_u32(out, layout::SHAPE_END, end);
+    tonekit_bytes::put_u32(out, layout::SHAPE_START, q.start);
+    tonekit_bytes::put_u32(out, layout::SHAPE_END, q.end);
 }
 
-// Mean, slope, curvature and turning point.
-fn put_fits(out: &mut [u8], x: ToneShape)
-    requires { shape_size ≤ length out.old }
+// Mean, slope, curvature and turning point; without one the flag and the value are 0.
+#[tactic(auto, using(crate::proofs::Parts::flag_is, crate::proofs::Parts::value_is), unfolding(crate::specs::Record::fit_bytes))]
+fn put_fits(out: &mut [u8; SHAPE_SIZE], x: ToneShape)
     ensures { out.new ≡ sets out.old shape_mean (fit_bytes x) }
 {
     tonekit_bytes::put_f32(out, layout::SHAPE_MEAN, x.mean);
     tonekit_bytes::put_f32(out, layout::SHAPE_SLOPE, x.slope);
     tonekit_bytes::put_f32(out, layout::SHAPE_CURVATURE, x.curvature);
-    tonekit_bytes::put_u8(out, layout::SHAPE_TURNS, x.turns);
-    tonekit_bytes::put_f32(out, layout::SHAPE_TURNING, x.turning);
+    tonekit_bytes::put_u8(out, layout::SHAPE_TURNS, u8::from(x.turning.is_some()));
+    tonekit_bytes::put_f32(out, layout::SHAPE_TURNING, x.turning.unwrap_or(0.0));
 }
 
 // Range, duration, fraction, confidence and issues.
-fn put_measures(out: &mut [u8], x: ToneShape, issues: u16)
-    requires { shape_size ≤ length out.old }
+#[tactic(auto, unfolding(crate::specs::Record::measure_bytes))]
+fn put_measures(out: &mut [u8; SHAPE_SIZE], x: ToneShape, issues: u16)
     ensures { out.new ≡ sets out.old shape_range (measure_bytes x issues) }
 {
     tonekit_bytes::put_f32(out, layout::SHAPE_RANGE, x.range);
@@ -42,28 +41,16 @@ fn put_measures(out: &mut [u8], x: ToneShape, issues: u16)
     tonekit_bytes::put_u16(out, layout::SHAPE_ISSUES, issues);
 }
 
-// The whole record, at the front of a buffer that is long enough.
-fn put_shape(out: &mut [u8], start: u32, end: u32, issues: u16, x: ToneShape)
-    requires { shape_size ≤ length out.old }
-    ensures { out.new ≡ sets out.old 0 (shape_bytes start end issues x) }
+// The record of a shape.
+pub fn shape_record(q: Query, x: ToneShape) -> [u8; SHAPE_SIZE]
+    ensures { result ≡ shape_bytes q.start q.end q.issues x }
 {
-    let contour = x.contour;
-    let weights = x.weights;
-    let all = united(issues, x.frames);
-    put_span(out, start, end);
-    tonekit_bytes::put_f32s(out, layout::SHAPE_CONTOUR, &contour);
-    tonekit_bytes::put_f32s(out, layout::SHAPE_WEIGHTS, &weights);
-    put_fits(out, x);
-    put_measures(out, x, all);
-}
-
-// Writes the record of a shape, or refuses with the length it needs and leaves the buffer as it was.
-pub fn write(out: &mut [u8], start: u32, end: u32, issues: u16, x: ToneShape) -> Answer
-    ensures { Delivers (written (shape_bytes start end issues x)) out.old result out.new }
-{
-    if out.len() < layout::SHAPE_SIZE {
-        return Answer::Refused(Refusal::ShortBuffer, layout::SHAPE_SIZE);
-    }
-    put_shape(out, start, end, issues, x);
-    Answer::Written(layout::SHAPE_SIZE)
+    let all = united(q.issues, x.frames);
+    let mut out = [0; SHAPE_SIZE];
+    put_span(&mut out, q);
+    tonekit_bytes::put_f32s(&mut out, layout::SHAPE_CONTOUR, &x.contour);
+    tonekit_bytes::put_f32s(&mut out, layout::SHAPE_WEIGHTS, &x.weights);
+    put_fits(&mut out, x);
+    put_measures(&mut out, x, all);
+    out
 }

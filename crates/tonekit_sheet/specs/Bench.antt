@@ -1,9 +1,8 @@
 -- Worked examples, computed: sheets that load, and refusals with their places, among them those that wait for the sheet's end.
-use Rattle.std.specs.Prelude.{ℕ, ◌≡◌, refl, List, [], ◌∷◌, ◌++◌, replicate}
+use Rattle.std.specs.Prelude.{ℕ, ◌≡◌, refl, List, [], ◌∷◌, ◌++◌, replicate, Ok, Err}
 use Rattle.std.specs.Float.Ieee.{lt, le, of_bits}
 use Rattle.tonekit_core.specs.Loop.{range, turns, range_to, turns_to, loop_to, loop_on}
 use Rattle.tonekit_core.specs.declared.Refusal.TheVariants.{Misplaced, Overrun, Crowded, OffScale, Doubled, Loose, Unordered}
-use Rattle.tonekit_core.specs.declared.Verdict.TheVariants as verdict
 use Rattle.tonekit_pack.specs.Ranges.{above_zero, a_share, weight_fine, region_fine, tolerances_fine}
 use Rattle.tonekit_pack.specs.Pack.{holds, zero_or_held, settings_verdict}
 use Rattle.tonekit_sheet.specs.Reader.{Out, Sst, loaded, refused, complete, due_next, size_of, tone_verdict, accent_verdict, row_verdict, list_verdict, point_fine, points_fine, component_verdict, body_verdict, record_verdict, added, loose_row, accent_down, row_due, row_names, row_wrong, named, same_lists, repeated, list_wrong, finished, read_sheet, load_sheet}
@@ -199,19 +198,19 @@ number_255 = refl
 abbrev after : ℕ → ℕ → Sst
 after lists components = record { last = 22; tones = []; accents = 0 ∷ []; rows = 0; lists = replicate lists 0; due = 1; total = components }
 
-list_128 : list_verdict (0 ∷ 1 ∷ head 1 1 3 0 1) 2 (after 127 0) ≡ verdict.Fine
+list_128 : list_verdict (0 ∷ 1 ∷ head 1 1 3 0 1) 2 (after 127 0) ≡ Ok tt
 unfolding list_verdict holds
 list_128 = refl
 
-list_129 : list_verdict (0 ∷ 1 ∷ head 1 1 3 0 1) 2 (after 128 0) ≡ verdict.Refused Crowded
+list_129 : list_verdict (0 ∷ 1 ∷ head 1 1 3 0 1) 2 (after 128 0) ≡ Err Crowded
 unfolding list_verdict
 list_129 = refl
 
-component_192 : component_verdict (list 1 1 3 0) 7 (after 1 191) ≡ verdict.Fine
+component_192 : component_verdict (list 1 1 3 0) 7 (after 1 191) ≡ Ok tt
 unfolding component_verdict weight_fine points_fine point_fine range turns lt le of_bits
 component_192 = refl
 
-component_193 : component_verdict (list 1 1 3 0) 7 (after 1 192) ≡ verdict.Refused Crowded
+component_193 : component_verdict (list 1 1 3 0) 7 (after 1 192) ≡ Err Crowded
 unfolding component_verdict
 component_193 = refl
 

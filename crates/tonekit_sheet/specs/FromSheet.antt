@@ -1,5 +1,5 @@
 -- What a station holds that was read from a sheet.
-use Rattle.std.specs.Prelude.{ℕ, zero, suc, ◌+◌, ◌*◌, cond, List, [], ◌∷◌, ◌++◌, map, eqb, length, get_or}
+use Rattle.std.specs.Prelude.{ℕ, zero, suc, ◌+◌, ◌*◌, cond, List, [], ◌∷◌, ◌++◌, Some, None, map, eqb, length, get_or}
 use Rattle.std.proofs.Math.Option.{Option, none, some}
 use Rattle.tonekit_core.specs.Layout.{f32_size, sheet_tone_prior, sheet_tone_region, sheet_tone_from, sheet_tone_to}
 use Rattle.tonekit_core.specs.Layout.{sheet_accent_contour, sheet_accent_onset, sheet_accent_offset, sheet_accent_turning, sheet_row_list, sheet_row_final_list}
@@ -7,11 +7,9 @@ use Rattle.tonekit_core.specs.Layout.{sheet_list_size, sheet_list_owner, sheet_l
 use Rattle.tonekit_core.specs.Layout.{sheet_component_size, sheet_component_weight, sheet_component_points}
 use Rattle.tonekit_bytes.specs.Fields.{byte_at, u16_at, u32_at}
 use Rattle.tonekit_pack.specs.Pack.{number_at}
-use Rattle.tonekit_expect.specs.Lookup.{index_of}
+use Rattle.tonekit_expect.specs.Lookup.{Found, index_of}
 use Rattle.tonekit_expect.specs.Source.{Tone, Accent, Carried, Source, settings_at}
 use Rattle.tonekit_expect.specs.declared.Context.{Context}
-use Rattle.tonekit_expect.specs.declared.Found.{Found}
-use Rattle.tonekit_expect.specs.declared.Found.TheVariants as found
 use Rattle.tonekit_sheet.specs.Reader.{Sst, row_at}
 
 abbrev pub tone_at : List ℕ → ℕ → Tone
@@ -66,17 +64,17 @@ abbrev pub final_place : Context → ℕ
 final_place c = cond (eqb c.last 0) sheet_row_list sheet_row_final_list
 
 abbrev pub prev_found : List ℕ → Sst → ℕ → Found
-prev_found s st n = cond (eqb n 0) (found.At 0) (after (index_of s st.tones n))
+prev_found s st n = cond (eqb n 0) (Some 0) (after (index_of s st.tones n))
   where
     after : Found → Found
-    after (found.At p) = found.At (p + 1)
-    after found.Nothing = found.Nothing
+    after (Some p) = Some (p + 1)
+    after None = None
 
 abbrev pub look_placed : List ℕ → Sst → Context → Found → Found → Found → Option (List Carried)
-look_placed s st c (found.At a) (found.At t) (found.At p) = list_numbered s st (byte_at s (row_at st (row_place st a t p) + final_place c))
-look_placed s st c found.Nothing t p = none
-look_placed s st c (found.At a) found.Nothing p = none
-look_placed s st c (found.At a) (found.At t) found.Nothing = none
+look_placed s st c (Some a) (Some t) (Some p) = list_numbered s st (byte_at s (row_at st (row_place st a t p) + final_place c))
+look_placed s st c None t p = none
+look_placed s st c (Some a) None p = none
+look_placed s st c (Some a) (Some t) None = none
 
 unfoldable pub look_sheet : List ℕ → Sst → Context → Option (List Carried)
 look_sheet s st c = look_placed s st c (index_of s st.accents c.accent) (index_of s st.tones c.tone) (prev_found s st c.prev)

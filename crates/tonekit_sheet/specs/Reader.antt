@@ -1,5 +1,5 @@
 -- Document 01's section Sheet: which bytes are a sheet, and the refusal and place of those that are not. A record is held by its offset.
-use Rattle.std.specs.Prelude.{ℕ, zero, suc, ◌+◌, ◌-◌, ◌*◌, Bool, true, false, cond, not, ◌&&◌, ◌||◌, List, [], ◌∷◌, ◌++◌, eqb, leb, ltb, pos, length, get_or, Float}
+use Rattle.std.specs.Prelude.{ℕ, zero, suc, ◌+◌, ◌-◌, ◌*◌, max, Bool, true, false, cond, not, ◌&&◌, ◌||◌, List, [], ◌∷◌, ◌++◌, eqb, leb, ltb, pos, length, get_or, Float, Option, Some, None, Result, Ok, Err}
 use Rattle.std.specs.Float.{fin}
 use Rattle.std.specs.Float.Ieee.{le}
 use Rattle.tonekit_core.specs.Loop.{Turn, next, stop, range, range_to, loop_to}
@@ -10,15 +10,10 @@ use Rattle.tonekit_core.specs.Layout.{sheet_list_label, sheet_list_count, sheet_
 use Rattle.tonekit_core.specs.Layout.{sheet_component_points, sheet_end_kind, sheet_end_size, sheet_accent_at, sheet_row_at}
 use Rattle.tonekit_core.specs.declared.Refusal.{Refusal}
 use Rattle.tonekit_core.specs.declared.Refusal.TheVariants.{Misplaced, CutShort, Overrun, Loose, Unordered}
-use Rattle.tonekit_core.specs.declared.Verdict.{Verdict}
-use Rattle.tonekit_core.specs.declared.Verdict.TheVariants as verdict
-use Rattle.tonekit_core.specs.declared.Checked.{Checked}
-use Rattle.tonekit_core.specs.declared.Checked.TheVariants as checked
+use Rattle.tonekit_core.specs.declared.Rejection.{Rejection}
 use Rattle.tonekit_bytes.specs.Fields.{byte_at, u16_at, u32_at, f32_at}
 use Rattle.tonekit_pack.specs.Ranges.{a_share, weight_fine, region_fine, tolerances_fine}
 use Rattle.tonekit_pack.specs.Pack.{number_at, holds, zero_or_held, in_turn, settings_verdict}
-use Rattle.tonekit_expect.specs.declared.Found.{Found}
-use Rattle.tonekit_expect.specs.declared.Found.TheVariants as found
 use Rattle.tonekit_sheet.specs.Sheet.{row_count, accent_place, tone_place, prev_place}
 
 -- what has been read: the last kind; the offsets of tones and accents; how many rows; the offsets of lists; the components that the last list is still due, and all components
@@ -70,14 +65,14 @@ abbrev pub tone_fine : List ℕ → ℕ → Bool
 tone_fine s o =
     not (eqb (number_at s o) 0) && (a_share (f32_at s (o + sheet_tone_prior)) && region_fine s (o + sheet_tone_region))
 
-unfoldable pub tone_verdict : List ℕ → ℕ → Sst → Verdict
+unfoldable pub tone_verdict : List ℕ → ℕ → Sst → Result (Unit {0}) Refusal
 tone_verdict s o st = in_turn (leb 8 (length st.tones)) (tone_fine s o) (not (holds s st.tones (number_at s o))) true
 
 -- number, tolerances
 abbrev pub accent_fine : List ℕ → ℕ → Bool
 accent_fine s o = not (eqb (number_at s o) 0) && tolerances_fine s (o + sheet_accent_contour)
 
-unfoldable pub accent_verdict : List ℕ → ℕ → Sst → Verdict
+unfoldable pub accent_verdict : List ℕ → ℕ → Sst → Result (Unit {0}) Refusal
 accent_verdict s o st = in_turn (leb 8 (length st.accents)) (accent_fine s o) (not (holds s st.accents (number_at s o))) true
 
 -- a row names an accent, a tone, and a tone before it or none, that are held; its two lists are judged at the end
@@ -89,7 +84,7 @@ row_held s o st =
     holds s st.accents (byte_at s (o + sheet_row_accent))
     && (holds s st.tones (byte_at s (o + sheet_row_tone)) && zero_or_held s st.tones (byte_at s (o + sheet_row_prev)))
 
-unfoldable pub row_verdict : List ℕ → ℕ → Sst → Verdict
+unfoldable pub row_verdict : List ℕ → ℕ → Sst → Result (Unit {0}) Refusal
 row_verdict s o st = in_turn false (row_fine s o) true (row_held s o st)
 
 -- "A list's count above 4, or above 1 unless the form is 3, is 4; count 0 is 5"; "At most 128 lists"
@@ -107,7 +102,7 @@ list_fine s o =
     && (not (eqb (byte_at s (o + sheet_list_count)) 0)
     && (not (eqb (byte_at s (o + sheet_list_form)) 1) || eqb (u16_at s (o + sheet_list_label)) 0))))
 
-unfoldable pub list_verdict : List ℕ → ℕ → Sst → Verdict
+unfoldable pub list_verdict : List ℕ → ℕ → Sst → Result (Unit {0}) Refusal
 list_verdict s o st = in_turn (list_crowded s o st) (list_fine s o) true (holds s st.accents (byte_at s (o + sheet_list_owner)))
 
 -- "points are finite, size at most 128"
@@ -131,24 +126,24 @@ component_fine s o st =
     && ((eqb (byte_at s (last_list st + sheet_list_form)) 3 || eqb (u32_at s (o + sheet_component_weight)) 0x3f80_0000)
     && points_fine s (o + sheet_component_points))
 
-unfoldable pub component_verdict : List ℕ → ℕ → Sst → Verdict
+unfoldable pub component_verdict : List ℕ → ℕ → Sst → Result (Unit {0}) Refusal
 component_verdict s o st = in_turn (leb 192 st.total) (component_fine s o st) true true
 
-unfoldable pub body_verdict : ℕ → List ℕ → ℕ → Sst → Verdict
+unfoldable pub body_verdict : ℕ → List ℕ → ℕ → Sst → Result (Unit {0}) Refusal
 body_verdict k s o st =
     cond (eqb k sheet_settings_kind) (settings_verdict s o)
     (cond (eqb k sheet_tone_kind) (tone_verdict s o st)
     (cond (eqb k sheet_accent_kind) (accent_verdict s o st)
     (cond (eqb k sheet_row_kind) (row_verdict s o st)
     (cond (eqb k sheet_list_kind) (list_verdict s o st)
-    (cond (eqb k sheet_component_kind) (component_verdict s o st) verdict.Fine)))))
+    (cond (eqb k sheet_component_kind) (component_verdict s o st) (Ok tt))))))
 
 -- "in each 1, 2, 4, 5, 6, 7"; past the input's end a due record is missing: 2
-unfoldable pub record_verdict : List ℕ → ℕ → Sst → Verdict
+unfoldable pub record_verdict : List ℕ → ℕ → Sst → Result (Unit {0}) Refusal
 record_verdict s o st =
-    cond (leb (length s) o) (verdict.Refused CutShort)
-    (cond (not (due_next st (byte_at s o))) (verdict.Refused Misplaced)
-    (cond (ltb (length s) (o + size_of (byte_at s o))) (verdict.Refused CutShort)
+    cond (leb (length s) o) (Err CutShort)
+    (cond (not (due_next st (byte_at s o))) (Err Misplaced)
+    (cond (ltb (length s) (o + size_of (byte_at s o))) (Err CutShort)
     (body_verdict (byte_at s o) s o st)))
 
 -- what has been read once the record of kind k at o, a list of so many components, is fine
@@ -174,25 +169,25 @@ abbrev pub row_at : Sst → ℕ → ℕ
 row_at st r = sheet_row_at (length st.tones) (length st.accents) r
 
 -- a row's list number is 0, or one that a list record gives as its own
-abbrev pub loose_turn : List ℕ → Sst → ℕ → ℕ → Turn ℕ Found
+abbrev pub loose_turn : List ℕ → Sst → ℕ → ℕ → Turn ℕ (Option ℕ)
 loose_turn s st r u =
     cond
     (zero_or_held s st.lists (byte_at s (row_at st r + sheet_row_list))
     && zero_or_held s st.lists (byte_at s (row_at st r + sheet_row_final_list)))
     (next u)
-    (stop (found.At (row_at st r)))
+    (stop (Some (row_at st r)))
 
-unfoldable pub loose_row : List ℕ → Sst → Found
-loose_row s st = range_to (loose_turn s st) (λ u. found.Nothing) 0 st.rows 0
+unfoldable pub loose_row : List ℕ → Sst → Option ℕ
+loose_row s st = range_to (loose_turn s st) (λ u. None) 0 st.rows 0
 
 -- an accent whose number is not above that of the one before it
-abbrev pub accent_turn : List ℕ → Sst → ℕ → ℕ → Turn ℕ Found
+abbrev pub accent_turn : List ℕ → Sst → ℕ → ℕ → Turn ℕ (Option ℕ)
 accent_turn s st i before =
     let n = number_at s (get_or st.accents i 0) in
-    cond (ltb before n) (next n) (stop (found.At (get_or st.accents i 0)))
+    cond (ltb before n) (next n) (stop (Some (get_or st.accents i 0)))
 
-unfoldable pub accent_down : List ℕ → Sst → Found
-accent_down s st = range_to (accent_turn s st) (λ n. found.Nothing) 0 (length st.accents) 0
+unfoldable pub accent_down : List ℕ → Sst → Option ℕ
+accent_down s st = range_to (accent_turn s st) (λ n. None) 0 (length st.accents) 0
 
 -- row r is the one due at its place
 abbrev pub prev_due : List ℕ → Sst → ℕ → ℕ
@@ -206,24 +201,20 @@ row_due s st r =
     && (eqb (byte_at s (row_at st r + sheet_row_tone)) (number_at s (get_or st.tones (tone_place t r) 0))
     && eqb (byte_at s (row_at st r + sheet_row_prev)) (prev_due s st (prev_place t r)))
 
--- the greatest of the list numbers named so far
-abbrev pub most : ℕ → ℕ → ℕ
-most m n = cond (ltb m n) n m
-
--- "a row naming a list above 1 more than the greatest before it", not final before final
+-- "a row naming a list above 1 more than the greatest before it", m, not final before final
 unfoldable pub row_names : List ℕ → Sst → ℕ → ℕ → Bool
 row_names s st r m =
     let n = byte_at s (row_at st r + sheet_row_list) in
-    leb n (m + 1) && leb (byte_at s (row_at st r + sheet_row_final_list)) (most m n + 1)
+    leb n (m + 1) && leb (byte_at s (row_at st r + sheet_row_final_list)) (max m n + 1)
 
-abbrev pub row_turn : List ℕ → Sst → ℕ → ℕ → Turn ℕ Found
+abbrev pub row_turn : List ℕ → Sst → ℕ → ℕ → Turn ℕ (Option ℕ)
 row_turn s st r m =
     cond (row_due s st r && row_names s st r m)
-    (next (most (most m (byte_at s (row_at st r + sheet_row_list))) (byte_at s (row_at st r + sheet_row_final_list))))
-    (stop (found.At (row_at st r)))
+    (next (max (max m (byte_at s (row_at st r + sheet_row_list))) (byte_at s (row_at st r + sheet_row_final_list))))
+    (stop (Some (row_at st r)))
 
-unfoldable pub row_wrong : List ℕ → Sst → Found
-row_wrong s st = range_to (row_turn s st) (λ m. found.Nothing) 0 st.rows 0
+unfoldable pub row_wrong : List ℕ → Sst → Option ℕ
+row_wrong s st = range_to (row_turn s st) (λ m. None) 0 st.rows 0
 
 -- a row names list n
 abbrev pub names_turn : List ℕ → Sst → ℕ → ℕ → Bool → Bool
@@ -250,24 +241,24 @@ unfoldable pub repeated : List ℕ → List ℕ → ℕ → ℕ → Bool
 repeated s lists n o = range (equal_turn s lists o) 0 n false
 
 -- list i has its place as its number, from 1, is named by a row, and is equal to none before it
-abbrev pub list_turn : List ℕ → Sst → ℕ → ℕ → Turn ℕ Found
+abbrev pub list_turn : List ℕ → Sst → ℕ → ℕ → Turn ℕ (Option ℕ)
 list_turn s st i u =
     let o = get_or st.lists i 0 in
     cond (eqb (number_at s o) (i + 1) && (named s st (i + 1) && not (repeated s st.lists i o)))
     (next u)
-    (stop (found.At o))
+    (stop (Some o))
 
-unfoldable pub list_wrong : List ℕ → Sst → Found
-list_wrong s st = range_to (list_turn s st) (λ u. found.Nothing) 0 (length st.lists) 0
+unfoldable pub list_wrong : List ℕ → Sst → Option ℕ
+list_wrong s st = range_to (list_turn s st) (λ u. None) 0 (length st.lists) 0
 
 -- "a sheet's list references (7), then 8, are judged at its end"; 8 stands at the first accent, row or list at fault
-abbrev pub or_else : Found → Found → Found
-or_else (found.At o) b = found.At o
-or_else found.Nothing b = b
+abbrev pub or_else : Option ℕ → Option ℕ → Option ℕ
+or_else (Some o) b = Some o
+or_else None b = b
 
-abbrev pub refused_at : Refusal → Found → Out → Out
-refused_at r (found.At o) out = refused r o
-refused_at r found.Nothing out = out
+abbrev pub refused_at : Refusal → Option ℕ → Out → Out
+refused_at r (Some o) out = refused r o
+refused_at r None out = out
 
 unfoldable pub finished : List ℕ → Sst → ℕ → Out
 finished s st e =
@@ -280,9 +271,9 @@ pub record Here : Type 0 where
   pub st : Sst
 
 -- a record that is refused ends the reading, and so does the end; else the next record is due
-abbrev pub on_verdict : List ℕ → Here → Verdict → Turn Here Out
-on_verdict s h (verdict.Refused r) = stop (refused r h.at)
-on_verdict s h verdict.Fine =
+abbrev pub on_verdict : List ℕ → Here → Result (Unit {0}) Refusal → Turn Here Out
+on_verdict s h (Err r) = stop (refused r h.at)
+on_verdict s h (Ok u) =
     cond (eqb (byte_at s h.at) sheet_end_kind) (stop (finished s h.st (h.at + sheet_end_size)))
     (next (record {
       at = h.at + size_of (byte_at s h.at);
@@ -308,9 +299,9 @@ unfoldable pub load_sheet : List ℕ → Out
 load_sheet s = singly s (read_sheet s)
 
 -- a check of the sheet alone: it loads, or its refusal and place
-abbrev pub said : Out → Checked
-said (loaded st e) = checked.Loads
-said (refused r place) = checked.Refused r place
+abbrev pub said : Out → Result (Unit {0}) Rejection
+said (loaded st e) = Ok tt
+said (refused r place) = Err (record { why = r; place = place })
 
-unfoldable pub check_sheet : List ℕ → Checked
+unfoldable pub check_sheet : List ℕ → Result (Unit {0}) Rejection
 check_sheet s = said (load_sheet s)

@@ -9,6 +9,8 @@ ghost use Rattle.tonekit_sheet.specs.Marks.{mixed};
 use tonekit_core::layout;
 
 // The bytes of a record of kind k, its kind among them.
+// Stays: the kind is the byte that the format gives, and any other byte has a size too.
+#[tactic(auto, unfolding(crate::specs::Reader::size_of))]
 pub fn size_of(k: u8) -> usize
     ensures { result ≡ size_of k }
 {

@@ -1,17 +1,9 @@
 -- Bits of an f32 and back: a weight that is fine keeps its bits, and a point within its range has bits that are those of a point.
-use Prim.Native.Nat.{ℕ, zero, suc, ◌+◌, ◌-◌, ◌*◌, ◌<◌}
-use mathlib.Core.Path.{◌≡◌, refl, sym, ◌∙◌, ap, subst}
-use mathlib.Core.Bool.{Bool, true, false, not, ◌&&◌}
-use mathlib.Core.List.{List, [], ◌∷◌, ◌++◌, map}
-use native.Mathlib.Nat.{mod-eq_of_lt}
-use native.Mathlib.Omega.{arith}
-use lib.Dec.{T, eqb, ltb}
-use lib.IntN.{pos}
-use lib.ListN.{length, get_or, length-append, length-map}
-use lib.Ieee.{Float, nan, fin, binary32, le, fits, of_bits, to_bits}
+use Rattle.std.proofs.Common.{ℕ, zero, suc, ◌+◌, ◌-◌, ◌*◌, ◌<◌, ◌≡◌, refl, sym, ◌∙◌, ap, subst, Bool, true, false, not, ◌&&◌, List, [], ◌∷◌, ◌++◌, map, mod-eq_of_lt, arith, T, eqb, ltb, pos, length, get_or, length-append, Float, to_bits, ltb-true, le-ltb}
+use lib.ListN.{length-map}
+use lib.Ieee.{nan, fin, binary32, le, fits, of_bits}
 use lib.Ieee.Bits.{is_true, of_bits-to_bits, to_bits-lt, of_bits-fits, to_bits-of_bits, nan_bits_is, nan_bits_above}
 use lib.Ieee.Fits.{and_i, cond-fits, nan-fits}
-use borrow.Author.Tests.{ltb-true, le-ltb}
 use Rattle.tonekit_bytes.specs.Fields.{byte_at, u32_at, f32_at}
 use Rattle.tonekit_float.proofs.Narrowing.{narrow_fits}
 use Rattle.tonekit_pack.specs.Ranges.{weight_fine}

@@ -1,14 +1,7 @@
 -- Lists noted once each weigh no more than any pool that they all come from. Assumes nothing.
-use Prim.Native.Nat.{ℕ, zero, suc, ◌+◌, ◌*◌, ◌≤◌, ◌<◌}
-use mathlib.Core.Path.{◌≡◌, refl, ap₂}
-use mathlib.Core.Bool.{false, cond}
-use mathlib.Core.List.{List, [], ◌∷◌, ◌++◌}
+use Rattle.std.proofs.Common.{ℕ, zero, suc, ◌+◌, ◌*◌, ◌≤◌, ◌<◌, ◌≡◌, refl, ap₂, false, cond, List, [], ◌∷◌, ◌++◌, ◌⊎◌, ⊎_elim, mul-zero, mul-suc, mul-add, arith, eqb, eqb-true}
 use mathlib.Core.Option.{Option, none, some}
-use mathlib.Core.Logic.{◌⊎◌, ⊎_elim}
-use native.Mathlib.Nat.{mul-zero, mul-suc, mul-add}
-use native.Mathlib.Omega.{arith}
-use lib.Dec.{eqb}
-use borrow.Author.Tests.{eqb-true, eqb-false}
+use borrow.Author.Tests.{eqb-false}
 use Rattle.tonekit_expect.specs.Source.{Carried}
 use Rattle.tonekit_core.proofs.Split.{split}
 use Rattle.tonekit_core.proofs.LoopLaws.{range_keeps}

@@ -1,18 +1,13 @@
 -- Every pack that loads gives a source that fits a sheet (`fit_of_pack`).
-use Prim.Native.Nat.{ℕ, ◌+◌, ◌*◌, ◌/◌, ◌%◌, ◌≤◌}
-use mathlib.Core.Path.{◌≡◌, refl, ap, subst}
-use mathlib.Core.Logic.{inl, inr}
-use mathlib.Core.List.{List, [], ◌∷◌}
+use Rattle.std.proofs.Common.{ℕ, ◌+◌, ◌*◌, ◌/◌, ◌%◌, ◌≤◌, ◌≡◌, refl, ap, subst, inl, inr, List, [], ◌∷◌, arith, length}
 use mathlib.Core.Option.{some}
-use native.Mathlib.Omega.{arith}
-use lib.ListN.{length, length-map}
+use lib.ListN.{length-map}
 use Rattle.tonekit_pack.specs.Pack.{Pst, loaded, read_pack}
 use Rattle.tonekit_pack.proofs.Loads.{Loads, loads, some_tones, some_accents}
+use Rattle.std.specs.Prelude.{Some, None}
 use Rattle.tonekit_expect.specs.declared.Context.{Context}
 use Rattle.tonekit_expect.specs.declared.Listing.{Listing}
-use Rattle.tonekit_expect.specs.declared.Look.{Look}
-use Rattle.tonekit_expect.specs.declared.Look.TheVariants as look
-use Rattle.tonekit_expect.specs.Lookup.{look_up}
+use Rattle.tonekit_expect.specs.Lookup.{Look, look_up}
 use Rattle.tonekit_expect.specs.Source.{Carried, given, tone_at, accent_at, source_of_pack}
 use Rattle.tonekit_expect.proofs.Carried.{components_length}
 use Rattle.tonekit_sheet.specs.Agree.{Bytes}
@@ -43,8 +38,8 @@ module _ (s : List ℕ) (st : Pst) (e : ℕ) (l : Loads s st e) where
       inr (8 * i + t, omega (arith, l.kept.few_tones, l.kept.few_accents), rw (d, r) (ap (list_of s) q))
 
   of_look : (c : Context) (o : Look) (cs : List Carried) → look_up s st c ≡ o → given s o ≡ some cs → Given s st cs
-  of_look c look.Nothing cs q g = let z : ◌≡◌ {A = ℕ} 0 1 = cc in absurd (omega arith)
-  of_look c (look.Found m) cs q g = let h : list_of s m ≡ cs = cc in subst (Given s st) h (of_drawn m (drawn s st e l c m q))
+  of_look c None cs q g = let z : ◌≡◌ {A = ℕ} 0 1 = cc in absurd (omega arith)
+  of_look c (Some m) cs q g = let h : list_of s m ≡ cs = cc in subst (Given s st) h (of_drawn m (drawn s st e l c m q))
 
   look_given : (c : Context) (cs : List Carried) → (source_of_pack s st).look c ≡ some cs → Given s st cs
   unfolding source_of_pack

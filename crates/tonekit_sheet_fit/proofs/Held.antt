@@ -1,13 +1,7 @@
 -- Settings, tones and accents of a pack that loads keep their ranges.
-use Prim.Native.Nat.{ℕ, zero, suc, ◌+◌, ◌<◌}
-use mathlib.Core.Path.{◌≡◌, refl, sym, ◌∙◌, ap}
-use mathlib.Core.Bool.{true}
-use mathlib.Core.List.{List, [], ◌∷◌, map}
+use Rattle.std.proofs.Common.{ℕ, zero, suc, ◌+◌, ◌<◌, ◌≡◌, refl, sym, ◌∙◌, ap, true, List, [], ◌∷◌, map, arith, eqb, ltb, length, get_or, eq-eqb, ltb-true, ltb-false}
 use mathlib.Core.Option.{some}
-use native.Mathlib.Omega.{arith}
-use lib.Dec.{eqb, ltb}
-use lib.ListN.{length, get_or, length-map}
-use borrow.Author.Tests.{eq-eqb, ltb-true, ltb-false}
+use lib.ListN.{length-map}
 use Rattle.tonekit_bytes.specs.Fields.{f32_at}
 use Rattle.tonekit_bytes.proofs.Fields.{u32_below}
 use Rattle.tonekit_pack.specs.Ranges.{above_zero, region_fine, tolerances_fine}

@@ -1,23 +1,15 @@
 -- Every list that a lookup in a pack that loads gives keeps the ranges of a sheet's lists.
-use Prim.Native.Nat.{ℕ, ◌+◌, ◌*◌, ◌≤◌, ◌<◌}
-use mathlib.Core.Path.{◌≡◌, refl, sym, ◌∙◌, ap, subst}
-use mathlib.Core.Bool.{true, cond}
-use mathlib.Core.List.{List, map}
+use Rattle.std.proofs.Common.{ℕ, ◌+◌, ◌*◌, ◌≤◌, ◌<◌, ◌≡◌, refl, sym, ◌∙◌, ap, subst, true, cond, List, map, arith, eqb, length, get_or, ne_eqb}
 use mathlib.Core.Option.{some}
-use native.Mathlib.Omega.{arith}
-use lib.Dec.{eqb}
-use lib.ListN.{length, get_or}
-use borrow.Author.Tests.{ne_eqb}
 use Rattle.tonekit_bytes.specs.Fields.{u32_at}
 use Rattle.tonekit_bytes.proofs.Fields.{u16_below}
 use Rattle.tonekit_pack.specs.Ranges.{weight_fine}
 use Rattle.tonekit_pack.specs.Pack.{Pst, loaded, read_pack, number_at}
 use Rattle.tonekit_pack.proofs.Loads.{RuleFine, Loads, loads}
+use Rattle.std.specs.Prelude.{Some, None}
 use Rattle.tonekit_expect.specs.declared.Context.{Context}
 use Rattle.tonekit_expect.specs.declared.Listing.{Listing}
-use Rattle.tonekit_expect.specs.declared.Look.{Look}
-use Rattle.tonekit_expect.specs.declared.Look.TheVariants as look
-use Rattle.tonekit_expect.specs.Lookup.{rule_listing, citation, look_up, component_of}
+use Rattle.tonekit_expect.specs.Lookup.{Look, rule_listing, citation, look_up, component_of}
 use Rattle.tonekit_expect.specs.Source.{Accent, Carried, carried, given, accent_at, accent_in, source_of_pack}
 use Rattle.tonekit_expect.proofs.Curves.{points_fine_lem}
 use Rattle.tonekit_expect.proofs.Carried.{named, part_number, citation_weight, components_length, components_at}
@@ -91,7 +83,7 @@ drawn_fine s b st e l m (cited i t h g n q) = subst (Fine s st.accents) q (citat
 
 -- ---- the list of a listing
 module _ (s : List ℕ) (b : Bytes s) (st : Pst) (e : ℕ) (p : read_pack s ≡ loaded st e) (c : Context) where
-  module _ (m : Listing) (q : look_up s st c ≡ look.Found m) where
+  module _ (m : Listing) (q : look_up s st c ≡ Some m) where
     fine : Fine s st.accents m
     fine = drawn_fine s b st e (loads s st e p) m (drawn s st e (loads s st e p) c m q)
 
@@ -134,8 +126,8 @@ module _ (s : List ℕ) (b : Bytes s) (st : Pst) (e : ℕ) (p : read_pack s ≡ 
         }
 
   of_look : (o : Look) (cs : List Carried) → look_up s st c ≡ o → given s o ≡ some cs → ListFit (source_of_pack s st) cs
-  of_look look.Nothing cs q g = let z : ◌≡◌ {A = ℕ} 0 1 = cc in absurd (omega arith)
-  of_look (look.Found m) cs q g = let h : list_of s m ≡ cs = cc in subst (ListFit (source_of_pack s st)) h (list_fits m q)
+  of_look None cs q g = let z : ◌≡◌ {A = ℕ} 0 1 = cc in absurd (omega arith)
+  of_look (Some m) cs q g = let h : list_of s m ≡ cs = cc in subst (ListFit (source_of_pack s st)) h (list_fits m q)
 
   pub lists_fit : (cs : List Carried) → (source_of_pack s st).look c ≡ some cs → ListFit (source_of_pack s st) cs
   unfolding source_of_pack

@@ -1,14 +1,10 @@
 -- "128 parts in all": the parts behind the rules of a pack that loads are those that the reader counted. Assumes nothing.
-use Prim.Native.Nat.{ℕ, zero, suc, ◌+◌, ◌-◌, ◌≤◌, ◌<◌}
-use mathlib.Core.Path.{◌≡◌, refl, ◌∙◌}
-use mathlib.Core.List.{List, [], ◌∷◌, ◌++◌}
-use native.Mathlib.Omega.{arith}
-use lib.Dec.{eqb, ltb}
-use lib.ListN.{length, get_or, length-append, get_or-append}
+use Rattle.std.proofs.Common.{ℕ, zero, suc, ◌+◌, ◌-◌, ◌≤◌, ◌<◌, ◌≡◌, refl, ◌∙◌, List, [], ◌∷◌, ◌++◌, arith, eqb, ltb, length, get_or, length-append, eqb-true, ltb-true, ltb-false}
+use lib.ListN.{get_or-append}
 use lib.Seq.{get_or-append_seam}
-use borrow.Author.Tests.{eqb-true, eqb-false, ltb-true, ltb-false}
+use borrow.Author.Tests.{eqb-false}
 use Rattle.tonekit_core.specs.declared.Refusal.TheVariants.{CutShort}
-use Rattle.tonekit_core.specs.declared.Verdict.TheVariants as verdict
+use Rattle.std.specs.Prelude.{Ok}
 use Rattle.tonekit_bytes.specs.Fields.{byte_at}
 use Rattle.tonekit_pack.specs.Pack.{Pst, loaded, refused, size_of, body_verdict, added, parts_from, start, read_pack}
 use Rattle.tonekit_core.proofs.Split.{split}
@@ -45,7 +41,7 @@ all_counted s at st n c =
     (λ t. c.closed (ltb-true st.last 4 t))
     (λ t. omega (arith, c.open_rule (ltb-false st.last 4 t), parts_miss (4 - st.parts) s at n))
 
-count : (s : List ℕ) (at : ℕ) (st : Pst) {k : ℕ} → Due st.last k → byte_at s at ≡ k → body_verdict k s at st ≡ verdict.Fine → (k ≡ 6 → ⊥)
+count : (s : List ℕ) (at : ℕ) (st : Pst) {k : ℕ} → Due st.last k → byte_at s at ≡ k → body_verdict k s at st ≡ Ok tt → (k ≡ 6 → ⊥)
     → Counted s at st → Counted s (at + size_of k) (added k at st)
 unfolding added size_of
 count s at st (settings z) k b n c = record { open_rule = λ h. absurd (omega arith); closed = λ h. all_counted s at st (λ q. omega arith) c }

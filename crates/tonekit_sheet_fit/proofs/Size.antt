@@ -1,15 +1,7 @@
 -- "13,266 bytes always suffice": the length of the sheet of a pack that loads.
-use Prim.Native.Nat.{ℕ, zero, suc, ◌+◌, ◌-◌, ◌*◌, ◌/◌, ◌%◌, ◌≤◌, ◌<◌}
-use mathlib.Core.Path.{◌≡◌, refl, ◌∙◌, ap}
-use mathlib.Core.List.{List, [], ◌∷◌, ◌++◌, map}
+use Rattle.std.proofs.Common.{ℕ, zero, suc, ◌+◌, ◌-◌, ◌*◌, ◌/◌, ◌%◌, ◌≤◌, ◌<◌, ◌≡◌, refl, ◌∙◌, ap, List, [], ◌∷◌, ◌++◌, map, mul-le-mul, add-one, arith, eqb, length, drop, length-append, drop_of_length-le, drop-cons, eqb-true}
 use mathlib.Core.Option.{Option, none, some}
-use native.Mathlib.Nat.{mul-le-mul}
-use native.Mathlib.Numerals.{add-one}
-use native.Mathlib.Omega.{arith}
-use lib.Dec.{eqb}
-use lib.ListN.{length, drop, length-append, length-map, drop_of_length-le}
-use lib.Seq.{drop-cons}
-use borrow.Author.Tests.{eqb-true}
+use lib.ListN.{length-map}
 use Rattle.tonekit_core.specs.Layout.{sheet_most}
 use Rattle.tonekit_pack.specs.Pack.{Pst, loaded, read_pack}
 use Rattle.tonekit_core.proofs.Split.{split}

@@ -1,16 +1,12 @@
 -- The components of a sheet's list have one owner, form and label, and in a mixture each its place as its part number. Assumes nothing.
-use Prim.Native.Nat.{ℕ, zero, suc, ◌+◌, ◌≤◌, ◌<◌}
-use mathlib.Core.Path.{◌≡◌, refl}
-use mathlib.Core.List.{List}
+use Rattle.std.proofs.Common.{ℕ, zero, suc, ◌+◌, ◌≤◌, ◌<◌, ◌≡◌, refl, List, arith, length, get_or}
 use mathlib.Core.Option.{some}
-use native.Mathlib.Omega.{arith}
-use lib.ListN.{length, get_or}
 use Rattle.tonekit_bytes.specs.Fields.{byte_at}
 use Rattle.tonekit_expect.specs.Lookup.{index_of}
 use Rattle.tonekit_expect.specs.Source.{Carried}
 use Rattle.tonekit_expect.specs.declared.Context.{Context}
-use Rattle.tonekit_expect.specs.declared.Found.{Found}
-use Rattle.tonekit_expect.specs.declared.Found.TheVariants as found
+use Rattle.tonekit_expect.specs.Lookup.{Found}
+use Rattle.std.specs.Prelude.{Some, None}
 use Rattle.tonekit_expect.proofs.Walk.{index_found}
 use Rattle.tonekit_inventory.specs.Gather.{named_of}
 use Rattle.tonekit_inventory.proofs.Going.{first_named}
@@ -50,12 +46,12 @@ module _ (s : List ℕ) (st : Sst) (e : ℕ) (p : read_sheet s ≡ loaded st e) 
 
   of_places : (c : Context) (a t b : Found) → index_of s st.accents c.accent ≡ a → index_of s st.tones c.tone ≡ t → prev_found s st c.prev ≡ b
       → (cs : List Carried) → look_placed s st c a t b ≡ some cs → Alike no_carried cs
-  of_places c (found.At a) (found.At t) (found.At b) x y z cs g =
+  of_places c (Some a) (Some t) (Some b) x y z cs g =
       of_number (byte_at s (row_at st (row_place st a t b) + final_place c))
       (number_held s st e p c a t b (index_found _ _ _ a x).inside (index_found _ _ _ t y).inside (prev_inside s st c.prev b z)) cs g
-  of_places c found.Nothing t b x y z cs g = let n : ◌≡◌ {A = ℕ} 0 1 = cc in absurd (omega arith)
-  of_places c (found.At a) found.Nothing b x y z cs g = let n : ◌≡◌ {A = ℕ} 0 1 = cc in absurd (omega arith)
-  of_places c (found.At a) (found.At t) found.Nothing x y z cs g = let n : ◌≡◌ {A = ℕ} 0 1 = cc in absurd (omega arith)
+  of_places c None t b x y z cs g = let n : ◌≡◌ {A = ℕ} 0 1 = cc in absurd (omega arith)
+  of_places c (Some a) None b x y z cs g = let n : ◌≡◌ {A = ℕ} 0 1 = cc in absurd (omega arith)
+  of_places c (Some a) (Some t) None x y z cs g = let n : ◌≡◌ {A = ℕ} 0 1 = cc in absurd (omega arith)
 
   pub sheet_alike : (c : Context) (cs : List Carried) → (source_of_sheet s st).look c ≡ some cs → Alike no_carried cs
   unfolding source_of_sheet look_sheet

@@ -1,19 +1,14 @@
 -- A sheet that loads has at most eight tones, and each of its lists at most four components. Assumes nothing.
-use Prim.Native.Nat.{ℕ, zero, suc, ◌+◌, ◌≤◌, ◌<◌}
-use mathlib.Core.Path.{◌≡◌}
-use mathlib.Core.List.{List}
-use native.Mathlib.Omega.{arith}
-use lib.Dec.{eqb}
-use lib.ListN.{length, get_or, length-append}
-use borrow.Author.Tests.{eqb-true, eqb-false}
-use Rattle.tonekit_core.specs.declared.Verdict.TheVariants as verdict
+use Rattle.std.proofs.Common.{ℕ, zero, suc, ◌+◌, ◌≤◌, ◌<◌, ◌≡◌, List, arith, eqb, length, get_or, length-append, eqb-true}
+use borrow.Author.Tests.{eqb-false}
+use Rattle.std.specs.Prelude.{Ok}
 use Rattle.tonekit_bytes.specs.Fields.{byte_at}
 use Rattle.tonekit_core.proofs.Split.{split}
 use Rattle.tonekit_pack.proofs.Each.{Each, each_snoc}
-use Rattle.tonekit_sheet.specs.Reader.{Sst, loaded, size_of, body_verdict, added, start, read_sheet}
-use Rattle.tonekit_sheet_read.proofs.Records.{tone_room, list_room}
-use Rattle.tonekit_sheet_inverse.proofs.Records.{Due, settings, tone, accent, row, list, component, finish}
-use Rattle.tonekit_sheet_inverse.proofs.Turns.{run, no_turns, accepted, finished_is}
+use Rattle.tonekit_sheet.specs.Reader.{Sst, loaded, refused, size_of, body_verdict, added, start, read_sheet}
+use Rattle.tonekit_core.specs.declared.Refusal.TheVariants.{CutShort}
+use Rattle.tonekit_sheet.proofs.Records.{Due, settings, tone, accent, row, list, component, finish, tone_room, list_room}
+use Rattle.tonekit_sheet.proofs.Turns.{run, no_turns, accepted, finished_is}
 
 abbrev Short : List ℕ → List ℕ → ℕ → Type 0
 Short s before o = byte_at s (o + 6) ≤ 4
@@ -24,7 +19,7 @@ record Fews (s : List ℕ) (st : Sst) : Type 0 where
   lists : Each (Short s) st.lists
 
 module _ (s : List ℕ) (at : ℕ) (st : Sst) where
-  keep : {k : ℕ} (count : ℕ) → Due st k → body_verdict k s at st ≡ verdict.Fine → Fews s st → Fews s (added k at count st)
+  keep : {k : ℕ} (count : ℕ) → Due st k → body_verdict k s at st ≡ Ok tt → Fews s st → Fews s (added k at count st)
   unfolding added
   keep count (settings z) b p = record { tones = p.tones; lists = p.lists }
   keep count (tone l u) b p = record { tones = simp length-append (omega (arith, tone_room s at st b)); lists = p.lists }
@@ -34,10 +29,10 @@ module _ (s : List ℕ) (at : ℕ) (st : Sst) where
   keep count (component d) b p = record { tones = p.tones; lists = p.lists }
   keep count (finish c) b p = record { tones = p.tones; lists = p.lists }
 
-keeps : (f : ℕ) (s : List ℕ) (at : ℕ) (st fin : Sst) (e : ℕ) → run s f at st ≡ loaded fin e → Fews s st → Fews s fin
-keeps zero s at st fin e h p = no_turns s at st fin e h
+keeps : (f : ℕ) (s : List ℕ) (at : ℕ) (st fin : Sst) (e : ℕ) → run s (refused CutShort (length s)) f at st ≡ loaded fin e → Fews s st → Fews s fin
+keeps zero s at st fin e h p = no_turns s at st fin CutShort (length s) e h
 keeps (suc f) s at st fin e h p =
-    let a = accepted s f at st fin e h in
+    let a = accepted s (refused CutShort (length s)) f at st fin e h in
     split (eqb (byte_at s at) 23)
     (λ b. let q = finished_is s st (at + 1) fin e (a.ended (eqb-true (byte_at s at) 23 b)) in rw (← q.same) p)
     (λ b. keeps f s (at + size_of (byte_at s at)) (added (byte_at s at) at (byte_at s (at + 6)) st) fin e (a.goes (eqb-false (byte_at s at) 23 b))

@@ -1,19 +1,13 @@
 -- A lookup by position, way by way. Assumes nothing.
-use Prim.Native.Nat.{ℕ, zero, suc, ◌+◌, ◌-◌, ◌*◌, ◌≤◌, ◌<◌}
-use mathlib.Core.Path.{◌≡◌, refl, sym, ap, ◌∙◌}
-use mathlib.Core.List.{List}
+use Rattle.std.proofs.Common.{ℕ, zero, suc, ◌+◌, ◌-◌, ◌*◌, ◌≤◌, ◌<◌, ◌≡◌, refl, sym, ap, ◌∙◌, List, arith, sub-one, eqb, length, get_or}
 use mathlib.Core.Option.{none}
-use native.Mathlib.Omega.{arith}
-use native.Mathlib.Numerals.{sub-one}
-use lib.Dec.{eqb}
-use lib.ListN.{length, get_or}
 use Rattle.tonekit_bytes.specs.Fields.{byte_at}
 use Rattle.tonekit_core.proofs.Split.{split}
 use Rattle.tonekit_pack.proofs.InOrder.{order_get}
 use Rattle.tonekit_expect.specs.Lookup.{index_of}
 use Rattle.tonekit_expect.specs.declared.Context.{Context}
-use Rattle.tonekit_expect.specs.declared.Found.{Found}
-use Rattle.tonekit_expect.specs.declared.Found.TheVariants as found
+use Rattle.tonekit_expect.specs.Lookup.{Found}
+use Rattle.std.specs.Prelude.{Some, None}
 use Rattle.tonekit_expect.proofs.Walk.{index_found}
 use Rattle.tonekit_sheet.specs.Reader.{Sst, loaded, row_at, read_sheet}
 use Rattle.tonekit_sheet.specs.FromSheet.{list_numbered, row_place, final_place, prev_found, look_sheet}
@@ -26,56 +20,56 @@ use Rattle.tonekit_sheet_inventory.proofs.Few.{lists_few}
 
 -- ---- what stood before
 module _ (s : List ℕ) (st : Sst) (n : ℕ) where
-  pub prev_inside : (p : ℕ) → prev_found s st n ≡ found.At p → p ≤ length st.tones
+  pub prev_inside : (p : ℕ) → prev_found s st n ≡ Some p → p ≤ length st.tones
   prev_inside p e =
       split (eqb n 0)
-      (λ z. let f : found.At 0 ≡ found.At p = rw z at e in let q : 0 ≡ p = cc in omega arith)
+      (λ z. let f : Some 0 ≡ Some p = rw z at e in let q : 0 ≡ p = cc in omega arith)
       (λ z. by_tone z (index_of s st.tones n) refl)
     where
       by_tone : eqb n 0 ≡ mathlib.Core.Bool.false → (f : Found) → index_of s st.tones n ≡ f → p ≤ length st.tones
-      by_tone z (found.At q) i =
-          let g : found.At (q + 1) ≡ found.At p = rw (z, i) at e in
+      by_tone z (Some q) i =
+          let g : Some (q + 1) ≡ Some p = rw (z, i) at e in
           let w : q + 1 ≡ p = cc in
           omega (arith, (index_found s st.tones n q i).inside)
-      by_tone z found.Nothing i =
-          let g : found.Nothing ≡ found.At p = rw (z, i) at e in
+      by_tone z None i =
+          let g : None ≡ Some p = rw (z, i) at e in
           let w : ◌≡◌ {A = ℕ} 0 1 = cc in
           absurd (omega arith)
 
 -- ---- what is found is there
 module _ (s : List ℕ) (st : Sheet) (n : ℕ) where
-  pub accent_held : (a : ℕ) → index_of s (shown st).accents n ≡ found.At a → a < st.accents
+  pub accent_held : (a : ℕ) → index_of s (shown st).accents n ≡ Some a → a < st.accents
   accent_held a e = omega (arith, (index_found s (shown st).accents n a e).inside, stepped_length (9 + 15 * st.tones) 18 st.accents)
 
-  pub tone_held : (t : ℕ) → index_of s (shown st).tones n ≡ found.At t → t < st.tones
+  pub tone_held : (t : ℕ) → index_of s (shown st).tones n ≡ Some t → t < st.tones
   tone_held t e = omega (arith, (index_found s (shown st).tones n t e).inside, stepped_length 9 15 st.tones)
 
-  pub prev_held : (p : ℕ) → prev_found s (shown st) n ≡ found.At p → p ≤ st.tones
+  pub prev_held : (p : ℕ) → prev_found s (shown st) n ≡ Some p → p ≤ st.tones
   prev_held p e = omega (arith, prev_inside s (shown st) n p e, stepped_length 9 15 st.tones)
 
 -- ---- the ways
-pub not_there : {P : Type 0} (o : ℕ) → found.Nothing ≡ found.At o → P
+pub not_there : {P : Type 0} (o : ℕ) → None ≡ Some o → P
 not_there o h = let z : ◌≡◌ {A = ℕ} 0 1 = cc in absurd (omega arith)
 
-pub nothing : (s : List ℕ) (st : Sst) (c : Context) → look_sheet s st c ≡ none → Looks s st c found.Nothing
+pub nothing : (s : List ℕ) (st : Sst) (c : Context) → look_sheet s st c ≡ none → Looks s st c None
 nothing s st c e = record { is = e; list = λ o q. not_there o q }
 
 module _ (s : List ℕ) (st : Sst) (c : Context) where
-  pub no_accent : index_of s st.accents c.accent ≡ found.Nothing → look_sheet s st c ≡ none
+  pub no_accent : index_of s st.accents c.accent ≡ None → look_sheet s st c ≡ none
   unfolding look_sheet
   no_accent e = rw e
 
-  module _ (a : ℕ) (ea : index_of s st.accents c.accent ≡ found.At a) where
-    pub no_tone : index_of s st.tones c.tone ≡ found.Nothing → look_sheet s st c ≡ none
+  module _ (a : ℕ) (ea : index_of s st.accents c.accent ≡ Some a) where
+    pub no_tone : index_of s st.tones c.tone ≡ None → look_sheet s st c ≡ none
     unfolding look_sheet
     no_tone e = rw (ea, e)
 
-    module _ (t : ℕ) (et : index_of s st.tones c.tone ≡ found.At t) where
-      pub no_prev : prev_found s st c.prev ≡ found.Nothing → look_sheet s st c ≡ none
+    module _ (t : ℕ) (et : index_of s st.tones c.tone ≡ Some t) where
+      pub no_prev : prev_found s st c.prev ≡ None → look_sheet s st c ≡ none
       unfolding look_sheet
       no_prev e = rw (ea, et, e)
 
-      module _ (p : ℕ) (ep : prev_found s st c.prev ≡ found.At p) where
+      module _ (p : ℕ) (ep : prev_found s st c.prev ≡ Some p) where
         pub number_is : look_sheet s st c ≡ list_numbered s st (byte_at s (row_at st (row_place st a t p) + final_place c))
         unfolding look_sheet
         number_is = rw (ea, et, ep)
@@ -85,12 +79,12 @@ place_told : (s : List ℕ) (st : Sst) (n : ℕ) → list_numbered s st n ≡ to
 place_told s st zero = refl
 place_told s st (suc i) = refl
 
-pub place_is : (st : Sheet) (n : ℕ) → (n ≡ 0 → ⊥) → n ≤ st.lists → found.At (get_or st.listat (n - 1) 0) ≡ list_place (shown st) n
+pub place_is : (st : Sheet) (n : ℕ) → (n ≡ 0 → ⊥) → n ≤ st.lists → Some (get_or st.listat (n - 1) 0) ≡ list_place (shown st) n
 place_is st zero h l = absurd (h refl)
 place_is st (suc i) h l = rw (sub-one, order_get st.listat st.lists i l)
 
 module _ (s : List ℕ) (st : Sst) (e : ℕ) (h : read_sheet s ≡ loaded st e) where
-  short : (n o : ℕ) → n ≤ length st.lists → list_place st n ≡ found.At o → o < 65536 → ShortList s o
+  short : (n o : ℕ) → n ≤ length st.lists → list_place st n ≡ Some o → o < 65536 → ShortList s o
   short zero o l q b = not_there o q
   short (suc i) o l q b =
       let w : get_or st.lists i 0 ≡ o = cc in

@@ -1,14 +1,10 @@
 -- The accent that a search in a sheet finds, with its tolerances. Assumes nothing.
-use Prim.Native.Nat.{ℕ, ◌+◌, ◌*◌, ◌<◌}
-use mathlib.Core.Path.{◌≡◌, refl, ap, ◌∙◌}
-use mathlib.Core.Bool.{true}
-use mathlib.Core.List.{List}
-use mathlib.Core.Option.{none}
-use native.Mathlib.Omega.{arith}
+use Rattle.std.proofs.Common.{ℕ, ◌+◌, ◌*◌, ◌<◌, ◌≡◌, refl, ap, ◌∙◌, List, arith}
+use Rattle.std.specs.Prelude.{Some, None}
 use Rattle.tonekit_core.specs.Layout.{sheet_accent_at}
 use Rattle.tonekit_expect.specs.Lookup.{index_of}
 use Rattle.tonekit_expect.specs.Source.{accent_in}
-use Rattle.tonekit_expect.specs.declared.Found.TheVariants as found
+use Rattle.std.specs.Prelude.{Some, None}
 use Rattle.tonekit_score.specs.declared.Tolerance.{Tolerance}
 use Rattle.tonekit_inventory.specs.Fields.{tolerance_at}
 use Rattle.tonekit_inventory.specs.Gather.{tolerance_of, graded_of}
@@ -28,13 +24,13 @@ tolerance s o =
     rw (onset, offset, turning)
 
 module _ (s : List ℕ) (st : Sheet) (n : ℕ) where
-  pub graded_found : (i : ℕ) → i < st.accents → index_of s (shown st).accents n ≡ found.At i → (o : ℕ) → o ≡ sheet_accent_at st.tones i → (t : Tolerance) → t ≡ tolerance_at s (o + 2)
-      → record { held = true; tolerance = t } ≡ graded_of (accent_in (source_of_sheet s (shown st)).accents n)
+  pub graded_found : (i : ℕ) → i < st.accents → index_of s (shown st).accents n ≡ Some i → (o : ℕ) → o ≡ sheet_accent_at st.tones i → (t : Tolerance) → t ≡ tolerance_at s (o + 2)
+      → Some t ≡ graded_of (accent_in (source_of_sheet s (shown st)).accents n)
   unfolding source_of_sheet
   graded_found i h e o o_is t q =
       rw (accent_found s (shown st).accents n (accent_at s) (λ o. refl) i e, stepped_get (9 + 15 * st.tones) 18 st.accents i h)
-      (ap (λ (x : Tolerance). record { held = true; tolerance = x }) (q ∙ (tolerance s o ∙ ap (λ (y : ℕ). tolerance_of (accent_at s y)) o_is)))
+      (ap Some (q ∙ (tolerance s o ∙ ap (λ (y : ℕ). tolerance_of (accent_at s y)) o_is)))
 
-  pub graded_none : index_of s (shown st).accents n ≡ found.Nothing → graded_of none ≡ graded_of (accent_in (source_of_sheet s (shown st)).accents n)
+  pub graded_none : index_of s (shown st).accents n ≡ None → None ≡ graded_of (accent_in (source_of_sheet s (shown st)).accents n)
   unfolding source_of_sheet
   graded_none e = rw (accent_none s (shown st).accents n (accent_at s) (λ o. refl) e)

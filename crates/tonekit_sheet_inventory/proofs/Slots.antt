@@ -1,14 +1,10 @@
 -- The components of a sheet's list, read one after the other: what each turn stores is one more of the run, and the list's name is that of its first. Assumes nothing.
-use Prim.Native.Nat.{ℕ, zero, suc, ◌+◌, ◌*◌, ◌≤◌}
-use mathlib.Core.Path.{◌≡◌, refl, ap, ◌∙◌}
-use mathlib.Core.List.{List, [], ◌∷◌, ◌++◌, map}
-use native.Mathlib.Omega.{arith}
-use native.Mathlib.Numerals.{add-one}
-use lib.Ieee.{Float}
-use lib.ListN.{length, get_or, set, get_or-append}
+use Rattle.std.proofs.Common.{ℕ, zero, suc, ◌+◌, ◌*◌, ◌≤◌, ◌≡◌, refl, ap, ◌∙◌, List, [], ◌∷◌, ◌++◌, map, arith, add-one, Float, length, get_or, set, ap₂}
+use lib.ListN.{get_or-append}
 use lib.Seq.{sets}
 use Rattle.tonekit_bytes.specs.Fields.{byte_at, f32_at}
-use Rattle.tonekit_inventory.specs.Gather.{f32, named_of, weights_of, points_of}
+use Rattle.tonekit_judge.specs.declared.Slots.{Slots}
+use Rattle.tonekit_inventory.specs.Gather.{f32, named_of, weights_of, points_of, put_in}
 use Rattle.tonekit_inventory.proofs.Going.{first_named}
 use Rattle.tonekit_inventory.proofs.Slots.{run_no_weights, run_no_points, run_weight, run_points}
 use Rattle.tonekit_sheet.specs.FromSheet.{bits_at, carried_at, carried_from}
@@ -86,3 +82,17 @@ module _ (s : List ℕ) (o : ℕ) where
       let n = byte_at s (o + 6) in
       first_named (carried_from s o n) no_carried (rw (carried_length s o n) h)
       ∙ rw (carried_length s o n, first_of n h)
+
+-- ---- the slots of a tone, of a list's run of components
+module _ (s : List ℕ) (o t : ℕ) (s₀ : Slots) where
+  pub put_none : s₀ ≡ put_in t (carried_from s o 0) s₀
+  unfolding put_in
+  put_none = ap₂ (λ (w p : List Float). record { weights = w; points = p }) (ap (sets s₀.weights (4 * t)) (no_weights s o)) (ap (sets s₀.points (40 * t)) (no_points s o))
+
+  pub put_one : (j : ℕ) (x : Float) → x ≡ f32_at s (o + 7 + 45 * j + 1) → (xs : List Float) → xs ≡ map f32 (bits_at s (o + 7 + 45 * j + 5) 10) → {out : Slots} → out ≡ put_in t (carried_from s o j) s₀
+      → record { weights = set out.weights (4 * t + j) x; points = sets out.points (40 * t + 10 * j) xs } ≡ put_in t (carried_from s o (j + 1)) s₀
+  unfolding put_in
+  put_one j x ex xs exs {out} e =
+      ap₂ (λ (w p : List Float). record { weights = w; points = p })
+      (weight_put s o s₀.weights (4 * t) j x ex (ap (λ (x : Slots). x.weights) e))
+      (points_put s o s₀.points (40 * t) j xs exs (ap (λ (x : Slots). x.points) e))

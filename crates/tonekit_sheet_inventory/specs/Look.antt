@@ -1,29 +1,43 @@
 -- What a lookup in a sheet answers: the offset of the list that a context takes, or nothing.
-use Rattle.std.specs.Prelude.{ℕ, zero, suc, ◌+◌, ◌≤◌, ◌<◌, ◌≡◌, List, get_or}
+use Rattle.std.specs.Prelude.{ℕ, zero, suc, ◌+◌, ◌≤◌, ◌<◌, ◌≡◌, List, get_or, Some, None, Result, Ok, Err}
 use Rattle.std.proofs.Math.Option.{Option, none, some}
+use Rattle.tonekit_core.specs.declared.Rejection.{Rejection}
 use Rattle.tonekit_core.specs.Layout.{sheet_list_owner, sheet_list_form, sheet_list_label, sheet_list_count}
 use Rattle.tonekit_bytes.specs.Fields.{byte_at, u16_at}
-use Rattle.tonekit_expect.specs.Source.{Carried}
+use Rattle.tonekit_expect.specs.Source.{Carried, Source}
 use Rattle.tonekit_expect.specs.declared.Context.{Context}
-use Rattle.tonekit_expect.specs.declared.Found.{Found}
-use Rattle.tonekit_expect.specs.declared.Found.TheVariants as found
+use Rattle.tonekit_expect.specs.Lookup.{Found}
 use Rattle.tonekit_inventory.specs.declared.Named.{Named}
-use Rattle.tonekit_sheet.specs.Reader.{Sst}
-use Rattle.tonekit_sheet.specs.FromSheet.{carried_from, look_sheet}
+use Rattle.tonekit_sheet.specs.Reader.{Sst, Out, loaded, refused, load_sheet}
+use Rattle.tonekit_sheet.specs.FromSheet.{carried_from, look_sheet, source_of_sheet}
+use Rattle.tonekit_sheet_read.specs.Held.{shown}
+use Rattle.tonekit_sheet_read.specs.declared.Sheet.{Sheet}
+
+-- what a sheet that was read from these bytes stands for
+abbrev pub source_in : List ℕ → Sheet → Source
+source_in s p = source_of_sheet s (shown p)
+
+-- what the bytes of a sheet hold, or why they are none
+abbrev pub source_or : List ℕ → Out → Result Source Rejection
+source_or s (loaded st end) = Ok (source_of_sheet s st)
+source_or s (refused r place) = Err (record { why = r; place = place })
+
+abbrev pub load_source : List ℕ → Result Source Rejection
+load_source s = source_or s (load_sheet s)
 
 -- where the list with a number stands: "0 nothing", else the list at that place, from 1
 abbrev pub list_place : Sst → ℕ → Found
-list_place st zero = found.Nothing
-list_place st (suc i) = found.At (get_or st.lists i 0)
+list_place st zero = None
+list_place st (suc i) = Some (get_or st.lists i 0)
 
 pub record Placed (st : Sst) (n : ℕ) (f : Found) : Type 0 where
   pub is : f ≡ list_place st n
-  pub near : (o : ℕ) → f ≡ found.At o → o < 65536
+  pub near : (o : ℕ) → f ≡ Some o → o < 65536
 
 -- what the list at an offset gives
 abbrev pub told : List ℕ → Found → Option (List Carried)
-told s (found.At o) = some (carried_from s o (byte_at s (o + sheet_list_count)))
-told s found.Nothing = none
+told s (Some o) = some (carried_from s o (byte_at s (o + sheet_list_count)))
+told s None = none
 
 -- a list of one to four components, at an offset that two bytes hold
 pub record ShortList (s : List ℕ) (o : ℕ) : Type 0 where
@@ -33,7 +47,7 @@ pub record ShortList (s : List ℕ) (o : ℕ) : Type 0 where
 
 -- a lookup's list, where it found one
 abbrev pub ListThere : List ℕ → Found → Type 0
-ListThere s f = (o : ℕ) → f ≡ found.At o → ShortList s o
+ListThere s f = (o : ℕ) → f ≡ Some o → ShortList s o
 
 pub record Looks (s : List ℕ) (st : Sst) (c : Context) (f : Found) : Type 0 where
   pub is : look_sheet s st c ≡ told s f

@@ -2,44 +2,48 @@
 // found by position.
 #![tactic(auto)]
 
-ghost use Rattle.std.specs.Prelude.{◌≡◌, map, ◌||◌, ◌+◌, ◌*◌, ◌≤◌, ◌<◌, eqb};
-ghost use Rattle.tonekit_core.specs.Layout.{own_number, sheet_tone_prior, sheet_tone_region, sheet_list_count};
-ghost use Rattle.tonekit_bytes.specs.Fields.{byte_at, f32_at};
+ghost use Rattle.std.specs.Prelude.{◌≡◌, map, ◌+◌, ◌*◌, ◌≤◌, ◌<◌};
+ghost use Rattle.tonekit_core.specs.Layout.{sheet_list_count};
+ghost use Rattle.tonekit_bytes.specs.Fields.{byte_at};
 ghost use Rattle.tonekit_expect.specs.Lookup.{index_of};
-ghost use Rattle.tonekit_expect.specs.Source.{accent_in, tone_in};
-ghost use Rattle.tonekit_inventory.specs.Fields.{region_at};
-ghost use Rattle.tonekit_inventory.specs.Gather.{f32, with_tone, named_of, given_of, Blank, graded_of};
-ghost use Rattle.tonekit_inventory.specs.Slots.{Slots, InSlots, Lists, Gathers};
+ghost use Rattle.tonekit_inventory.specs.Gather.{f32, put_in};
 ghost use Rattle.tonekit_sheet.specs.Reader.{row_at};
-ghost use Rattle.tonekit_sheet.specs.FromSheet.{bits_at, row_place, final_place, prev_found, carried_from, source_of_sheet};
-ghost use Rattle.tonekit_sheet_read.specs.Held.{stepped, shown, Roomy, ReadFrom};
-ghost use Rattle.tonekit_sheet_inventory.specs.Look.{Placed, ShortList, Looks, ListThere, told, name_at};
+ghost use Rattle.tonekit_sheet.specs.FromSheet.{bits_at, row_place, final_place, prev_found, carried_from};
+ghost use Rattle.tonekit_sheet_read.specs.Held.{stepped, shown, ReadFrom};
+ghost use Rattle.tonekit_sheet_inventory.specs.Look.{source_in, load_source, Placed, ShortList, Looks, name_at};
 
 use tonekit_bytes::{byte_at, f32_at, u16_at};
-use tonekit_core::layout;
-use tonekit_expect::{Context, Found};
-use tonekit_inventory::{Gathered, Graded, Named};
-use tonekit_judge::Inventory;
+use tonekit_core::{Rejection, layout};
+use tonekit_expect::Context;
+use tonekit_inventory::{Held, Named, Settings};
+use tonekit_judge::{Slots, ToneEntry};
+use tonekit_score::Tolerance;
 use tonekit_sheet_read::Sheet;
+
+// A sheet, as what a station holds.
+#[derive(Clone, Copy)]
+pub struct HeldSheet {
+    pub sheet: Sheet,
+}
 
 // The place of the record with number n among `count` from an offset on, each `step` bytes behind the
 // one before.
-fn index_from(s: &[u8], o: usize, step: usize, count: usize, n: u8) -> Found
+fn index_from(s: &[u8], o: usize, step: usize, count: usize, n: u8) -> Option<usize>
     requires { (o ≤ 65536) × (step ≤ 18) × (count ≤ 8) }
     ensures { result ≡ index_of s.now (stepped o step count) n }
 {
     for i in 0..count {
         if byte_at(s, o + step * i, layout::OWN_NUMBER) == n {
-            return Found::At(i);
+            return Some(i);
         }
     }
-    Found::Nothing
+    None
 }
 
+// Stays: an accent and a tone are looked for by one function, `index_from`, which takes where their records stand.
 // The place of the accent with number n among a sheet's, or none. The sheet is one
 // that the reader handed back for these bytes, here and below.
-pub fn accent_index(s: &[u8], st: Sheet, n: u8) -> Found
-    requires { Roomy st }
+pub fn accent_index(s: &[u8], st: Sheet, n: u8) -> Option<usize>
     ensures { result ≡ index_of s.now (shown st).accents n }
 {
     index_from(
@@ -52,8 +56,8 @@ pub fn accent_index(s: &[u8], st: Sheet, n: u8) -> Found
 }
 
 // The place of the tone with number n among a sheet's, or none.
-pub fn tone_index(s: &[u8], st: Sheet, n: u8) -> Found
-    requires { Roomy st }
+// Stays: a use of `index_from`, as `accent_index` is.
+pub fn tone_index(s: &[u8], st: Sheet, n: u8) -> Option<usize>
     ensures { result ≡ index_of s.now (shown st).tones n }
 {
     index_from(
@@ -66,22 +70,19 @@ pub fn tone_index(s: &[u8], st: Sheet, n: u8) -> Found
 }
 
 // The place of what stood before among a row's: none first, then the tones.
-fn prev_index(s: &[u8], st: Sheet, n: u8) -> Found
-    requires { Roomy st }
+fn prev_index(s: &[u8], st: Sheet, n: u8) -> Option<usize>
     ensures { result ≡ prev_found s.now (shown st) n }
 {
     if n == 0 {
-        return Found::At(0);
+        return Some(0);
     }
-    match tone_index(s, st, n) {
-        Found::At(p) => Found::At(p + 1),
-        Found::Nothing => Found::Nothing,
-    }
+    let p = tone_index(s, st, n)?;
+    Some(p + 1)
 }
 
 // The place of the row of accent a, tone t and place p of what stood before.
 fn row_place(st: Sheet, a: usize, t: usize, p: usize) -> usize
-    requires { Roomy st × (a < st.accents) × (t < st.tones) × (p ≤ st.tones) }
+    requires { (a < st.accents) × (t < st.tones) × (p ≤ st.tones) }
     ensures { (result ≡ row_place (shown st) a t p) × (result < 576) }
 {
     (a * st.tones + t) * (st.tones + 1) + p
@@ -89,7 +90,7 @@ fn row_place(st: Sheet, a: usize, t: usize, p: usize) -> usize
 
 // The list number of that row, at a phrase's end or not.
 fn list_number(s: &[u8], st: Sheet, a: usize, t: usize, p: usize, c: Context) -> u8
-    requires { Roomy st × (a < st.accents) × (t < st.tones) × (p ≤ st.tones) }
+    requires { (a < st.accents) × (t < st.tones) × (p ≤ st.tones) }
     ensures { result ≡ byte_at s.now (row_at (shown st) (row_place (shown st) a t p) + final_place c) }
 {
     let row = row_place(st, a, t, p);
@@ -101,36 +102,25 @@ fn list_number(s: &[u8], st: Sheet, a: usize, t: usize, p: usize, c: Context) ->
 }
 
 // The offset of the list with a number, of at most as many as there are.
-fn list_place(st: Sheet, number: u8) -> Found
-    requires { Roomy st × (number ≤ st.lists) }
+fn list_place(st: Sheet, number: u8) -> Option<usize>
+    requires { number ≤ st.lists }
     ensures { Placed (shown st) number result }
 {
-    let at = st.listat;
     if number == 0 {
-        return Found::Nothing;
+        return None;
     }
-    let i = number as usize - 1;
-    Found::At(at[i] as usize)
+    Some(usize::from(st.listat[usize::from(number) - 1]))
 }
 
 // The offset of the list that a context takes in a sheet that loads, or none: the row by position, and
 // of its two lists the one for this place in the phrase.
-pub fn look_sheet(s: &[u8], st: Sheet, c: Context) -> Found
+pub fn look_sheet(s: &[u8], st: Sheet, c: Context) -> Option<usize>
     requires { ReadFrom s.now st }
     ensures { Looks s.now (shown st) c result }
 {
-    let accent = accent_index(s, st, c.accent);
-    let tone = tone_index(s, st, c.tone);
-    let prev = prev_index(s, st, c.prev);
-    let Found::At(a) = accent else {
-        return Found::Nothing;
-    };
-    let Found::At(t) = tone else {
-        return Found::Nothing;
-    };
-    let Found::At(p) = prev else {
-        return Found::Nothing;
-    };
+    let a = accent_index(s, st, c.accent)?;
+    let t = tone_index(s, st, c.tone)?;
+    let p = prev_index(s, st, c.prev)?;
     list_place(st, list_number(s, st, a, t, p, c))
 }
 
@@ -153,17 +143,17 @@ fn ten_at(s: &[u8], o: usize) -> [f32; 10]
 }
 
 // Puts the components of the list at o into tone t's slots.
-fn fill(s: &[u8], o: usize, t: usize, weights: &mut [f32], points: &mut [f32])
-    requires { (t < 8) × ShortList s.now o × Slots weights.old points.old }
-    ensures { InSlots t (carried_from s.now o (byte_at s.now (o + sheet_list_count)))
-        weights.old points.old weights.new points.new }
+fn fill(s: &[u8], o: usize, t: usize, slots: &mut Slots)
+    requires { (t < 8) × ShortList s.now o }
+    ensures { slots.new ≡ put_in t (carried_from s.now o (byte_at s.now (o + sheet_list_count))) slots.old }
 {
-    let count = byte_at(s, o, layout::SHEET_LIST_COUNT) as usize;
+    let count = usize::from(byte_at(s, o, layout::SHEET_LIST_COUNT));
+    // Stays: j is a component's place in the list and in the slots, and no list is gone over.
     for j in 0..count {
         let at = o + layout::SHEET_LIST_SIZE + layout::SHEET_COMPONENT_SIZE * j;
         let ten = ten_at(s, at + layout::SHEET_COMPONENT_POINTS);
-        weights[4 * t + j] = f32_at(s, at, layout::SHEET_COMPONENT_WEIGHT);
-        tonekit_inventory::put_points(points, 40 * t + 10 * j, ten);
+        slots.weights[4 * t + j] = f32_at(s, at, layout::SHEET_COMPONENT_WEIGHT);
+        tonekit_inventory::put_points(&mut slots.points, 40 * t + 10 * j, ten);
     }
 }
 
@@ -179,109 +169,58 @@ fn name_at(s: &[u8], o: usize) -> Named
     }
 }
 
-// Puts the list that a lookup found into tone t's slots, and hands back its name; nothing where it
-// found none.
-fn put_list(s: &[u8], list: Found, t: usize, weights: &mut [f32], points: &mut [f32]) -> Named
-    requires { (t < 8) × ListThere s.now list × Slots weights.old points.old }
-    ensures { (result ≡ named_of (given_of (told s.now list)))
-        × InSlots t (given_of (told s.now list))
-        weights.old points.old weights.new points.new }
-{
-    match list {
-        Found::At(o) => {
-            fill(s, o, t, weights, points);
-            name_at(s, o)
-        }
-        Found::Nothing => tonekit_inventory::no_name(),
+impl Held for HeldSheet {
+    ghost source = { λ s h. source_in s h.sheet };
+
+    ghost read = { λ s h. ReadFrom s h.sheet };
+
+    ghost loads = { load_source };
+
+    fn load(bytes: &[u8]) -> Result<HeldSheet, Rejection> {
+        let loaded = tonekit_sheet_read::load_sheet(bytes)?;
+        Ok(HeldSheet {
+            sheet: loaded.sheet,
+        })
     }
-}
 
-// The inventory with tone t of a sheet, whose record stands at o, and its list's name.
-fn with_sheet_tone(i: Inventory, t: usize, s: &[u8], o: usize, name: Named) -> Inventory
-    requires { (t < 8) × (o < 65536) }
-    ensures { result ≡ with_tone t (byte_at s.now (o + own_number))
-        (f32_at s.now (o + sheet_tone_prior)) (region_at s.now (o + sheet_tone_region)) name i }
-{
-    tonekit_inventory::with_tone(
-        i,
-        t,
-        byte_at(s, o, layout::OWN_NUMBER),
-        f32_at(s, o, layout::SHEET_TONE_PRIOR),
-        tonekit_inventory::region_at(s, o + layout::SHEET_TONE_REGION),
-        name,
-    )
-}
+    fn tones(&self, _bytes: &[u8]) -> usize {
+        self.sheet.tones
+    }
 
-// The listings of all tones of a sheet, in a context whose tone is not read; weights and points hold
-// zeros before, and the components in their slots after. The sheet is one that was read from s.
-fn listings(s: &[u8], st: Sheet, c: Context, weights: &mut [f32], points: &mut [f32]) -> Inventory
-    requires { ReadFrom s.now st × Blank weights.old points.old }
-    ensures { Lists (source_of_sheet s.now (shown st)) c result weights.new
-        points.new }
-{
-    let mut i = tonekit_inventory::no_inventory(st.tones);
-    for t in 0..st.tones {
+    fn tone(&self, bytes: &[u8], t: usize) -> ToneEntry {
         let o = layout::sheet_tone_at(t);
-        let here = Context {
-            accent: c.accent,
-            tone: byte_at(s, o, layout::OWN_NUMBER),
-            prev: c.prev,
-            last: c.last,
-        };
-        let name = put_list(s, look_sheet(s, st, here), t, weights, points);
-        let next = with_sheet_tone(i, t, s, o, name);
-        i = next;
-    }
-    i
-}
-
-// Whether a sheet holds an accent, and its tolerances.
-fn accent_held(s: &[u8], st: Sheet, n: u8) -> Graded
-    requires { Roomy st }
-    ensures { result ≡ graded_of (accent_in (source_of_sheet s.now (shown st)).accents n) }
-{
-    match accent_index(s, st, n) {
-        Found::At(a) => {
-            let o = layout::sheet_accent_at(st.tones, a);
-            Graded {
-                held: true,
-                tolerance: tonekit_inventory::tolerance_at(s, o + layout::SHEET_ACCENT_CONTOUR),
-            }
+        ToneEntry {
+            number: byte_at(bytes, o, layout::OWN_NUMBER),
+            prior: f32_at(bytes, o, layout::SHEET_TONE_PRIOR),
+            region: tonekit_inventory::region_at(bytes, o + layout::SHEET_TONE_REGION),
+            count: 0,
+            owner: 0,
+            form: 0,
+            label: 0,
         }
-        Found::Nothing => tonekit_inventory::not_graded(),
     }
-}
 
-// Whether a sheet holds the tone that stood before, or there was none.
-fn prev_held(s: &[u8], st: Sheet, prev: u8) -> bool
-    requires { Roomy st }
-    ensures { result ≡ (eqb prev 0 || tone_in (source_of_sheet s.now (shown st)).tones prev) }
-{
-    if prev == 0 {
-        return true;
+    fn holds_tone(&self, bytes: &[u8], number: u8) -> bool {
+        tone_index(bytes, self.sheet, number).is_some()
     }
-    match tone_index(s, st, prev) {
-        Found::At(_) => true,
-        Found::Nothing => false,
-    }
-}
 
-// What a station with a sheet gathers for a context, of which the tone is not read. Weights and points
-// hold zeros before, and the components in their slots after. The sheet is one that was read from s.
-pub fn gather(s: &[u8], st: Sheet, c: Context, weights: &mut [f32], points: &mut [f32]) -> Gathered
-    requires { ReadFrom s.now st × Blank weights.old points.old }
-    ensures { Gathers (source_of_sheet s.now (shown st)) c result weights.new
-        points.new }
-{
-    let g = accent_held(s, st, c.accent);
-    let tolerance = g.tolerance;
-    let inventory = listings(s, st, c, weights, points);
-    Gathered {
-        accent: g.held,
-        prev: prev_held(s, st, c.prev),
-        temperature: f32_at(s, 0, layout::SETTINGS_TEMPERATURE),
-        threshold: f32_at(s, 0, layout::SETTINGS_THRESHOLD),
-        tolerance,
-        inventory,
+    fn tolerance(&self, bytes: &[u8], number: u8) -> Option<Tolerance> {
+        let a = accent_index(bytes, self.sheet, number)?;
+        let o = layout::sheet_accent_at(self.sheet.tones, a);
+        Some(tonekit_inventory::tolerance_at(bytes, o + layout::SHEET_ACCENT_CONTOUR))
+    }
+
+    fn put(&self, bytes: &[u8], c: Context, t: usize, slots: &mut Slots) -> Named {
+        match look_sheet(bytes, self.sheet, c) {
+            Some(o) => {
+                fill(bytes, o, t, slots);
+                name_at(bytes, o)
+            }
+            None => tonekit_inventory::no_name(),
+        }
+    }
+
+    fn settings(&self, bytes: &[u8]) -> Settings {
+        tonekit_inventory::settings_at(bytes)
     }
 }

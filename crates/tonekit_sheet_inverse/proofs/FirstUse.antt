@@ -1,37 +1,19 @@
 -- The lists of a sheet are those of first use along its rows, in their order, and each row's lists have the numbers that it names. Assumes nothing.
-use Prim.Native.Nat.{ℕ, zero, suc, ◌+◌, ◌-◌, ◌≤◌, ◌<◌}
-use mathlib.Core.Path.{◌≡◌, refl, sym, ap, ◌∙◌}
-use mathlib.Core.Logic.{◌⊎◌, ⊎_elim}
-use mathlib.Core.Bool.{true, false}
-use mathlib.Core.List.{List, [], ◌∷◌, ◌++◌}
+use Rattle.std.proofs.Common.{ℕ, zero, suc, ◌+◌, ◌-◌, ◌≤◌, ◌<◌, max, ◌≡◌, refl, sym, ap, ◌∙◌, ◌⊎◌, ⊎_elim, true, false, List, [], ◌∷◌, ◌++◌, arith, ltb, length, get_or, length-append, ltb-true, ltb-false}
 use mathlib.Core.Option.{Option}
-use native.Mathlib.Omega.{arith}
-use lib.Dec.{ltb}
-use lib.ListN.{length, get_or, length-append, get_or-append}
+use lib.ListN.{get_or-append}
 use lib.Seq.{get_or-append_seam}
-use borrow.Author.Tests.{ltb-true, ltb-false, lt-ltb, le-ltb}
 use Rattle.tonekit_core.specs.Loop.{range, range_done}
 use Rattle.tonekit_core.proofs.LoopLaws.{range_keeps}
 use Rattle.tonekit_core.proofs.Split.{split}
 use Rattle.tonekit_expect.specs.Source.{Carried}
 use Rattle.tonekit_sheet.specs.Number.{seen_in, place_in, noted, number_in}
-use Rattle.tonekit_sheet.specs.Reader.{Sst, most}
+use Rattle.tonekit_sheet.specs.Reader.{Sst}
 use Rattle.tonekit_sheet.specs.FromSheet.{list_numbered}
 use Rattle.tonekit_sheet_laws.proofs.Loops.{range_last}
 use Rattle.tonekit_sheet_laws.proofs.Numbers.{seen_here, place_below, place_get, Once, place_once}
 use Rattle.tonekit_sheet_inverse.proofs.Order.{first_list, final_list, most_turn, greatest, Ordered}
 use Rattle.tonekit_sheet_inverse.proofs.Pieces.{content_at}
-
--- ---- the greater of two
-module _ (m n : ℕ) where
-  pub most_left : m ≤ most m n
-  most_left = split (ltb m n) (λ t. rw t (omega (arith, ltb-true m n t))) (λ t. rw t (omega arith))
-
-  pub most_right : n ≤ most m n
-  most_right = split (ltb m n) (λ t. rw t (omega arith)) (λ t. rw t (omega (arith, ltb-false m n t)))
-
-  pub most_bound : (b : ℕ) → m ≤ b → n ≤ b → most m n ≤ b
-  most_bound b h g = split (ltb m n) (λ t. rw t g) (λ t. rw t h)
 
 -- ---- the greatest number along the rows
 module _ (s : List ℕ) (st : Sst) where
@@ -40,7 +22,7 @@ module _ (s : List ℕ) (st : Sst) where
   grows (suc k) r =
       let e : r + suc k ≡ r + k + 1 = omega arith in
       rw (e, range_last (most_turn s st) (r + k) 0)
-      (omega (arith, grows k r, most_left (greatest s st (r + k)) (first_list s st (r + k)), most_left (most (greatest s st (r + k)) (first_list s st (r + k))) (final_list s st (r + k))))
+      (omega (arith, grows k r))
 
   -- it is at least each that a row names
   named_below : (r n : ℕ) → r < st.rows → (first_list s st r ≡ n) ⊎ (final_list s st r ≡ n) → n ≤ greatest s st st.rows
@@ -50,8 +32,8 @@ module _ (s : List ℕ) (st : Sst) where
       let b = final_list s st r in
       let k = st.rows - (r + 1) in
       let e : r + 1 + k ≡ st.rows = omega arith in
-      let g : most (most m a) b ≤ greatest s st st.rows = rw (range_last (most_turn s st) r 0, e) at (grows k (r + 1)) in
-      ⊎_elim (λ q. omega (arith, most_right m a, most_left (most m a) b)) (λ q. omega (arith, most_right (most m a) b)) w
+      let g : max (max m a) b ≤ greatest s st st.rows = rw (range_last (most_turn s st) r 0, e) at (grows k (r + 1)) in
+      ⊎_elim (λ q. omega arith) (λ q. omega arith) w
 
   -- so it is the count of the lists
   greatest_is : Ordered s st → greatest s st st.rows ≤ length st.lists → greatest s st st.rows ≡ length st.lists
@@ -112,14 +94,17 @@ module _ (s : List ℕ) (st : Sst) (different : (i j : ℕ) → j < i → i < le
       (λ t. split (ltb j i) (λ u. absurd (different i j (ltb-true j i u) c f)) (λ u. omega (arith, ltb-false i j t, ltb-false j i u)))
 
   -- one more lookup: a list that was named before, or the next
-  noted_list : (m n : ℕ) → n ≤ m + 1 → n ≤ length st.lists → noted (contents s st m) (list_numbered s st n) ≡ contents s st (most m n)
+  noted_list : (m n : ℕ) → n ≤ m + 1 → n ≤ length st.lists → noted (contents s st m) (list_numbered s st n) ≡ contents s st (max m n)
   unfolding noted contents
-  noted_list m zero h g = rw (le-ltb m 0 (omega arith))
+  noted_list m zero h g = let q : max m 0 ≡ m = omega arith in rw q
   noted_list m (suc i) h g =
       split (ltb i m)
-      (λ t. let b : i < m = ltb-true i m t in rw (contents_seen m i b, le-ltb m (suc i) (omega arith)))
+      (λ t. let b : i < m = ltb-true i m t in
+      let q : max m (suc i) ≡ m = omega arith in
+      rw (contents_seen m i b, q))
       (λ t. let e : i ≡ m = omega (arith, ltb-false i m t) in
-      rw (e, contents_new m (omega arith), lt-ltb m (suc m) (omega arith)))
+      let q : max m (suc m) ≡ suc m = omega arith in
+      rw (e, contents_new m (omega arith), q))
 
   -- the number that a lookup's list has among all
   pub number_is : (n : ℕ) → n ≤ length st.lists → number_in (contents s st (length st.lists)) (list_numbered s st n) ≡ n
@@ -144,10 +129,10 @@ module _ (s : List ℕ) (st : Sst) (different : (i j : ℕ) → j < i → i < le
           let m = greatest s st r in
           let a = first_list s st r in
           let b = final_list s st r in
-          let x : noted l (row r 0) ≡ contents s st (most m a) = rw (u.is, first_is r h) (noted_list m a q.first_next q.first_held) in
+          let x : noted l (row r 0) ≡ contents s st (max m a) = rw (u.is, first_is r h) (noted_list m a q.first_next q.first_held) in
           record {
-            is = rw (x, final-is r h, range_last (most_turn s st) r 0) (noted_list (most m a) b q.final_next q.final_held);
-            few = rw (range_last (most_turn s st) r 0) (most_bound (most m a) b (length st.lists) (most_bound m a (length st.lists) u.few q.first_held) q.final_held);
+            is = rw (x, final-is r h, range_last (most_turn s st) r 0) (noted_list (max m a) b q.final_next q.final_held);
+            few = rw (range_last (most_turn s st) r 0) (omega (arith, u.few, q.first_held, q.final_held));
           }
 
       upto_all : Upto st.rows (range (λ r l. noted (noted l (row r 0)) (row r 1)) 0 st.rows [])

@@ -1,10 +1,7 @@
 -- A sheet that loads is the sheet of what it holds: reading and writing are inverse. Assumes nothing.
-use Prim.Native.Nat.{ℕ, ◌+◌, ◌*◌, ◌<◌}
-use mathlib.Core.Path.{◌≡◌, refl, sym, ap, ◌∙◌}
-use mathlib.Core.List.{List, map}
-use native.Mathlib.Omega.{arith}
-use native.Mathlib.Numerals.{add-one}
-use lib.ListN.{length, get_or, length-map}
+use Rattle.std.proofs.lemmas.List.{get_or-map}
+use Rattle.std.proofs.Common.{ℕ, ◌+◌, ◌*◌, ◌<◌, ◌≡◌, refl, sym, ap, ◌∙◌, List, map, arith, add-one, length, get_or}
+use lib.ListN.{length-map}
 use Rattle.tonekit_pack.specs.Pack.{number_at}
 use Rattle.tonekit_core.proofs.Split.{absurd_bool}
 use Rattle.tonekit_expect.specs.Source.{Tone, Accent, settings_at}
@@ -19,7 +16,7 @@ use Rattle.tonekit_sheet_inverse.proofs.Spans.{Spans, one_spans, joined, gather_
 use Rattle.tonekit_sheet_inverse.proofs.Loads.{Loads, loads_whole}
 use Rattle.tonekit_sheet_inverse.proofs.Order.{accent_number_of, first_list, final_list, Ordered, ordered}
 use Rattle.tonekit_sheet_inverse.proofs.Ascending.{number_of, ascending_up}
-use Rattle.tonekit_sheet_inverse.proofs.Look.{map_get, context_at, row_context_lem, look_row}
+use Rattle.tonekit_sheet_inverse.proofs.Look.{context_at, row_context_lem, look_row}
 use Rattle.tonekit_sheet_inverse.proofs.Pieces.{ListIs, settings_spans, tone_spans, accent_spans, row_spans, list_spans, alike}
 use Rattle.tonekit_sheet_inverse.proofs.FirstUse.{content, contents, contents_length, contents_get, number_is, lists_are}
 
@@ -36,7 +33,7 @@ view_at s st = record { settings = settings_at s 0; tones = tones_of s st; accen
 module _ (s : List ℕ) (b : Bytes s) (st : Sst) (e : ℕ) (l : Loads s st e) (o : Ordered s st) where
   -- ---- the view
   accent_number : (i : ℕ) → i < length st.accents → number_of (accents_of s st) i ≡ accent_number_of s st i
-  accent_number i h = ap (λ (a : Accent). a.number) (map_get (accent_at s) st.accents i no_accent h)
+  accent_number i h = ap (λ (a : Accent). a.number) (get_or-map (accent_at s) st.accents i 0 no_accent h)
 
   accents_stand : ascending (accents_of s st) ≡ accents_of s st
   accents_stand =
@@ -73,7 +70,7 @@ module _ (s : List ℕ) (b : Bytes s) (st : Sst) (e : ℕ) (l : Loads s st e) (o
       (gather_spans s (tone_piece (view_at s st)) (λ i. 9 + 15 * i) (length st.tones)
       (λ i h. let t = l.tones i h in
       let x : Spans s (get_or st.tones i 0) (9 + 15 * (i + 1)) (tone_bytes (tone_at s (get_or st.tones i 0))) = tone_spans s b (get_or st.tones i 0) (9 + 15 * (i + 1)) (omega (arith, t.place)) t.kind in
-      rw (map_get (tone_at s) st.tones i no_tone h, ← t.place) x)
+      rw (get_or-map (tone_at s) st.tones i 0 no_tone h, ← t.place) x)
       9 (9 + 15 * length st.tones) refl refl)
 
   accents_span : Spans s (9 + 15 * length st.tones) (rows_from st) (gather (accent_piece (view_at s st)) 0 (length (accents_of s st)))
@@ -84,7 +81,7 @@ module _ (s : List ℕ) (b : Bytes s) (st : Sst) (e : ℕ) (l : Loads s st e) (o
       (λ i h. let a = l.accents i h in
       let x : Spans s (get_or st.accents i 0) (9 + 15 * t + 18 * (i + 1)) (accent_bytes (accent_at s (get_or st.accents i 0))) =
       accent_spans s b (get_or st.accents i 0) (9 + 15 * t + 18 * (i + 1)) (omega (arith, a.place)) a.kind in
-      rw (map_get (accent_at s) st.accents i no_accent h, ← a.place) x)
+      rw (get_or-map (accent_at s) st.accents i 0 no_accent h, ← a.place) x)
       (9 + 15 * t) (rows_from st) (omega arith) refl)
 
   row_span : (r : ℕ) → r < st.rows → Spans s (row_at st r) (row_at st (r + 1)) (row_piece (view_at s st) (contents s st (length st.lists)) r)

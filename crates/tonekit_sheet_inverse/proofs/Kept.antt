@@ -1,37 +1,16 @@
 -- What the sheet reader keeps at every turn: where each record stands, and its kind. Assumes nothing.
-use Prim.Native.Nat.{ℕ, suc, ◌+◌, ◌*◌, ◌≤◌, ◌<◌}
-use mathlib.Core.Path.{◌≡◌, refl, ap, ◌∙◌}
-use mathlib.Core.Bool.{false}
-use mathlib.Core.List.{List, [], ◌∷◌, ◌++◌}
-use native.Mathlib.Omega.{arith}
-use lib.ListN.{length, get_or, length-append, get_or-append}
-use lib.Seq.{get_or-append_seam}
-use lib.Dec.{leb, ltb}
-use borrow.Author.Tests.{leb-true, leb-false, ltb-true, ltb-false}
-use Rattle.tonekit_core.specs.declared.Verdict.TheVariants as verdict
+use Rattle.std.proofs.Common.{ℕ, suc, ◌+◌, ◌*◌, ◌≤◌, ◌<◌, ◌≡◌, refl, ap, ◌∙◌, false, List, [], ◌∷◌, ◌++◌, arith, length, length-append, leb, ltb, leb-true, leb-false, ltb-true, ltb-false, Ok}
 use Rattle.tonekit_bytes.specs.Fields.{byte_at}
 use Rattle.tonekit_pack.specs.Pack.{number_at, holds}
 use Rattle.tonekit_core.proofs.Split.{split}
 use Rattle.tonekit_pack.proofs.Each.{Each, each_snoc}
 use Rattle.tonekit_sheet.specs.Reader.{Sst, rows_due, size_of, body_verdict, added, rows_from, row_at}
 use Rattle.tonekit_sheet_inverse.specs.Place.{list_place, lists_from}
-use Rattle.tonekit_sheet_inverse.proofs.Records.{Complete, rows_done, list_done, Due, settings, tone, accent, row, list, component, finish, tone_number, list_some}
+use Rattle.tonekit_sheet.proofs.Every.{Every, every_snoc}
+use Rattle.tonekit_sheet.proofs.Records.{Complete, rows_done, list_done, Due, settings, tone, accent, row, list, component, finish, tone_number, list_some}
 
 place_none : (s : List ℕ) (o n : ℕ) → n ≡ 0 → list_place s o n ≡ o
 place_none s o n e = rw e
-
--- Q of each entry and its place
-abbrev pub Every : (ℕ → ℕ → Type 0) → List ℕ → Type 0
-Every Q xs = (i : ℕ) → i < length xs → Q i (get_or xs i 0)
-
-snoc_length : (xs : List ℕ) (x : ℕ) → length (xs ++ (x ∷ [])) ≡ suc (length xs)
-snoc_length xs x = omega (arith, length-append xs (x ∷ []))
-
-every_snoc : (Q : ℕ → ℕ → Type 0) (xs : List ℕ) (x : ℕ) → Every Q xs → Q (length xs) x → Every Q (xs ++ (x ∷ []))
-every_snoc Q xs x h p i l =
-    split (ltb i (length xs))
-    (λ t. let b : i < length xs = ltb-true i (length xs) t in rw (get_or-append xs (x ∷ []) 0 i b) (h i b))
-    (λ f. let e : i ≡ length xs = omega (arith, ltb-false i (length xs) f, snoc_length xs x) in rw (e, get_or-append_seam xs x [] 0) p)
 
 -- ---- the records: tone i, accent i behind so many tones, row r, list i and its components
 pub record ToneThere (s : List ℕ) (i o : ℕ) : Type 0 where
@@ -105,7 +84,7 @@ module _ (s : List ℕ) (at : ℕ) (st : Sst) (p : Kept s at st) where
         last_parts = λ i j b. absurd (omega arith);
       }
 
-  after_tone : 17 ≤ st.last → st.last ≤ 18 → byte_at s at ≡ 18 → body_verdict 18 s at st ≡ verdict.Fine → Kept s (at + size_of 18) (added 18 at (byte_at s (at + 6)) st)
+  after_tone : 17 ≤ st.last → st.last ≤ 18 → byte_at s at ≡ 18 → body_verdict 18 s at st ≡ Ok tt → Kept s (at + size_of 18) (added 18 at (byte_at s (at + 6)) st)
   unfolding added size_of
   after_tone a b k v =
       let c = p.no_accents (omega arith) in
@@ -121,7 +100,7 @@ module _ (s : List ℕ) (at : ℕ) (st : Sst) (p : Kept s at st) where
         no_rows = λ q. r;
         no_lists = λ q. l;
         none_due = λ q. p.none_due (omega arith);
-        place = λ q. omega (arith, p.none_due (omega arith), snoc_length st.tones at, place_none s (9 + 15 * length (st.tones ++ (at ∷ [])) + 18 * length st.accents + 6 * st.rows) (length st.lists) l);
+        place = λ q. omega (arith, p.none_due (omega arith), length-append st.tones (at ∷ []), place_none s (9 + 15 * length (st.tones ++ (at ∷ [])) + 18 * length st.accents + 6 * st.rows) (length st.lists) l);
         tones = every_snoc (ToneThere s) st.tones at p.tones (record { place = omega arith; kind = k; least = n.0 });
         tones_once = each_snoc (New s) st.tones at p.tones_once n.1;
         accents = λ i b. absurd (omega arith);
@@ -146,7 +125,7 @@ module _ (s : List ℕ) (at : ℕ) (st : Sst) (p : Kept s at st) where
         no_rows = λ q. r;
         no_lists = λ q. l;
         none_due = λ q. p.none_due (omega arith);
-        place = λ q. omega (arith, p.none_due (omega arith), snoc_length st.accents at, place_none s (9 + 15 * length st.tones + 18 * length (st.accents ++ (at ∷ [])) + 6 * st.rows) (length st.lists) l);
+        place = λ q. omega (arith, p.none_due (omega arith), length-append st.accents (at ∷ []), place_none s (9 + 15 * length st.tones + 18 * length (st.accents ++ (at ∷ [])) + 6 * st.rows) (length st.lists) l);
         tones = p.tones;
         tones_once = p.tones_once;
         accents = every_snoc (AccentThere s (length st.tones)) st.accents at p.accents (record { place = omega arith; kind = k });
@@ -184,12 +163,12 @@ module _ (s : List ℕ) (at : ℕ) (st : Sst) (p : Kept s at st) where
   -- a list behind all components of the one before it
   list_next : 17 ≤ st.last → st.due ≡ 0 → st.rows ≡ rows_due st
       → ((i j : ℕ) → i + 1 ≡ length st.lists → j < byte_at s (list_place s (lists_from st) i + 6) → PartThere s (list_place s (lists_from st) i) j)
-      → byte_at s at ≡ 21 → body_verdict 21 s at st ≡ verdict.Fine → Kept s (at + size_of 21) (added 21 at (byte_at s (at + 6)) st)
+      → byte_at s at ≡ 21 → body_verdict 21 s at st ≡ Ok tt → Kept s (at + size_of 21) (added 21 at (byte_at s (at + 6)) st)
   unfolding added size_of
   list_next l d r whole k v =
       let n = length st.lists in
       let h : at ≡ list_place s (lists_from st) n = omega (arith, p.place l) in
-      let m : length (st.lists ++ (at ∷ [])) ≡ suc n = snoc_length st.lists at in
+      let m : length (st.lists ++ (at ∷ [])) ≡ suc n = omega (arith, length-append st.lists (at ∷ [])) in
       record {
         first = λ q. absurd (omega arith);
         begun = λ q. p.begun l;
@@ -211,7 +190,7 @@ module _ (s : List ℕ) (at : ℕ) (st : Sst) (p : Kept s at st) where
         last_parts = λ i j b c. let e : i ≡ n = omega arith in let f : j + byte_at s (at + 6) < byte_at s (at + 6) = rw (e, ← h) at c in absurd (omega arith);
       }
 
-  after_list : Complete st → byte_at s at ≡ 21 → body_verdict 21 s at st ≡ verdict.Fine → Kept s (at + size_of 21) (added 21 at (byte_at s (at + 6)) st)
+  after_list : Complete st → byte_at s at ≡ 21 → body_verdict 21 s at st ≡ Ok tt → Kept s (at + size_of 21) (added 21 at (byte_at s (at + 6)) st)
   after_list (rows_done z r) k v = list_next (omega arith) (p.none_due (omega arith)) r (λ i j b c. absurd (omega (arith, p.no_lists (omega arith)))) k v
   after_list (list_done z d) k v = list_next (omega arith) d (p.all_rows (omega arith)) (λ i j b c. p.last_parts i j b (omega arith)) k v
 
@@ -246,7 +225,7 @@ module _ (s : List ℕ) (at : ℕ) (st : Sst) (p : Kept s at st) where
             rw e k);
       }
 
-  pub keep : {k : ℕ} → Due st k → byte_at s at ≡ k → body_verdict k s at st ≡ verdict.Fine → (k ≡ 23 → ⊥)
+  pub keep : {k : ℕ} → Due st k → byte_at s at ≡ k → body_verdict k s at st ≡ Ok tt → (k ≡ 23 → ⊥)
       → Kept s (at + size_of k) (added k at (byte_at s (at + 6)) st)
   keep (settings z) k b n = after_settings z k
   keep (tone l u) k b n = after_tone l u k b

@@ -1,12 +1,9 @@
 pub mod Spans
 pub mod Tests
-pub mod Records
-pub mod Turns
 pub mod Kept
 pub mod Loads
 pub mod Order
 pub mod Ascending
-pub mod Rows
 pub mod Look
 pub mod Pieces
 pub mod FirstUse

@@ -1,20 +1,17 @@
 -- What a sheet that loads has: its records one behind the other up to its end, each of its kind, and nothing loose or out of order. Assumes nothing.
-use Prim.Native.Nat.{ℕ, zero, suc, ◌+◌, ◌≤◌, ◌<◌}
-use mathlib.Core.Path.{◌≡◌, refl}
-use mathlib.Core.List.{List}
-use native.Mathlib.Omega.{arith}
-use lib.ListN.{length, get_or}
-use lib.Dec.{eqb, ltb}
-use borrow.Author.Tests.{eqb-true, eqb-false, ltb-true, ltb-false}
+use Rattle.std.proofs.Common.{ℕ, zero, suc, ◌+◌, ◌≤◌, ◌<◌, ◌≡◌, refl, List, arith, length, get_or, eqb, ltb, eqb-true, ltb-true, ltb-false}
+use borrow.Author.Tests.{eqb-false}
+use Rattle.tonekit_core.specs.declared.Refusal.TheVariants.{CutShort}
 use Rattle.tonekit_bytes.specs.Fields.{byte_at}
 use Rattle.tonekit_pack.specs.Pack.{number_at}
 use Rattle.tonekit_core.proofs.Split.{split}
 use Rattle.tonekit_pack.proofs.Numbers.{none_before}
-use Rattle.tonekit_sheet.specs.Reader.{Sst, loaded, rows_due, size_of, added, row_at, start, read_sheet, load_sheet}
+use Rattle.tonekit_sheet.specs.Reader.{Sst, loaded, refused, rows_due, size_of, added, row_at, start, read_sheet, load_sheet}
 use Rattle.tonekit_sheet_inverse.specs.Place.{list_place, lists_from}
-use Rattle.tonekit_sheet_inverse.proofs.Records.{Complete, rows_done, list_done, Due, settings, tone, accent, row, list, component, finish}
-use Rattle.tonekit_sheet_inverse.proofs.Turns.{run, accepted, no_turns, Finished, finished_is, loads_alone}
-use Rattle.tonekit_sheet_inverse.proofs.Kept.{Every, ToneThere, AccentThere, ListThere, PartThere, Kept, keep}
+use Rattle.tonekit_sheet.proofs.Every.{Every}
+use Rattle.tonekit_sheet.proofs.Records.{Complete, rows_done, list_done, closes}
+use Rattle.tonekit_sheet.proofs.Turns.{run, accepted, no_turns, Finished, finished_is, loads_alone}
+use Rattle.tonekit_sheet_inverse.proofs.Kept.{ToneThere, AccentThere, ListThere, PartThere, Kept, keep}
 
 pub record Loads (s : List ℕ) (st : Sst) (e : ℕ) : Type 0 where
   pub begins : byte_at s 0 ≡ 17
@@ -35,15 +32,6 @@ module _ (s : List ℕ) (at : ℕ) (st : Sst) (p : Kept s at st) where
   done : Complete st → (17 ≤ st.last) × (st.due ≡ 0) × (st.rows ≡ rows_due st)
   done (rows_done z r) = (omega arith, p.none_due (omega arith), r)
   done (list_done z d) = (omega arith, d, p.all_rows (omega arith))
-
-  closed : {k : ℕ} → k ≡ 23 → Due st k → Complete st
-  closed q (settings z) = absurd (omega arith)
-  closed q (tone l u) = absurd (omega arith)
-  closed q (accent l u) = absurd (omega arith)
-  closed q (row l u m) = absurd (omega arith)
-  closed q (list c) = absurd (omega arith)
-  closed q (component d) = absurd (omega arith)
-  closed q (finish c) = c
 
   close : byte_at s at ≡ 23 → at < length s → Complete st → Finished s st (at + 1) st (at + 1) → Loads s st (at + 1)
   close k l c f =
@@ -66,15 +54,15 @@ module _ (s : List ℕ) (at : ℕ) (st : Sst) (p : Kept s at st) where
         fine = f;
       }
 
-keeps : (f : ℕ) (s : List ℕ) (at : ℕ) (st fin : Sst) (e : ℕ) → run s f at st ≡ loaded fin e → Kept s at st → Loads s fin e
-keeps zero s at st fin e h p = no_turns s at st fin e h
+keeps : (f : ℕ) (s : List ℕ) (at : ℕ) (st fin : Sst) (e : ℕ) → run s (refused CutShort (length s)) f at st ≡ loaded fin e → Kept s at st → Loads s fin e
+keeps zero s at st fin e h p = no_turns s at st fin CutShort (length s) e h
 keeps (suc f) s at st fin e h p =
-    let a = accepted s f at st fin e h in
+    let a = accepted s (refused CutShort (length s)) f at st fin e h in
     split (eqb (byte_at s at) 23)
     (λ b. let k : byte_at s at ≡ 23 = eqb-true (byte_at s at) 23 b in
     let q = finished_is s st (at + 1) fin e (a.ended k) in
     let g : Finished s st (at + 1) st (at + 1) = rw (q.same, q.ends) (rw (q.same, q.ends) at q) in
-    rw (← q.same, ← q.ends) (close s at st p k a.passes.inside (closed s at st p k a.passes.due) g))
+    rw (← q.same, ← q.ends) (close s at st p k a.passes.inside (closes st k a.passes.due) g))
     (λ b. let n : byte_at s at ≡ 23 → ⊥ = eqb-false (byte_at s at) 23 b in
     keeps f s (at + size_of (byte_at s at)) (added (byte_at s at) at (byte_at s (at + 6)) st) fin e (a.goes n)
     (keep s at st p a.passes.due refl a.passes.body n))

@@ -1,47 +1,34 @@
 -- A lookup by row: in the source that a sheet holds, a row's context gives the lists that the row names. Assumes nothing.
-use Prim.Native.Nat.{ℕ, zero, suc, ◌+◌, ◌≤◌, ◌<◌}
-use mathlib.Core.Path.{◌≡◌, refl, sym, ap, ◌∙◌}
-use mathlib.Core.Bool.{cond}
-use mathlib.Core.List.{List, [], ◌∷◌, map}
-use native.Mathlib.Omega.{arith}
-use native.Mathlib.Numerals.{add-one}
-use lib.Dec.{eqb}
-use lib.ListN.{length, get_or, length-map}
-use borrow.Author.Tests.{eq-eqb, ne_eqb}
+use Rattle.std.proofs.lemmas.List.{get_or-map}
+use Rattle.std.proofs.Common.{ℕ, zero, suc, ◌+◌, ◌≤◌, ◌<◌, ◌≡◌, refl, sym, ap, ◌∙◌, cond, List, map, arith, add-one, eqb, length, get_or, eq-eqb, ne_eqb, Some, None}
+use lib.ListN.{length-map}
 use Rattle.tonekit_core.specs.Loop.{range_to, to_again, to_stop}
 use Rattle.tonekit_bytes.specs.Fields.{byte_at}
 use Rattle.tonekit_pack.specs.Pack.{number_at}
 use Rattle.tonekit_expect.specs.Lookup.{index_turn, index_of}
 use Rattle.tonekit_expect.specs.Source.{Tone}
 use Rattle.tonekit_expect.specs.declared.Context.{Context}
-use Rattle.tonekit_expect.specs.declared.Found.TheVariants as found
 use Rattle.tonekit_sheet.specs.Sheet.{no_tone, no_accent, accent_place, tone_place, prev_place, prev_number, row_context}
 use Rattle.tonekit_sheet.specs.Reader.{Sst, rows_due, row_at, prev_due}
 use Rattle.tonekit_sheet.specs.FromSheet.{tone_at, accent_at, list_numbered, prev_found, look_sheet}
-use Rattle.tonekit_sheet_laws.proofs.RowPlaces.{Places, some_tone, row_places}
+use Rattle.tonekit_sheet.proofs.RowPlaces.{Places, some_tone, row_places}
 use Rattle.tonekit_sheet_inverse.proofs.Loads.{Loads}
 use Rattle.tonekit_sheet_inverse.proofs.Order.{accent_number_of, Ordered}
-use Rattle.tonekit_sheet_inverse.proofs.Rows.{row_back}
+use Rattle.tonekit_sheet.proofs.RowPlaces.{row_back}
 
 -- ---- the place of a number that no record before it has
 module _ (s os : List ℕ) (n i : ℕ) (b : i < length os) (e : number_at s (get_or os i 0) ≡ n) (new : (j : ℕ) → j < i → number_at s (get_or os j 0) ≡ n → ⊥) where
-  searched : (k j : ℕ) → j + k ≡ i → range_to (index_turn s os n) (λ u. found.Nothing) j (length os) 0 ≡ found.At i
+  searched : (k j : ℕ) → j + k ≡ i → range_to (index_turn s os n) (λ u. None) j (length os) 0 ≡ Some i
   searched zero j q =
       let z : j ≡ i = omega arith in
-      rw z (sym (to_stop (index_turn s os n) (λ u. found.Nothing) {a = found.At i} refl b (rw (eq-eqb (number_at s (get_or os i 0)) n e))))
+      rw z (sym (to_stop (index_turn s os n) (λ u. None) {a = Some i} refl b (rw (eq-eqb (number_at s (get_or os i 0)) n e))))
   searched (suc k) j q =
-      sym (to_again (index_turn s os n) (λ u. found.Nothing) {t = 0} refl (omega arith) (rw (ne_eqb (number_at s (get_or os j 0)) n (new j (omega arith)))))
+      sym (to_again (index_turn s os n) (λ u. None) {t = 0} refl (omega arith) (rw (ne_eqb (number_at s (get_or os j 0)) n (new j (omega arith)))))
       ∙ searched k (j + 1) (omega arith)
 
-  pub index_at : index_of s os n ≡ found.At i
+  pub index_at : index_of s os n ≡ Some i
   unfolding index_of
   index_at = searched i 0 (omega arith)
-
--- an entry of a list that was made of another
-pub map_get : {A : Type 0} (f : ℕ → A) (os : List ℕ) (i : ℕ) (d : A) → i < length os → get_or (map f os) i d ≡ f (get_or os i 0)
-map_get f [] i d b = absurd (omega arith)
-map_get f (o ∷ os) zero d b = refl
-map_get f (o ∷ os) (suc i) d b = map_get f os i d (omega arith)
 
 -- the context of row r, by the records that are due there
 abbrev pub context_at : List ℕ → Sst → ℕ → ℕ → Context
@@ -53,13 +40,13 @@ context_at s st r last = record {
 }
 
 module _ (s : List ℕ) (st : Sst) (e : ℕ) (l : Loads s st e) (o : Ordered s st) where
-  accent_at_lem : (i : ℕ) → i < length st.accents → index_of s st.accents (accent_number_of s st i) ≡ found.At i
+  accent_at_lem : (i : ℕ) → i < length st.accents → index_of s st.accents (accent_number_of s st i) ≡ Some i
   accent_at_lem i b = index_at s st.accents (accent_number_of s st i) i b refl (λ j c q. omega (arith, o.accents_up j i c b))
 
-  tone_at_lem : (i : ℕ) → i < length st.tones → index_of s st.tones (number_at s (get_or st.tones i 0)) ≡ found.At i
+  tone_at_lem : (i : ℕ) → i < length st.tones → index_of s st.tones (number_at s (get_or st.tones i 0)) ≡ Some i
   tone_at_lem i b = index_at s st.tones (number_at s (get_or st.tones i 0)) i b refl (λ j c q. l.tones_once j i c b q)
 
-  prev_at : (p : ℕ) → p ≤ length st.tones → prev_found s st (prev_due s st p) ≡ found.At p
+  prev_at : (p : ℕ) → p ≤ length st.tones → prev_found s st (prev_due s st p) ≡ Some p
   prev_at zero b = refl
   prev_at (suc p) b =
       let n = number_at s (get_or st.tones p 0) in
@@ -68,7 +55,7 @@ module _ (s : List ℕ) (st : Sst) (e : ℕ) (l : Loads s st e) (o : Ordered s s
 
   prev_number_lem : (p : ℕ) → p ≤ length st.tones → prev_number (map (tone_at s) st.tones) p ≡ prev_due s st p
   prev_number_lem zero b = refl
-  prev_number_lem (suc p) b = ap (λ (t : Tone). t.number) (map_get (tone_at s) st.tones p no_tone (omega arith))
+  prev_number_lem (suc p) b = ap (λ (t : Tone). t.number) (get_or-map (tone_at s) st.tones p 0 no_tone (omega arith))
 
   places : (r : ℕ) → r < st.rows → Places (length st.accents) (length st.tones) r
   places r b =
@@ -79,7 +66,7 @@ module _ (s : List ℕ) (st : Sst) (e : ℕ) (l : Loads s st e) (o : Ordered s s
   unfolding row_context
   row_context_lem r last b =
       let p = places r b in
-      rw (length-map st.tones (tone_at s), map_get (accent_at s) st.accents (accent_place (length st.tones) r) no_accent p.accent, map_get (tone_at s) st.tones (tone_place (length st.tones) r) no_tone p.tone, prev_number_lem (prev_place (length st.tones) r) p.prev)
+      rw (length-map st.tones (tone_at s), get_or-map (accent_at s) st.accents (accent_place (length st.tones) r) 0 no_accent p.accent, get_or-map (tone_at s) st.tones (tone_place (length st.tones) r) 0 no_tone p.tone, prev_number_lem (prev_place (length st.tones) r) p.prev)
 
   look_placed_lem : (r last : ℕ) → r < st.rows → look_sheet s st (context_at s st r last) ≡ list_numbered s st (byte_at s (row_at st r + cond (eqb last 0) 4 5))
   unfolding look_sheet

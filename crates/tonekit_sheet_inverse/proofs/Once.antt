@@ -1,8 +1,5 @@
 -- No two sheets say the same: sources that agree have one sheet, so two sheets that load and hold sources that agree are equal. Assumes nothing.
-use Prim.Native.Nat.{ℕ}
-use mathlib.Core.Path.{◌≡◌, refl, sym, ap, ◌∙◌}
-use mathlib.Core.Logic.{◌↔◌}
-use mathlib.Core.List.{List}
+use Rattle.std.proofs.Common.{ℕ, ◌≡◌, refl, sym, ap, ◌∙◌, ◌↔◌, List}
 use Rattle.tonekit_expect.specs.Source.{Source}
 use Rattle.tonekit_sheet.specs.Sheet.{sheet}
 use Rattle.tonekit_sheet.specs.Reader.{Sst, loaded, load_sheet}

@@ -1,24 +1,16 @@
 -- What a sheet in which nothing is loose or out of order has: accents go up, each row is the one due, lists are numbered by first use, named, and no two alike. Assumes nothing.
-use Prim.Native.Nat.{ℕ, zero, suc, ◌+◌, ◌-◌, ◌≤◌, ◌<◌}
-use mathlib.Core.Path.{◌≡◌}
-use mathlib.Core.Logic.{◌⊎◌, inl, inr, ⊎_elim}
-use mathlib.Core.Bool.{true, false, not, ◌&&◌, ◌||◌}
-use mathlib.Core.List.{List}
-use native.Mathlib.Omega.{arith}
-use lib.ListN.{length, get_or}
-use lib.Dec.{eqb, leb, ltb}
-use borrow.Author.Tests.{eqb-true, leb-true, ltb-true, not-true}
+use Rattle.std.proofs.Common.{ℕ, zero, suc, ◌+◌, ◌-◌, ◌≤◌, ◌<◌, max, ◌≡◌, ◌⊎◌, inl, inr, ⊎_elim, true, false, not, ◌&&◌, ◌||◌, List, arith, length, get_or, eqb, leb, ltb, eqb-true, leb-true, ltb-true, None}
+use borrow.Author.Tests.{not-true}
 use Rattle.tonekit_core.specs.Loop.{range}
 use Rattle.tonekit_bytes.specs.Fields.{byte_at}
 use Rattle.tonekit_pack.specs.Pack.{number_at, zero_or_held}
 use Rattle.tonekit_core.proofs.Split.{either, both}
 use Rattle.tonekit_pack.proofs.Numbers.{zero_or_at}
-use Rattle.tonekit_expect.specs.declared.Found.TheVariants as found
 use Rattle.tonekit_sheet.specs.Sheet.{accent_place, tone_place, prev_place}
-use Rattle.tonekit_sheet.specs.Reader.{Sst, row_at, loose_row, accent_down, prev_due, row_due, most, row_names, row_wrong, named, same_lists, repeated, list_wrong}
+use Rattle.tonekit_sheet.specs.Reader.{Sst, row_at, loose_row, accent_down, prev_due, row_due, row_names, row_wrong, named, same_lists, repeated, list_wrong}
 use Rattle.tonekit_sheet_laws.proofs.Loops.{range_last}
 use Rattle.tonekit_sheet_inverse.proofs.Tests.{none_failed, range_some, range_no}
-use Rattle.tonekit_sheet_inverse.proofs.Turns.{Finished}
+use Rattle.tonekit_sheet.proofs.Turns.{Finished}
 
 -- the number of accent i, the two list numbers of row r, and the greatest of those before it
 module _ (s : List ℕ) (st : Sst) where
@@ -32,7 +24,7 @@ module _ (s : List ℕ) (st : Sst) where
   final_list r = byte_at s (row_at st r + 5)
 
   abbrev pub most_turn : ℕ → ℕ → ℕ
-  most_turn r m = most (most m (first_list r)) (final_list r)
+  most_turn r m = max (max m (first_list r)) (final_list r)
 
   abbrev pub greatest : ℕ → ℕ
   greatest r = range most_turn 0 r 0
@@ -43,7 +35,7 @@ module _ (s : List ℕ) (st : Sst) where
     pub tone : byte_at s (row_at st r + 2) ≡ number_at s (get_or st.tones (tone_place (length st.tones) r) 0)
     pub prev : byte_at s (row_at st r + 3) ≡ prev_due s st (prev_place (length st.tones) r)
     pub first_next : first_list r ≤ greatest r + 1
-    pub final_next : final_list r ≤ most (greatest r) (first_list r) + 1
+    pub final_next : final_list r ≤ max (greatest r) (first_list r) + 1
     pub first_held : first_list r ≤ length st.lists
     pub final_held : final_list r ≤ length st.lists
 
@@ -60,7 +52,7 @@ module _ (s : List ℕ) (st : Sst) where
     pub lists : (i : ℕ) → i < length st.lists → ListRight i
 
 -- ---- accents
-module _ (s : List ℕ) (st : Sst) (h : accent_down s st ≡ found.Nothing) where
+module _ (s : List ℕ) (st : Sst) (h : accent_down s st ≡ None) where
   up : (j : ℕ) → j < length st.accents → range (λ i before. accent_number_of s st i) 0 j 0 < accent_number_of s st j
   unfolding accent_down
   up j b =
@@ -87,16 +79,16 @@ module _ (s : List ℕ) (st : Sst) (h : accent_down s st ≡ found.Nothing) wher
 
 -- ---- rows
 module _ (s : List ℕ) (st : Sst) where
-  rows_held : loose_row s st ≡ found.Nothing → (r : ℕ) → r < st.rows → (zero_or_held s st.lists (first_list s st r) && zero_or_held s st.lists (final_list s st r)) ≡ true
+  rows_held : loose_row s st ≡ None → (r : ℕ) → r < st.rows → (zero_or_held s st.lists (first_list s st r) && zero_or_held s st.lists (final_list s st r)) ≡ true
   unfolding loose_row
   rows_held h r b =
       none_failed (λ r u. zero_or_held s st.lists (first_list s st r) && zero_or_held s st.lists (final_list s st r)) (λ r u. u) (row_at st) st.rows 0 h r b
 
-  rows_right : row_wrong s st ≡ found.Nothing → (r : ℕ) → r < st.rows → (row_due s st r && row_names s st r (greatest s st r)) ≡ true
+  rows_right : row_wrong s st ≡ None → (r : ℕ) → r < st.rows → (row_due s st r && row_names s st r (greatest s st r)) ≡ true
   unfolding row_wrong
   rows_right h r b = none_failed (λ r m. row_due s st r && row_names s st r m) (most_turn s st) (row_at st) st.rows 0 h r b
 
-  lists_right : list_wrong s st ≡ found.Nothing → (i : ℕ) → i < length st.lists
+  lists_right : list_wrong s st ≡ None → (i : ℕ) → i < length st.lists
       → (eqb (number_at s (get_or st.lists i 0)) (i + 1) && (named s st (i + 1) && not (repeated s st.lists i (get_or st.lists i 0)))) ≡ true
   unfolding list_wrong
   lists_right h i b =
@@ -137,13 +129,13 @@ module _ (s : List ℕ) (st : Sst) where
         let m = both (row_due s st r) (row_names s st r (greatest s st r)) k in
         let a = both (eqb (byte_at s (row_at st r + 1)) (accent_number_of s st (accent_place (length st.tones) r))) _ m.0 in
         let b = both (eqb (byte_at s (row_at st r + 2)) (number_at s (get_or st.tones (tone_place (length st.tones) r) 0))) _ a.1 in
-        let n = both (leb (first_list s st r) (greatest s st r + 1)) (leb (final_list s st r) (most (greatest s st r) (first_list s st r) + 1)) m.1 in
+        let n = both (leb (first_list s st r) (greatest s st r + 1)) (leb (final_list s st r) (max (greatest s st r) (first_list s st r) + 1)) m.1 in
         record {
           accent = eqb-true (byte_at s (row_at st r + 1)) (accent_number_of s st (accent_place (length st.tones) r)) a.0;
           tone = eqb-true (byte_at s (row_at st r + 2)) (number_at s (get_or st.tones (tone_place (length st.tones) r) 0)) b.0;
           prev = eqb-true (byte_at s (row_at st r + 3)) (prev_due s st (prev_place (length st.tones) r)) b.1;
           first_next = leb-true (first_list s st r) (greatest s st r + 1) n.0;
-          final_next = leb-true (final_list s st r) (most (greatest s st r) (first_list s st r) + 1) n.1;
+          final_next = leb-true (final_list s st r) (max (greatest s st r) (first_list s st r) + 1) n.1;
           first_held = at_most_lem (first_list s st r) l.0;
           final_held = at_most_lem (final_list s st r) l.1;
         }

@@ -1,13 +1,7 @@
 -- Each record of a sheet, written anew from what is read there, has the bytes that it was read from. Assumes nothing.
-use Prim.Native.Nat.{ℕ, zero, suc, ◌+◌, ◌*◌, ◌≤◌, ◌<◌}
-use mathlib.Core.Path.{◌≡◌, refl, sym, ap, ◌∙◌}
-use mathlib.Core.Bool.{true}
-use mathlib.Core.List.{List, [], ◌∷◌, ◌++◌, append-nil, append_assoc}
-use native.Mathlib.Omega.{arith}
-use lib.Dec.{eqb, ltb}
-use lib.ListN.{length, get_or, length-append, get_or-append}
+use Rattle.std.proofs.Common.{ℕ, zero, suc, ◌+◌, ◌*◌, ◌≤◌, ◌<◌, ◌≡◌, refl, sym, ap, ◌∙◌, true, List, [], ◌∷◌, ◌++◌, append-nil, append_assoc, arith, eqb, ltb, length, get_or, length-append, eq-eqb, ltb-true, ltb-false}
+use lib.ListN.{get_or-append}
 use lib.Seq.{get_or-append_seam}
-use borrow.Author.Tests.{eq-eqb, ltb-true, ltb-false}
 use Rattle.tonekit_bytes.specs.Fields.{byte_at}
 use Rattle.tonekit_pack.specs.Pack.{number_at}
 use Rattle.tonekit_core.proofs.Split.{split}
@@ -18,7 +12,7 @@ use Rattle.tonekit_sheet.specs.Sheet.{settings_bytes, tone_bytes, accent_bytes, 
 use Rattle.tonekit_sheet.specs.Reader.{list_size, same_lists}
 use Rattle.tonekit_sheet.specs.FromSheet.{tone_at, accent_at, bits_at, carried_at, carried_from}
 use Rattle.tonekit_sheet_inverse.proofs.Spans.{Spans, none_spans, one_spans, joined, half_spans, word_spans}
-use Rattle.tonekit_sheet_inverse.proofs.Tests.{range_from}
+use Rattle.tonekit_sheet_laws.proofs.Loops.{range_all}
 use Rattle.tonekit_sheet_inverse.proofs.Kept.{PartThere}
 
 -- ---- lists of components
@@ -134,5 +128,5 @@ module _ (s : List ℕ) (b : Bytes s) where
   pub alike : (o p : ℕ) → ListIs s o → ListIs s p → content_at s o ≡ content_at s p → same_lists s o p ≡ true
   unfolding same_lists
   alike o p l m c =
-      range_from (λ k. eqb (byte_at s (o + k)) (byte_at s (p + k))) 2 (list_size s o) (omega arith)
+      range_all (λ k. eqb (byte_at s (o + k)) (byte_at s (p + k))) 2 (list_size s o) (omega arith)
       (λ k g h. eq-eqb (byte_at s (o + k)) (byte_at s (p + k)) (byte_alike o p l m c k g h))

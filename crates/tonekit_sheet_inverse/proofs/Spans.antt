@@ -1,12 +1,6 @@
 -- The bytes of an input from one offset to another: one byte, a field, runs one behind the other, all of it. Assumes nothing.
-use Prim.Native.Nat.{ℕ, zero, suc, ◌+◌, ◌-◌, ◌≤◌, ◌<◌}
-use mathlib.Core.Path.{◌≡◌, refl, sym, ap, ◌∙◌}
-use mathlib.Core.List.{List, [], ◌∷◌, ◌++◌}
-use native.Mathlib.Omega.{arith}
-use lib.Dec.{ltb}
-use lib.ListN.{length, length-append, get_or-append}
-use lib.Seq.{get_or-append-add, ext_get_or}
-use borrow.Author.Tests.{ltb-true, ltb-false}
+use Rattle.std.proofs.Common.{ℕ, zero, suc, ◌+◌, ◌-◌, ◌≤◌, ◌<◌, ◌≡◌, refl, sym, ap, ◌∙◌, List, [], ◌∷◌, ◌++◌, arith, ltb, length, length-append, get_or-append-add, ext_get_or, ltb-true, ltb-false}
+use lib.ListN.{get_or-append}
 use Rattle.tonekit_bytes.specs.Fields.{byte_at, u16_at, u32_at, le16, le32}
 use Rattle.tonekit_core.proofs.Split.{split}
 use Rattle.tonekit_sheet.specs.Agree.{Bytes}

@@ -1,26 +1,17 @@
 -- Loops of tests: what a loop that found no fault has tested, what a loop that found one has met. Assumes nothing.
-use Prim.Native.Nat.{ℕ, zero, suc, ◌+◌, ◌≤◌, ◌<◌}
-use mathlib.Core.Path.{◌≡◌, refl, sym, ◌∙◌}
-use mathlib.Core.Bool.{Bool, true, false, cond, ◌&&◌, ◌||◌}
-use native.Mathlib.Omega.{arith}
-use lib.Dec.{eqb}
-use borrow.Author.Tests.{eqb-true, eqb-false}
+use Rattle.std.proofs.Common.{ℕ, zero, suc, ◌+◌, ◌≤◌, ◌<◌, ◌≡◌, sym, ◌∙◌, Bool, true, false, cond, ◌||◌, arith, eqb, eqb-true, Option, Some, None}
+use borrow.Author.Tests.{eqb-false}
 use Rattle.tonekit_core.specs.Loop.{Turn, next, stop, range, range_done, range_to, to_again, to_stop}
 use Rattle.tonekit_core.proofs.LoopLaws.{range_keeps}
 use Rattle.tonekit_core.proofs.Split.{split, absurd_bool, either}
-use Rattle.tonekit_expect.specs.declared.Found.{Found}
-use Rattle.tonekit_expect.specs.declared.Found.TheVariants as found
 use Rattle.tonekit_sheet_laws.proofs.Loops.{range_last, range_any}
-
-pub not_nothing : {P : Type 0} (o : ℕ) → found.At o ≡ found.Nothing → P
-not_nothing o h = let z : ◌≡◌ {A = ℕ} 0 1 = cc in absurd (omega arith)
 
 -- a test at each turn, of a state that each turn changes; the first that fails is found
 module _ {S : Type 0} (t : ℕ → S → Bool) (g : ℕ → S → S) (o : ℕ → ℕ) (n : ℕ) (m : S) where
-  abbrev turn : ℕ → S → Turn S Found
-  turn i u = cond (t i u) (next (g i u)) (stop (found.At (o i)))
+  abbrev turn : ℕ → S → Turn S (Option ℕ)
+  turn i u = cond (t i u) (next (g i u)) (stop (Some (o i)))
 
-  went : (k i : ℕ) → i + k ≡ n → range_to turn (λ u. found.Nothing) i n (range g 0 i m) ≡ found.Nothing
+  went : (k i : ℕ) → i + k ≡ n → range_to turn (λ u. None) i n (range g 0 i m) ≡ None
       → (j : ℕ) → i ≤ j → j < n → t j (range g 0 j m) ≡ true
   went zero i e h j a b = absurd (omega arith)
   went (suc k) i e h j a b =
@@ -28,12 +19,12 @@ module _ {S : Type 0} (t : ℕ → S → Bool) (g : ℕ → S → S) (o : ℕ �
       (λ w. split (eqb i j)
       (λ q. rw (← eqb-true i j q) w)
       (λ q. let ne : i ≡ j → ⊥ = eqb-false i j q in
-      let r = to_again turn (λ u. found.Nothing) h (omega arith) (rw w) in
+      let r = to_again turn (λ u. None) h (omega arith) (rw w) in
       went k (i + 1) (omega arith) (rw (range_last g i m) r) j (omega arith) b))
-      (λ w. not_nothing (o i) (to_stop turn (λ u. found.Nothing) h (omega arith) (rw w)))
+      (λ w. let e : Some (o i) ≡ None = to_stop turn (λ u. None) h (omega arith) (rw w) in absurd cc)
 
   -- none failed
-  pub none_failed : range_to turn (λ u. found.Nothing) 0 n m ≡ found.Nothing → (j : ℕ) → j < n → t j (range g 0 j m) ≡ true
+  pub none_failed : range_to turn (λ u. None) 0 n m ≡ None → (j : ℕ) → j < n → t j (range g 0 j m) ≡ true
   none_failed h j b = went n 0 (omega arith) (rw (range_done g 0 0 m (omega arith)) h) j (omega arith) b
 
 -- the turn at which a test passed, and a test that none passed
@@ -45,10 +36,3 @@ range_some t n =
 
 pub range_no : (t : ℕ → Bool) (n : ℕ) → range (λ i hit. hit || t i) 0 n false ≡ false → (i : ℕ) → i < n → t i ≡ false
 range_no t n h i b = split (t i) (λ e. absurd_bool (sym h ∙ range_any t n i b e)) (λ e. e)
-
--- every test from lo on passed
-pub range_from : (t : ℕ → Bool) (lo hi : ℕ) → lo ≤ hi → ((i : ℕ) → lo ≤ i → i < hi → t i ≡ true) → range (λ i ok. ok && t i) lo hi true ≡ true
-range_from t lo hi l h =
-    (range_keeps (λ (i : ℕ) (ok : Bool). ok && t i) (λ (j : ℕ) (ok : Bool). (lo ≤ j) × (ok ≡ true)) lo hi true l
-    (λ j ok b p. (omega (arith, p.0), rw (p.1, h j p.0 b)))
-    (omega arith, refl)).1

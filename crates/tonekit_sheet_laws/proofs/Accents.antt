@@ -1,12 +1,6 @@
 -- The reader goes through the accents of a sheet. Assumes nothing.
-use Prim.Native.Nat.{ℕ, zero, suc, ◌+◌, ◌≤◌, ◌<◌}
-use mathlib.Core.Path.{◌≡◌, refl, sym, ◌∙◌}
-use mathlib.Core.Bool.{true, not}
-use mathlib.Core.List.{List}
-use native.Mathlib.Omega.{arith}
-use lib.Dec.{leb}
-use lib.ListN.{length, get_or}
-use borrow.Author.Tests.{ne_eqb, lt-leb}
+use Rattle.std.proofs.Common.{ℕ, zero, suc, ◌+◌, ◌≤◌, ◌<◌, ◌≡◌, refl, sym, ◌∙◌, true, not, List, arith, leb, length, get_or, ne_eqb}
+use borrow.Author.Tests.{lt-leb}
 use Rattle.tonekit_pack.specs.Ranges.{tolerances_fine}
 use Rattle.tonekit_pack.specs.Pack.{number_at, holds}
 use Rattle.tonekit_expect.specs.Source.{Accent, Source}

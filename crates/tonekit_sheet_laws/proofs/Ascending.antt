@@ -1,13 +1,7 @@
 -- The accents of a sheet: those held, each once, ascending by number, and no more than are held. Assumes nothing.
-use Prim.Native.Nat.{ℕ, zero, suc, ◌+◌, ◌≤◌, ◌<◌}
-use mathlib.Core.Path.{◌≡◌, refl, sym, ap, ◌∙◌}
-use mathlib.Core.Logic.{◌⊎◌, inl, inr, ⊎_elim}
-use mathlib.Core.List.{List, [], ◌∷◌}
+use Rattle.std.proofs.Common.{ℕ, zero, suc, ◌+◌, ◌≤◌, ◌<◌, ◌≡◌, refl, sym, ap, ◌∙◌, ◌⊎◌, inl, inr, ⊎_elim, List, [], ◌∷◌, arith, eqb, ltb, length, get_or, eq-eqb, ne_eqb, eqb-true, ltb-true, ltb-false}
 use mathlib.Core.Option.{Option, none, some}
-use native.Mathlib.Omega.{arith}
-use lib.Dec.{eqb, ltb}
-use lib.ListN.{length, get_or}
-use borrow.Author.Tests.{eq-eqb, ne_eqb, eqb-true, eqb-false, ltb-true, ltb-false}
+use borrow.Author.Tests.{eqb-false}
 use Rattle.tonekit_core.proofs.Split.{split}
 use Rattle.tonekit_expect.specs.Source.{Accent, accent_in}
 use Rattle.tonekit_sheet.specs.Sheet.{or_skip, asc_from, ascending, no_accent}
@@ -15,12 +9,6 @@ use Rattle.tonekit_sheet.specs.Sheet.{or_skip, asc_from, ascending, no_accent}
 pub by_option : {A : Type 0} {P : Type 0} (o : Option A) → (o ≡ none → P) → ((a : A) → o ≡ some a → P) → P
 by_option none f g = f refl
 by_option (some a) f g = g a refl
-
-pub not_some : {A : Type 0} {P : Type 0} (a : A) → none ≡ some a → P
-not_some a h = let z : ◌≡◌ {A = ℕ} 0 1 = cc in absurd (omega arith)
-
-some_is : {A : Type 0} (a b : A) → some a ≡ some b → a ≡ b
-some_is a b h = cc
 
 -- ---- the accent of a number is one of those held, and has the number
 pub record At (accents : List Accent) (n : ℕ) (a : Accent) : Type 0 where
@@ -31,10 +19,10 @@ pub record At (accents : List Accent) (n : ℕ) (a : Accent) : Type 0 where
 
 pub accent_at_lem : (accents : List Accent) (n : ℕ) (a : Accent) → accent_in accents n ≡ some a → At accents n a
 unfolding accent_in
-accent_at_lem [] n a h = not_some a h
+accent_at_lem [] n a h = absurd cc
 accent_at_lem (x ∷ more) n a h =
     split (eqb x.number n)
-    (λ e. let q : x ≡ a = some_is x a (rw e at h) in
+    (λ e. let q : x ≡ a = let g = rw e at h in cc in
     record { place = 0; there = omega arith; same = q; number = rw (← q) (eqb-true x.number n e) })
     (λ e. let r = accent_at_lem more n a (rw e at h) in
     record { place = suc r.place; there = omega (arith, r.there); same = r.same; number = r.number })

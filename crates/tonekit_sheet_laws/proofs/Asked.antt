@@ -1,19 +1,11 @@
 -- The rows of a sheet ask only contexts that are held: held accent, held tone, prev a held tone or 0. Assumes nothing.
-use Prim.Native.Nat.{ℕ, zero, suc, ◌≤◌, ◌<◌}
-use mathlib.Core.Path.{◌≡◌, refl}
-use mathlib.Core.Logic.{◌⊎◌, inl, inr}
-use mathlib.Core.Bool.{true}
-use mathlib.Core.List.{List, [], ◌∷◌}
-use native.Mathlib.Omega.{arith}
-use lib.Dec.{eqb}
-use lib.ListN.{length, get_or}
-use borrow.Author.Tests.{eq-eqb, eqb-true}
+use Rattle.std.proofs.Common.{ℕ, zero, suc, ◌≤◌, ◌<◌, ◌≡◌, refl, ◌⊎◌, inl, inr, true, List, [], ◌∷◌, arith, eqb, length, get_or, eq-eqb, eqb-true}
 use Rattle.tonekit_core.proofs.Split.{split, absurd_bool}
 use Rattle.tonekit_expect.specs.Source.{Tone, Source, tone_in}
 use Rattle.tonekit_sheet.specs.Sheet.{no_tone, no_accent, row_count, accent_place, tone_place, prev_place, prev_number, row_context, ascending, view_of, rows_of}
 use Rattle.tonekit_sheet.specs.Agree.{Held}
 use Rattle.tonekit_sheet_laws.proofs.Ascending.{ascending_held}
-use Rattle.tonekit_sheet_laws.proofs.RowPlaces.{row_places}
+use Rattle.tonekit_sheet.proofs.RowPlaces.{row_places}
 
 pub tone_found : (tones : List Tone) (i : ℕ) → i < length tones → tone_in tones (get_or tones i no_tone).number ≡ true
 unfolding tone_in

@@ -1,13 +1,8 @@
 -- A station that was read from the sheet of a source holds what the source holds: settings, tones, accents, and every lookup of a held context. Assumes nothing.
-use Prim.Native.Nat.{ℕ, zero, suc, ◌≤◌, ◌<◌}
-use mathlib.Core.Path.{◌≡◌, refl, ap, ◌∙◌}
-use mathlib.Core.Logic.{⊎_elim}
-use mathlib.Core.List.{List, [], ◌∷◌, map}
-use mathlib.Core.Bool.{true}
+use Rattle.std.proofs.lemmas.List.{get_or-map}
+use Rattle.std.proofs.Common.{ℕ, suc, ◌≤◌, ◌<◌, ◌≡◌, ap, ◌∙◌, ⊎_elim, List, map, true, arith, length, get_or, ext_get_or}
 use mathlib.Core.Option.{some}
-use native.Mathlib.Omega.{arith}
-use lib.ListN.{length, get_or, length-map}
-use lib.Seq.{ext_get_or}
+use lib.ListN.{length-map}
 use Rattle.tonekit_expect.specs.Source.{Accent, Source, settings_at, accent_in, tone_in}
 use Rattle.tonekit_expect.specs.Lookup.{index_of}
 use Rattle.tonekit_expect.specs.declared.Context.{Context}
@@ -20,7 +15,7 @@ use Rattle.tonekit_core.specs.declared.Refusal.TheVariants.{CutShort}
 use Rattle.tonekit_sheet_laws.specs.Place.{up_to, tone_at, accent_at, read_to, last_of, st_of_view, st_of}
 use Rattle.tonekit_sheet_laws.proofs.Placed.{up_to_length, up_to_get}
 use Rattle.tonekit_sheet_laws.proofs.Ascending.{accent_at_lem}
-use Rattle.tonekit_sheet_laws.proofs.RowPlaces.{place, accent_back, tone_back, prev_back}
+use Rattle.tonekit_sheet.proofs.RowPlaces.{place, accent_back, tone_back, prev_back}
 use Rattle.tonekit_sheet_laws.proofs.Asked.{tone_at_lem}
 use Rattle.tonekit_sheet_laws.proofs.Laid.{Laid}
 use Rattle.tonekit_sheet_laws.proofs.Fitting.{ViewFit, view_fit, held_in_order}
@@ -30,17 +25,12 @@ use Rattle.tonekit_sheet_laws.proofs.Lookups.{FoundAt, accent_place_lem, tone_pl
 use Rattle.tonekit_sheet_laws.proofs.Round.{sheet_laid}
 
 -- ---- records read at offsets in order
-get_d_map : {A : Type 0} (f : ℕ → A) (os : List ℕ) (d : A) (i : ℕ) → i < length os → get_or (map f os) i d ≡ f (get_or os i 0)
-get_d_map f [] d i h = absurd (omega arith)
-get_d_map f (o ∷ os) d zero h = refl
-get_d_map f (o ∷ os) d (suc i) h = get_d_map f os d i (omega arith)
-
 all_read : {A : Type 0} (f : ℕ → A) (g : ℕ → ℕ) (l : List A) (d : A) → ((i : ℕ) → i < length l → f (g i) ≡ get_or l i d) → map f (up_to g (length l)) ≡ l
 all_read f g l d h =
     let n : length (map f (up_to g (length l))) ≡ length l = length-map (up_to g (length l)) f ∙ up_to_length g (length l) in
     ext_get_or d (map f (up_to g (length l))) l n
     (λ i b. let c : i < length l = omega (arith, n) in
-    get_d_map f (up_to g (length l)) d i (rw (up_to_length g (length l)) c) ∙ ap f (up_to_get g (length l) i c) ∙ h i c)
+    get_or-map f (up_to g (length l)) i 0 d (rw (up_to_length g (length l)) c) ∙ ap f (up_to_get g (length l) i c) ∙ h i c)
 
 module _ (s : List ℕ) (d : Out) (src : Source) (v : View) (fit : ViewFit src v) (laid : Laid s v (lists_of v)) where
   settings_same : settings_at s 0 ≡ v.settings

@@ -1,9 +1,5 @@
 -- Pieces of bytes one behind the other, where they stand in others. Assumes nothing.
-use Prim.Native.Nat.{ℕ, zero, suc, ◌+◌, ◌-◌, ◌*◌, ◌≤◌, ◌<◌}
-use mathlib.Core.Path.{◌≡◌, ap, ◌∙◌}
-use mathlib.Core.List.{List, [], ◌++◌, append_assoc}
-use native.Mathlib.Omega.{arith}
-use lib.ListN.{length, length-append}
+use Rattle.std.proofs.Common.{ℕ, zero, suc, ◌+◌, ◌-◌, ◌*◌, ◌≤◌, ◌<◌, ◌≡◌, ap, ◌∙◌, List, [], ◌++◌, append_assoc, arith, length, length-append}
 use Rattle.tonekit_bytes.proofs.Stands.{Stands, stands_first, stands_then}
 use Rattle.tonekit_sheet.specs.Gather.{gather, gather_done, gather_step, gather_length}
 

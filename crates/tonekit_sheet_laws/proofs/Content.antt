@@ -1,14 +1,7 @@
 -- A list of a sheet is read back as it was written; lists whose bytes are equal, but for their numbers, are read back as one. Assumes nothing.
-use Prim.Native.Nat.{ℕ, zero, suc, ◌+◌, ◌*◌, ◌≤◌, ◌<◌}
-use mathlib.Core.Path.{◌≡◌, refl, sym, ap, ap₂, ◌∙◌}
-use mathlib.Core.Bool.{cond}
-use mathlib.Core.List.{List, [], ◌∷◌, ◌++◌}
-use native.Mathlib.Omega.{arith}
-use native.Mathlib.Numerals.{add-one}
-use lib.Dec.{eqb, ltb}
-use lib.ListN.{length, get_or, length-append, get_or-append}
-use lib.Seq.{get_or_at, ext_get_or}
-use borrow.Author.Tests.{ltb-true, ltb-false}
+use Rattle.std.proofs.Common.{ℕ, zero, suc, ◌+◌, ◌*◌, ◌≤◌, ◌<◌, ◌≡◌, refl, sym, ap, ap₂, ◌∙◌, cond, List, [], ◌∷◌, ◌++◌, arith, add-one, eqb, ltb, length, get_or, length-append, ext_get_or, ltb-true, ltb-false}
+use lib.ListN.{get_or-append}
+use lib.Seq.{get_or_at}
 use Rattle.tonekit_bytes.specs.Fields.{byte_at, u32_at}
 use Rattle.tonekit_core.proofs.Split.{split}
 use Rattle.tonekit_expect.specs.Source.{Carried, Source}

@@ -1,12 +1,6 @@
 -- The sheets of two sources that fit are equal in every bit exactly when settings, tones, accents and the lookups of all held contexts agree. Assumes nothing.
-use Prim.Native.Nat.{ℕ, zero, suc, ◌≤◌, ◌<◌}
-use mathlib.Core.Path.{◌≡◌, refl, sym, ap, ap₂, ◌∙◌, subst}
-use mathlib.Core.Logic.{◌⊎◌, ◌↔◌}
-use mathlib.Core.Bool.{true}
-use mathlib.Core.List.{List, []}
+use Rattle.std.proofs.Common.{ℕ, zero, suc, ◌≤◌, ◌<◌, ◌≡◌, refl, sym, ap, ap₂, ◌∙◌, subst, ◌⊎◌, ◌↔◌, true, List, [], arith, length}
 use mathlib.Core.Option.{Option}
-use native.Mathlib.Omega.{arith}
-use lib.ListN.{length}
 use Rattle.tonekit_expect.specs.Source.{Tone, Accent, Carried, Source, accent_in, tone_in}
 use Rattle.tonekit_expect.specs.declared.Context.{Context}
 use Rattle.tonekit_sheet.specs.Number.{noted, number_in}
@@ -19,7 +13,7 @@ use Rattle.tonekit_sheet.specs.Fit.{Fit}
 use Rattle.tonekit_sheet_laws.specs.Place.{st_of}
 use Rattle.tonekit_core.proofs.LoopLaws.{range_same}
 use Rattle.tonekit_sheet_laws.proofs.Bytes.{gather_same}
-use Rattle.tonekit_sheet_laws.proofs.RowPlaces.{some_tone}
+use Rattle.tonekit_sheet.proofs.RowPlaces.{some_tone}
 use Rattle.tonekit_sheet_laws.proofs.Asked.{row_held_lem}
 use Rattle.tonekit_sheet_laws.proofs.Round.{round}
 use Rattle.tonekit_sheet_laws.proofs.Back.{read_back, settings_back, tones_back, accents_back, lookups_back}

@@ -1,11 +1,7 @@
 -- A small source that fits, and the bytes of its sheet, by computing. Assumes nothing.
-use Prim.Native.Nat.{ℕ, zero, suc, ◌<◌}
-use mathlib.Core.Path.{◌≡◌, refl, ap, ◌∙◌, subst}
-use mathlib.Core.Bool.{true}
-use mathlib.Core.List.{List, [], ◌∷◌, ◌++◌}
+use Rattle.std.proofs.Common.{ℕ, zero, suc, ◌<◌, ◌≡◌, refl, ap, ◌∙◌, true, [], ◌∷◌, ◌++◌, arith, get_or, replicate}
 use mathlib.Core.Option.{some}
-use native.Mathlib.Omega.{arith}
-use lib.ListN.{get_or, replicate, get_or-replicate}
+use lib.ListN.{get_or-replicate}
 use lib.Ieee.{of_bits, lt, le}
 use Rattle.tonekit_core.specs.Loop.{range, turns}
 use Rattle.tonekit_pack.specs.Ranges.{above_zero, a_share, weight_fine}
@@ -112,9 +108,6 @@ small_lists : lists_of (view_of small) ≡ (flat ∷ []) ∷ []
 unfolding view_of ascending asc_from accent_in lists_of range turns noted seen_in same same_carried same_numbers row_context
 small_lists = refl
 
-some_is : (a b : List Carried) → some a ≡ some b → a ≡ b
-some_is a b h = cc
-
 pub small_fits : Fit small
 unfolding components_in
 small_fits = record {
@@ -127,7 +120,7 @@ small_fits = record {
   few_accents = omega arith;
   accents = accent_fits;
   accents_once = λ i j a b e. omega arith;
-  lists = λ c cs h e. subst (ListFit small) (some_is (flat ∷ []) cs e) flat_list;
+  lists = λ c cs h e. let q : flat ∷ [] ≡ cs = cc in rw (← q) flat_list;
   few_lists = rw small_lists (omega arith);
   few_components = rw small_lists (omega arith);
 }

@@ -1,19 +1,10 @@
 -- What is judged at a sheet's end finds nothing in the sheet of a source that fits: no loose row, nothing out of order. Assumes nothing.
-use Prim.Native.Nat.{ℕ, zero, suc, ◌+◌, ◌*◌, ◌≤◌, ◌<◌}
-use mathlib.Core.Path.{◌≡◌, refl, sym, ap, ◌∙◌}
-use mathlib.Core.Bool.{Bool, true, false, ◌||◌}
-use mathlib.Core.List.{List}
-use native.Mathlib.Omega.{arith}
-use native.Mathlib.Numerals.{add-one}
-use lib.Dec.{eqb}
-use lib.ListN.{length, get_or}
-use borrow.Author.Tests.{eq-eqb, eqb-true, le-leb, lt-ltb}
+use Rattle.std.proofs.Common.{ℕ, zero, suc, ◌+◌, ◌*◌, ◌≤◌, ◌<◌, ◌≡◌, refl, sym, ap, ◌∙◌, Bool, true, false, ◌||◌, List, arith, add-one, eqb, length, get_or, eq-eqb, eqb-true, le-leb, lt-ltb, None}
 use Rattle.tonekit_core.specs.Loop.{next}
 use Rattle.tonekit_bytes.specs.Fields.{byte_at}
 use Rattle.tonekit_pack.specs.Pack.{number_at, zero_or_held}
 use Rattle.tonekit_core.proofs.Split.{split}
 use Rattle.tonekit_expect.specs.Source.{Carried, Source}
-use Rattle.tonekit_expect.specs.declared.Found.TheVariants as found
 use Rattle.tonekit_sheet.specs.Number.{number_in}
 use Rattle.tonekit_sheet.specs.Sheet.{View, no_tone, no_accent, accent_place, tone_place, prev_place, prev_number, rows_of, lists_of}
 use Rattle.tonekit_sheet.specs.Reader.{Sst, Out, loaded, loose_turn, loose_row, accent_turn, accent_down, prev_due, row_due, row_names, row_turn, row_wrong, named, list_size, same_lists, repeated, list_turn, list_wrong, finished}
@@ -61,10 +52,10 @@ module _ (s : List ℕ) (d : Out) (src : Source) (v : View) (fit : ViewFit src v
   number_there x zero e h = zero_or_zero s (list_at v lists) (length lists) x e
   number_there x (suc i) e h = zero_or_one s (list_at v lists) (length lists) x i h ((list_head s d src v fit laid i h).number ∙ add-one i ∙ sym e)
 
-  pub none_loose : loose_row s st ≡ found.Nothing
+  pub none_loose : loose_row s st ≡ None
   unfolding loose_row
   none_loose =
-      to_through (loose_turn s st) (λ u. found.Nothing) (λ r. 0) (rows_of v)
+      to_through (loose_turn s st) (λ u. None) (λ r. 0) (rows_of v)
       (λ r h. rw (
         number_there (byte_at s (row_in st r + 4)) (number_in lists (v.row r 0)) (first_number r h) (listed_first v r h).below,
         number_there (byte_at s (row_in st r + 5)) (number_in lists (v.row r 1)) (final_number r h) (listed_final v r h).below,
@@ -82,11 +73,11 @@ module _ (s : List ℕ) (d : Out) (src : Source) (v : View) (fit : ViewFit src v
   above zero h = (fit.accents 0 h).least
   above (suc i) h = fit.rising i (suc i) (omega arith) h
 
-  pub none_down : accent_down s st ≡ found.Nothing
+  pub none_down : accent_down s st ≡ None
   unfolding accent_down
   none_down =
       rw (up_to_length (accent_at v) (length v.accents))
-      (to_through (accent_turn s st) (λ n. found.Nothing) before (length v.accents)
+      (to_through (accent_turn s st) (λ n. None) before (length v.accents)
       (λ i h. rw (accent_number i h, lt-ltb (before i) (get_or v.accents i no_accent).number (above i h), add-one)))
 
   -- ---- each row is the one due, and its numbers are in order
@@ -127,10 +118,10 @@ module _ (s : List ℕ) (d : Out) (src : Source) (v : View) (fit : ViewFit src v
       let n = row_numbers v r h in
       rw (row_due_lem r h, row_names_lem r h) (ap next (rw (first_number r h, final_number r h, n.first_most) n.final_most))
 
-  pub none_wrong : row_wrong s st ≡ found.Nothing
+  pub none_wrong : row_wrong s st ≡ None
   unfolding row_wrong
   none_wrong =
-      rw (ap length (so_none v)) at (to_through (row_turn s st) (λ m. found.Nothing) (λ r. length (so_far v r)) (rows_of v) row_turn_lem)
+      rw (ap length (so_none v)) at (to_through (row_turn s st) (λ m. None) (λ r. length (so_far v r)) (rows_of v) row_turn_lem)
 
   -- ---- every list has its place as its number, is named, and is equal to none before it
   last_number : (r last n : ℕ) → r < rows_of v → last ≤ 1 → number_in lists (v.row r last) ≡ n → (eqb (byte_at s (row_in st r + 4)) n || eqb (byte_at s (row_in st r + 5)) n) ≡ true
@@ -164,11 +155,11 @@ module _ (s : List ℕ) (d : Out) (src : Source) (v : View) (fit : ViewFit src v
       (λ j l. rw (up_to_get (list_at v lists) (length lists) j (omega arith))
       (split (same_lists s (list_at v lists i) (list_at v lists j)) (λ t. let q : i ≡ j = equal_lists i j h (omega arith) t in absurd (omega arith)) (λ t. t)))
 
-  pub none_unordered : list_wrong s st ≡ found.Nothing
+  pub none_unordered : list_wrong s st ≡ None
   unfolding list_wrong
   none_unordered =
       rw (up_to_length (list_at v lists) (length lists))
-      (to_through (list_turn s st) (λ u. found.Nothing) (λ i. 0) (length lists)
+      (to_through (list_turn s st) (λ u. None) (λ i. 0) (length lists)
       (λ i h. rw (up_to_get (list_at v lists) (length lists) i h, eq-eqb _ _ (list_head s d src v fit laid i h).number, list_named i h, none_repeated i h)))
 
   pub nothing_found : (e : ℕ) → finished s st e ≡ loaded st e

@@ -1,20 +1,12 @@
 -- The lists along the rows: every lookup's list is there, none twice, each by a row; numbers go up by at most 1. Assumes nothing.
-use Prim.Native.Nat.{ℕ, zero, suc, ◌+◌, ◌-◌, ◌≤◌, ◌<◌}
-use mathlib.Core.Path.{◌≡◌, refl, ap}
-use mathlib.Core.Bool.{true}
-use mathlib.Core.List.{List, []}
+use Rattle.std.proofs.Common.{ℕ, zero, suc, ◌+◌, ◌-◌, ◌≤◌, ◌<◌, max, ◌≡◌, refl, ap, true, List, [], arith, add-one, ltb, length, get_or, ltb-true, ltb-false}
 use mathlib.Core.Option.{Option, none, some}
-use native.Mathlib.Omega.{arith}
-use native.Mathlib.Numerals.{add-one}
-use lib.Dec.{ltb}
-use lib.ListN.{length, get_or, get_or-append}
-use borrow.Author.Tests.{ltb-true, ltb-false}
+use lib.ListN.{get_or-append}
 use Rattle.tonekit_core.specs.Loop.{range, range_done}
 use Rattle.tonekit_core.proofs.LoopLaws.{range_keeps}
 use Rattle.tonekit_core.proofs.Split.{split}
 use Rattle.tonekit_expect.specs.Source.{Carried}
 use Rattle.tonekit_sheet.specs.Number.{seen_in, place_in, noted, number_in}
-use Rattle.tonekit_sheet.specs.Reader.{most}
 use Rattle.tonekit_sheet.specs.Sheet.{View, rows_of, note_turn, lists_of}
 use Rattle.tonekit_sheet_laws.proofs.Loops.{range_last}
 use Rattle.tonekit_sheet_laws.proofs.Numbers.{Grows, grows_refl, grows_trans, grows_seen, noted_grows, noted_seen, noted_number, noted_least, noted_most, noted_from, Once, noted_once, place_below, place_get, place_once}
@@ -57,9 +49,9 @@ module _ (v : View) where
   -- the two numbers of row r: each at most 1 more than the greatest before it
   pub record RowNumbers (r : ℕ) : Type 0 where
     pub first : number_in (lists_of v) (v.row r 0) ≤ length (so_far v r) + 1
-    pub first_most : most (length (so_far v r)) (number_in (lists_of v) (v.row r 0)) ≡ length (half v r)
+    pub first_most : max (length (so_far v r)) (number_in (lists_of v) (v.row r 0)) ≡ length (half v r)
     pub final : number_in (lists_of v) (v.row r 1) ≤ length (half v r) + 1
-    pub final_most : most (length (half v r)) (number_in (lists_of v) (v.row r 1)) ≡ length (so_far v (r + 1))
+    pub final_most : max (length (half v r)) (number_in (lists_of v) (v.row r 1)) ≡ length (so_far v (r + 1))
 
   pub row_numbers : (r : ℕ) → r < rows_of v → RowNumbers r
   row_numbers r h =

@@ -1,9 +1,5 @@
 -- What a source that fits has, said of what its sheet is made of. Assumes nothing.
-use Prim.Native.Nat.{ℕ, ◌≤◌, ◌<◌}
-use mathlib.Core.Path.{◌≡◌, sym, ap, ◌∙◌, subst}
-use mathlib.Core.List.{List, []}
-use native.Mathlib.Omega.{arith}
-use lib.ListN.{length, get_or}
+use Rattle.std.proofs.Common.{ℕ, ◌≤◌, ◌<◌, ◌≡◌, sym, ap, ◌∙◌, subst, List, [], arith, length, get_or}
 use Rattle.tonekit_expect.specs.Source.{Accent, Carried, Source, accent_in}
 use Rattle.tonekit_sheet.specs.Sheet.{View, no_tone, no_accent, no_carried, ascending, row_context, view_of, lists_of}
 use Rattle.tonekit_sheet.specs.Fit.{SettingsFit, ToneFit, AccentFit, ListFit, Fit, components_in}

@@ -6,7 +6,6 @@ pub mod Placed
 pub mod Records
 pub mod Laid
 pub mod Ascending
-pub mod RowPlaces
 pub mod Asked
 pub mod Fitting
 pub mod Turns

@@ -1,13 +1,7 @@
 -- The reader goes through the lists of a sheet, each with its components. Assumes nothing.
-use Prim.Native.Nat.{ℕ, zero, suc, ◌+◌, ◌-◌, ◌*◌, ◌≤◌, ◌<◌}
-use mathlib.Core.Path.{◌≡◌, refl, sym, ap, ◌∙◌}
-use mathlib.Core.Bool.{true, false, not, ◌&&◌, ◌||◌}
-use mathlib.Core.List.{List, []}
-use native.Mathlib.Omega.{arith}
-use lib.Dec.{eqb, leb, ltb}
-use lib.ListN.{length, get_or}
+use Rattle.std.proofs.Common.{ℕ, zero, suc, ◌+◌, ◌-◌, ◌*◌, ◌≤◌, ◌<◌, ◌≡◌, refl, sym, ap, ◌∙◌, true, false, not, ◌&&◌, ◌||◌, List, [], arith, eqb, leb, ltb, length, get_or, eq-eqb, ne_eqb, eqb-true, le-leb, lt-ltb, le-ltb, ltb-true}
 use lib.Ieee.{binary32, of_bits}
-use borrow.Author.Tests.{eq-eqb, ne_eqb, eqb-true, eqb-false, le-leb, lt-leb, lt-ltb, le-ltb, ltb-true}
+use borrow.Author.Tests.{eqb-false, lt-leb}
 use Rattle.tonekit_bytes.specs.Fields.{byte_at, f32_at}
 use Rattle.tonekit_pack.specs.Ranges.{weight_fine}
 use Rattle.tonekit_pack.specs.Pack.{holds}
@@ -57,7 +51,7 @@ weight_bits w h = omega (arith, ltb-true w 0x7f80_0000 h)
 module _ (s : List ℕ) (o : ℕ) (c : Carried) (w : ComponentThere s o c) where
   points_fine_lem : ((k : ℕ) → k < 10 → point_fine (f32 (get_or c.points k 0)) ≡ true) → points_fine s (o + 5) ≡ true
   unfolding points_fine
-  points_fine_lem h = range_all (λ k. point_fine (f32_at s (o + 5 + 4 * k))) 0 10 (omega arith) (λ k l. ap (λ (x : ℕ). point_fine (of_bits binary32 x)) (w.points k l) ∙ h k l)
+  points_fine_lem h = range_all (λ k. point_fine (f32_at s (o + 5 + 4 * k))) 0 10 (omega arith) (λ k _ l. ap (λ (x : ℕ). point_fine (of_bits binary32 x)) (w.points k l) ∙ h k l)
 
 module _ (s : List ℕ) (d : Out) (src : Source) (v : View) (fit : ViewFit src v) (laid : Laid s v (lists_of v)) where
   abbrev lists : List (List Carried)

@@ -1,23 +1,15 @@
 -- A lookup by position in a sheet gives what the row's own lookup gave. Assumes nothing.
-use Prim.Native.Nat.{ℕ, zero, suc, ◌+◌, ◌*◌, ◌≤◌, ◌<◌}
-use mathlib.Core.Path.{◌≡◌, refl, sym, ap, ◌∙◌}
-use mathlib.Core.List.{List}
+use Rattle.std.proofs.Common.{ℕ, zero, suc, ◌+◌, ◌*◌, ◌≤◌, ◌<◌, ◌≡◌, refl, sym, ap, ◌∙◌, List, arith, add-one, eqb, length, get_or, eq-eqb, ne_eqb, eqb-true, Some, None}
 use mathlib.Core.Option.{Option, none, some}
-use native.Mathlib.Omega.{arith}
-use native.Mathlib.Numerals.{add-one}
-use lib.Dec.{eqb}
-use lib.ListN.{length, get_or}
-use borrow.Author.Tests.{eq-eqb, ne_eqb, eqb-true, eqb-false}
+use borrow.Author.Tests.{eqb-false}
 use Rattle.tonekit_core.specs.Loop.{range_to, to_again, to_stop}
 use Rattle.tonekit_bytes.specs.Fields.{byte_at}
 use Rattle.tonekit_pack.specs.Pack.{number_at}
 use Rattle.tonekit_core.proofs.Split.{split}
 use Rattle.tonekit_expect.specs.Source.{Carried, Source}
-use Rattle.tonekit_expect.specs.Lookup.{index_turn, index_of}
+use Rattle.tonekit_expect.specs.Lookup.{Found, index_turn, index_of}
 use Rattle.tonekit_expect.proofs.Walk.{index_found}
 use Rattle.tonekit_expect.specs.declared.Context.{Context}
-use Rattle.tonekit_expect.specs.declared.Found.{Found}
-use Rattle.tonekit_expect.specs.declared.Found.TheVariants as found
 use Rattle.tonekit_sheet.specs.Number.{place_in, number_in}
 use Rattle.tonekit_sheet.specs.Sheet.{View, no_tone, no_accent, prev_number, rows_of, lists_of}
 use Rattle.tonekit_sheet.specs.Reader.{Sst, Out}
@@ -26,7 +18,7 @@ use Rattle.tonekit_sheet.specs.FromSheet.{list_numbered, row_place, final_place,
 use Rattle.tonekit_sheet_laws.specs.Place.{up_to, tone_at, accent_at, list_at, read_to}
 use Rattle.tonekit_sheet_laws.proofs.FirstUse.{Listed, listed_first, listed_final}
 use Rattle.tonekit_sheet_laws.proofs.Placed.{up_to_length, up_to_get}
-use Rattle.tonekit_sheet_laws.proofs.RowPlaces.{place_below}
+use Rattle.tonekit_sheet.proofs.RowPlaces.{place_below}
 use Rattle.tonekit_sheet_laws.proofs.Laid.{Laid}
 use Rattle.tonekit_sheet_laws.proofs.Fitting.{ViewFit}
 use Rattle.tonekit_sheet_laws.proofs.Tones.{tone_read}
@@ -37,26 +29,26 @@ use Rattle.tonekit_sheet_laws.proofs.Finished.{first_number, final_number}
 -- ---- a number that a record has is found
 module _ (s os : List ℕ) (n : ℕ) where
   index_from : (k j m : ℕ) → j + k ≡ length os → j ≤ m → m < length os → number_at s (get_or os m 0) ≡ n
-      → (i : ℕ) × (range_to (index_turn s os n) (λ u. found.Nothing) j (length os) 0 ≡ found.At i)
+      → (i : ℕ) × (range_to (index_turn s os n) (λ u. None) j (length os) 0 ≡ Some i)
   index_from zero j m e l h q = absurd (omega arith)
   index_from (suc k) j m e l h q =
       split (eqb (number_at s (get_or os j 0)) n)
-      (λ t. (j, sym (to_stop (index_turn s os n) (λ u. found.Nothing) refl (omega arith) (rw t))))
+      (λ t. (j, sym (to_stop (index_turn s os n) (λ u. None) refl (omega arith) (rw t))))
       (λ t. let ne : number_at s (get_or os j 0) ≡ n → ⊥ = eqb-false _ _ t in
       split (eqb j m)
       (λ z. absurd (ne (rw (eqb-true j m z) q)))
       (λ z. let nm : j ≡ m → ⊥ = eqb-false j m z in
       let r = index_from k (j + 1) m (omega arith) (omega arith) h q in
-      (r.0, sym (to_again (index_turn s os n) (λ u. found.Nothing) refl (omega arith) (rw t)) ∙ r.1)))
+      (r.0, sym (to_again (index_turn s os n) (λ u. None) refl (omega arith) (rw t)) ∙ r.1)))
 
-  pub index_is : (m : ℕ) → m < length os → number_at s (get_or os m 0) ≡ n → (i : ℕ) × (index_of s os n ≡ found.At i)
+  pub index_is : (m : ℕ) → m < length os → number_at s (get_or os m 0) ≡ n → (i : ℕ) × (index_of s os n ≡ Some i)
   unfolding index_of
   index_is m h q = index_from (length os) 0 m (omega arith) (omega arith) h q
 
 -- found at a place, below a count, that has the number
 pub record FoundAt (f : Found) (count : ℕ) (number : ℕ → ℕ) (n : ℕ) : Type 0 where
   pub at : ℕ
-  pub is : f ≡ found.At at
+  pub is : f ≡ Some at
   pub there : at < count
   pub same : number at ≡ n
 
@@ -113,7 +105,7 @@ module _ (s : List ℕ) (d : Out) (src : Source) (v : View) (fit : ViewFit src v
 
   -- the row of a context's places
   pub look_back : (c : Context) (a t p : ℕ) → a < length v.accents → t < length v.tones → p ≤ length v.tones → c.last ≤ 1
-      → look_placed s st c (found.At a) (found.At t) (found.At p) ≡ v.row ((a * length v.tones + t) * (length v.tones + 1) + p) c.last
+      → look_placed s st c (Some a) (Some t) (Some p) ≡ v.row ((a * length v.tones + t) * (length v.tones + 1) + p) c.last
   look_back c a t p la lt lp lc =
       let e = up_to_length tone_at (length v.tones) in
       let r = (a * length v.tones + t) * (length v.tones + 1) + p in

@@ -1,10 +1,6 @@
 -- Loops of which every turn is known: counted, for all, for any, and to their end without a stop. Assumes nothing.
-use Prim.Native.Nat.{ℕ, zero, suc, ◌+◌, ◌-◌, ◌≤◌, ◌<◌}
-use mathlib.Core.Path.{◌≡◌, refl, sym, ◌∙◌}
-use mathlib.Core.Bool.{Bool, true, false, ◌&&◌, ◌||◌}
-use native.Mathlib.Omega.{arith}
-use lib.Dec.{eqb}
-use borrow.Author.Tests.{eqb-true, eqb-false}
+use Rattle.std.proofs.Common.{ℕ, zero, suc, ◌+◌, ◌-◌, ◌≤◌, ◌<◌, ◌≡◌, refl, sym, ◌∙◌, Bool, true, false, ◌&&◌, ◌||◌, arith, eqb, eqb-true}
+use borrow.Author.Tests.{eqb-false}
 use Rattle.tonekit_core.specs.Loop.{Turn, next, turns, range, range_to, to_again, to_ended}
 use Rattle.tonekit_core.proofs.LoopLaws.{range_keeps}
 use Rattle.tonekit_core.proofs.Split.{split, both}
@@ -24,10 +20,12 @@ module _ {S : Type 0} (f : ℕ → S → S) where
       let c : 0 + n ≡ n = omega arith in
       rw (a, b) (last_turn n 0 s ∙ rw c)
 
--- every test passes, and only then does the loop say so
-pub range_all : (t : ℕ → Bool) (lo hi : ℕ) → lo ≤ hi → ((i : ℕ) → i < hi → t i ≡ true) → range (λ i ok. ok && t i) lo hi true ≡ true
+-- every test from lo on passes, and only then does the loop say so
+pub range_all : (t : ℕ → Bool) (lo hi : ℕ) → lo ≤ hi → ((i : ℕ) → lo ≤ i → i < hi → t i ≡ true) → range (λ i ok. ok && t i) lo hi true ≡ true
 range_all t lo hi l h =
-    range_keeps (λ (i : ℕ) (ok : Bool). ok && t i) (λ (j : ℕ) (ok : Bool). ok ≡ true) lo hi true l (λ j ok b e. rw (e, h j b)) refl
+    (range_keeps (λ (i : ℕ) (ok : Bool). ok && t i) (λ (j : ℕ) (ok : Bool). (lo ≤ j) × (ok ≡ true)) lo hi true l
+    (λ j ok b p. (omega (arith, p.0), rw (p.1, h j p.0 b)))
+    (omega arith, refl)).1
 
 pub range_each : (t : ℕ → Bool) (lo hi : ℕ) → lo ≤ hi → range (λ i ok. ok && t i) lo hi true ≡ true → (i : ℕ) → lo ≤ i → i < hi → t i ≡ true
 range_each t lo hi l =

@@ -1,19 +1,11 @@
 -- What is equal in every bit, what is seen and where, and what one more lookup adds to the lists. Assumes nothing.
-use Prim.Native.Nat.{ℕ, zero, suc, ◌+◌, ◌≤◌, ◌<◌}
-use mathlib.Core.Path.{◌≡◌, refl, sym, ap, ◌∙◌}
-use mathlib.Core.Logic.{◌↔◌}
-use mathlib.Core.Bool.{true, false}
-use mathlib.Core.List.{List, [], ◌∷◌, ◌++◌, append_assoc, append-nil}
+use Rattle.std.proofs.Common.{ℕ, zero, suc, ◌+◌, ◌≤◌, ◌<◌, max, ◌≡◌, refl, sym, ap, ◌∙◌, ◌↔◌, true, false, List, [], ◌∷◌, ◌++◌, append_assoc, append-nil, arith, ltb, length, get_or, length-append, ltb-true, ltb-false}
 use mathlib.Core.Option.{Option, none, some}
-use native.Mathlib.Omega.{arith}
-use lib.Dec.{ltb}
-use lib.ListN.{length, get_or, length-append, get_or-append}
+use lib.ListN.{get_or-append}
 use lib.Seq.{get_or-append_seam}
-use borrow.Author.Tests.{ltb-true, ltb-false, lt-ltb, le-ltb}
 use Rattle.tonekit_core.proofs.Split.{split, absurd_bool}
 use Rattle.tonekit_expect.specs.Source.{Carried}
 use Rattle.tonekit_sheet.specs.Number.{same_carried, same, seen_in, place_in, noted, number_in}
-use Rattle.tonekit_sheet.specs.Reader.{most}
 use Rattle.tonekit_sheet.proofs.Same.{carried_is, carried_refl, same_is, same_refl, seen_more, place_more, seen_last, place_last}
 
 -- ---- equal in every bit
@@ -62,9 +54,6 @@ pub grows_place : (v : List Carried) (l m : List (List Carried)) → Grows l m �
 grows_place v l m g h = rw g.is (place_more v l g.more h)
 
 -- ---- one more lookup
-snoc_length : (l : List (List Carried)) (v : List Carried) → length (l ++ (v ∷ [])) ≡ suc (length l)
-snoc_length l v = omega (arith, length-append l (v ∷ []))
-
 pub noted_grows : (l : List (List Carried)) (o : Option (List Carried)) → Grows l (noted l o)
 unfolding noted
 noted_grows l none = grows_refl l
@@ -90,13 +79,13 @@ noted_least l (some v) =
     (λ e. rw e (omega (arith, place_below v l e)))
     (λ e. rw e (omega (arith, place_last v l e)))
 
-pub noted_most : (l : List (List Carried)) (o : Option (List Carried)) → most (length l) (number_in (noted l o) o) ≡ length (noted l o)
+pub noted_most : (l : List (List Carried)) (o : Option (List Carried)) → max (length l) (number_in (noted l o) o) ≡ length (noted l o)
 unfolding number_in noted
-noted_most l none = rw (le-ltb (length l) 0 (omega arith))
+noted_most l none = omega arith
 noted_most l (some v) =
     split (seen_in v l)
-    (λ e. rw (e, le-ltb (length l) (suc (place_in v l)) (omega (arith, place_below v l e))))
-    (λ e. rw (e, place_last v l e, lt-ltb (length l) (suc (length l)) (omega arith)) (sym (snoc_length l v)))
+    (λ e. rw e (omega (arith, place_below v l e)))
+    (λ e. rw (e, place_last v l e) (omega (arith, length-append l (v ∷ []))))
 
 -- no list stands twice
 abbrev pub Once : List (List Carried) → Type 0
@@ -110,14 +99,14 @@ once_snoc l v f h i j a b e =
     split (ltb j (length l))
     (λ q. let j' : j < length l = ltb-true j (length l) q in
     h i j i' j' (sym x ∙ e ∙ get_or-append l (v ∷ []) [] j j'))
-    (λ q. let k : j ≡ length l = omega (arith, ltb-false j (length l) q, snoc_length l v) in
+    (λ q. let k : j ≡ length l = omega (arith, ltb-false j (length l) q, length-append l (v ∷ [])) in
     absurd (not_seen v l f i i' (sym x ∙ e ∙ rw k (get_or-append_seam l v [] [])))))
-    (λ p. let m : i ≡ length l = omega (arith, ltb-false i (length l) p, snoc_length l v) in
+    (λ p. let m : i ≡ length l = omega (arith, ltb-false i (length l) p, length-append l (v ∷ [])) in
     let x : get_or (l ++ (v ∷ [])) i [] ≡ v = rw m (get_or-append_seam l v [] []) in
     split (ltb j (length l))
     (λ q. let j' : j < length l = ltb-true j (length l) q in
     absurd (not_seen v l f j j' (sym (get_or-append l (v ∷ []) [] j j') ∙ sym e ∙ x)))
-    (λ q. omega (arith, ltb-false j (length l) q, snoc_length l v)))
+    (λ q. omega (arith, ltb-false j (length l) q, length-append l (v ∷ []))))
 
 pub noted_once : (l : List (List Carried)) (o : Option (List Carried)) → Once l → Once (noted l o)
 unfolding noted
@@ -132,7 +121,7 @@ noted_from l (some v) i h b =
     split (seen_in v l)
     (λ e. absurd (omega (arith, rw e at h)))
     (λ e. let g : i < length (l ++ (v ∷ [])) = rw e at h in
-    let k : i ≡ length l = omega (arith, snoc_length l v) in
+    let k : i ≡ length l = omega (arith, length-append l (v ∷ [])) in
     rw (e, k) (ap some (sym (get_or-append_seam l v [] []))))
 
 -- where no list stands twice, a list's place is where it stands

@@ -1,14 +1,7 @@
 -- Offsets in order, the numbers held at them, and components counted list by list. Assumes nothing.
-use Prim.Native.Nat.{ℕ, zero, suc, ◌+◌, ◌≤◌, ◌<◌}
-use mathlib.Core.Path.{◌≡◌, refl, ◌∙◌}
-use mathlib.Core.Bool.{true, false}
-use mathlib.Core.List.{List, [], ◌∷◌}
-use native.Mathlib.Omega.{arith}
-use native.Mathlib.Numerals.{add-one}
-use lib.Dec.{ltb, eqb}
-use lib.ListN.{length, get_or, length-append, get_or-append}
+use Rattle.std.proofs.Common.{ℕ, zero, suc, ◌+◌, ◌≤◌, ◌<◌, ◌≡◌, refl, ◌∙◌, true, false, List, [], ◌∷◌, arith, add-one, ltb, eqb, length, get_or, length-append, ltb-true, ltb-false, eq-eqb}
+use lib.ListN.{get_or-append}
 use lib.Seq.{get_or_at}
-use borrow.Author.Tests.{ltb-true, ltb-false, eq-eqb}
 use Rattle.tonekit_pack.specs.Pack.{number_at, holds, zero_or_held}
 use Rattle.tonekit_core.proofs.Split.{split}
 use Rattle.tonekit_pack.proofs.Numbers.{held_at, not_held}

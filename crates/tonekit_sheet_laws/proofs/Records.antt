@@ -1,9 +1,5 @@
 -- The fields of each record of a sheet, read from where its bytes stand. Assumes nothing.
-use Prim.Native.Nat.{ℕ, zero, suc, ◌+◌, ◌*◌, ◌≤◌, ◌<◌}
-use mathlib.Core.Path.{◌≡◌, refl, ◌∙◌}
-use mathlib.Core.List.{List, [], ◌∷◌, ◌++◌}
-use native.Mathlib.Omega.{arith}
-use lib.ListN.{length, get_or, length-append}
+use Rattle.std.proofs.Common.{ℕ, zero, suc, ◌+◌, ◌*◌, ◌≤◌, ◌<◌, ◌≡◌, refl, ◌∙◌, List, [], ◌∷◌, ◌++◌, arith, length, get_or, length-append}
 use Rattle.tonekit_bytes.specs.Fields.{byte_at, u16_at, u32_at, le32}
 use Rattle.tonekit_pack.specs.Pack.{number_at}
 use Rattle.tonekit_expect.specs.Source.{Settings, Tone, Accent, Carried}

@@ -1,13 +1,6 @@
 -- The sheet of a source that fits loads, and the reader has every record where it was written. Assumes nothing.
-use Prim.Native.Nat.{ℕ, ◌+◌, ◌*◌, ◌≤◌}
-use mathlib.Core.Path.{◌≡◌, refl, sym, ap, ◌∙◌, subst}
-use mathlib.Core.List.{List, []}
-use native.Mathlib.Nat.{mul-pos}
-use native.Mathlib.Omega.{arith}
-use lib.ListN.{length, get_or}
-use borrow.Author.Tests.{le-ltb}
+use Rattle.std.proofs.Common.{ℕ, ◌+◌, ◌*◌, ◌≤◌, ◌≡◌, refl, sym, ap, ◌∙◌, subst, List, [], mul-pos, arith, length, get_or, le-ltb, Ok}
 use Rattle.tonekit_core.specs.declared.Refusal.TheVariants.{CutShort}
-use Rattle.tonekit_core.specs.declared.Checked.TheVariants as checked
 use Rattle.tonekit_expect.specs.Source.{Carried, Source}
 use Rattle.tonekit_sheet.specs.Sheet.{View, view_of, rows_of, lists_of, bytes_of, sheet}
 use Rattle.tonekit_sheet.specs.Reader.{Sst, Out, loaded, refused, size_of, due_next, body_verdict, start, read_sheet, load_sheet, check_sheet}
@@ -86,6 +79,6 @@ unfolding st_of
 round src fit = loads (sheet src) src (view_of src) (view_fit src fit) (sheet_laid src fit)
 
 -- so it loads
-pub sheet_loads : (src : Source) → Fit src → check_sheet (sheet src) ≡ checked.Loads
+pub sheet_loads : (src : Source) → Fit src → check_sheet (sheet src) ≡ Ok tt
 unfolding check_sheet
 sheet_loads src fit = rw (round src fit)

@@ -1,12 +1,5 @@
 -- The reader goes through the rows of a sheet. Assumes nothing.
-use Prim.Native.Nat.{ℕ, zero, suc, ◌+◌, ◌≤◌, ◌<◌}
-use mathlib.Core.Path.{◌≡◌, refl, sym, ◌∙◌}
-use mathlib.Core.Bool.{true, false}
-use mathlib.Core.List.{List}
-use native.Mathlib.Omega.{arith}
-use native.Mathlib.Numerals.{add-one}
-use lib.ListN.{length, get_or}
-use borrow.Author.Tests.{ne_eqb, lt-ltb}
+use Rattle.std.proofs.Common.{ℕ, zero, suc, ◌+◌, ◌≤◌, ◌<◌, ◌≡◌, refl, sym, ◌∙◌, true, false, List, arith, add-one, length, get_or, ne_eqb, lt-ltb}
 use Rattle.tonekit_bytes.specs.Fields.{byte_at}
 use Rattle.tonekit_pack.specs.Pack.{zero_or_held}
 use Rattle.tonekit_expect.specs.Source.{Source}
@@ -18,7 +11,7 @@ use Rattle.tonekit_sheet_laws.specs.Place.{up_to, tone_at, accent_at, row_at, re
 use Rattle.tonekit_sheet_laws.proofs.Placed.{up_to_length, holds_one, zero_or_one, zero_or_zero}
 use Rattle.tonekit_sheet_laws.proofs.Records.{RowThere, row_there}
 use Rattle.tonekit_sheet_laws.proofs.Laid.{Laid}
-use Rattle.tonekit_sheet_laws.proofs.RowPlaces.{Places, row_places}
+use Rattle.tonekit_sheet.proofs.RowPlaces.{Places, row_places}
 use Rattle.tonekit_sheet_laws.proofs.Fitting.{ViewFit}
 use Rattle.tonekit_sheet_laws.proofs.Turns.{all_pass, Passes, Reach, stay, then, one_to}
 use Rattle.tonekit_sheet_laws.proofs.Tones.{tone_read}

@@ -1,19 +1,13 @@
 -- The reader goes on from one place to the next, record by record. Assumes nothing.
-use Prim.Native.Nat.{ℕ, ◌+◌, ◌-◌, ◌≤◌, ◌<◌}
-use mathlib.Core.Path.{◌≡◌, refl, sym, ◌∙◌, subst}
-use mathlib.Core.Bool.{Bool, true, false}
-use mathlib.Core.List.{List}
-use native.Mathlib.Omega.{arith}
-use lib.ListN.{length}
-use borrow.Author.Tests.{ne_eqb, lt-leb, le-ltb}
+use Rattle.std.proofs.Common.{ℕ, ◌+◌, ◌-◌, ◌≤◌, ◌<◌, ◌≡◌, refl, sym, ◌∙◌, subst, Bool, true, false, List, arith, length, ne_eqb, le-ltb, Ok}
+use borrow.Author.Tests.{lt-leb}
 use Rattle.tonekit_core.specs.Loop.{loop_to, loop_again, loop_stop}
-use Rattle.tonekit_core.specs.declared.Verdict.TheVariants as verdict
 use Rattle.tonekit_bytes.specs.Fields.{byte_at}
 use Rattle.tonekit_pack.specs.Pack.{in_turn}
 use Rattle.tonekit_sheet.specs.Reader.{Sst, Out, size_of, due_next, body_verdict, record_verdict, added, finished, record_turn}
 
 -- each test in turn passes
-pub all_pass : (crowded fine new held : Bool) → crowded ≡ false → fine ≡ true → new ≡ true → held ≡ true → in_turn crowded fine new held ≡ verdict.Fine
+pub all_pass : (crowded fine new held : Bool) → crowded ≡ false → fine ≡ true → new ≡ true → held ≡ true → in_turn crowded fine new held ≡ Ok tt
 all_pass crowded fine new held c f n h = rw (c, f, n, h)
 
 -- the rest of the reading, from a place on
@@ -27,9 +21,9 @@ pub record Passes (s : List ℕ) (at : ℕ) (st : Sst) (k size : ℕ) : Type 0 w
   pub some : 1 ≤ size
   pub whole : at + size ≤ length s
   pub due : due_next st k ≡ true
-  pub body : body_verdict k s at st ≡ verdict.Fine
+  pub body : body_verdict k s at st ≡ Ok tt
 
-pub passes_verdict : {s : List ℕ} {at : ℕ} {st : Sst} {k size : ℕ} → Passes s at st k size → record_verdict s at st ≡ verdict.Fine
+pub passes_verdict : {s : List ℕ} {at : ℕ} {st : Sst} {k size : ℕ} → Passes s at st k size → record_verdict s at st ≡ Ok tt
 unfolding record_verdict
 passes_verdict {s} {at} {st} {k} {size} p =
     let w : at + size_of k ≤ length s = omega (arith, p.sized, p.whole) in

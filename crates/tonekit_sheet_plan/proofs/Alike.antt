@@ -1,15 +1,6 @@
 -- Lists of curves that are the same in every bit, compared step by step. Assumes nothing.
-use Prim.Native.Nat.{ℕ, zero, suc, ◌+◌, ◌-◌, ◌≤◌, ◌<◌}
-use mathlib.Core.Path.{◌≡◌, refl, sym, ◌∙◌, ap}
-use mathlib.Core.Bool.{Bool, true, false, cond, ◌&&◌}
-use mathlib.Core.List.{List, [], ◌∷◌, ◌++◌, map}
-use native.Mathlib.Omega.{arith}
-use native.Mathlib.Numerals.{add-one}
-use lib.Dec.{eqb}
-use lib.ListN.{length, get_or, drop, length-append, drop_of_length-le}
-use lib.Seq.{drop-cons}
-use lib.Ieee.{Float, nan, binary32, to_bits}
-use borrow.Author.Tests.{eq-eqb, ne_eqb, eqb-true}
+use Rattle.std.proofs.Common.{ℕ, zero, suc, ◌+◌, ◌-◌, ◌<◌, ◌≡◌, refl, sym, ◌∙◌, ap, Bool, true, false, cond, ◌&&◌, List, [], ◌∷◌, ◌++◌, map, arith, add-one, eqb, length, length-append, Float, to_bits, eq-eqb, ne_eqb, eqb-true}
+use lib.Ieee.{binary32}
 use Rattle.tonekit_core.proofs.Split.{split, both}
 use Rattle.tonekit_expect.specs.declared.Component.{Component}
 use Rattle.tonekit_expect.specs.declared.Listing.{Listing}
@@ -20,27 +11,25 @@ use Rattle.tonekit_expect.proofs.Carried.{named, part_number, components_length}
 use Rattle.tonekit_sheet.specs.Number.{same_numbers, same_carried, same}
 
 -- ---- points
-abbrev bits : List Float → List ℕ
+abbrev pub bits : List Float → List ℕ
 bits xs = map (to_bits binary32) xs
 
-module _ (a b : List Float) (k : ℕ) (h : k < length a) (g : k < length b) where
-  abbrev x : ℕ
-  x = to_bits binary32 (get_or a k nan)
-
-  abbrev y : ℕ
-  y = to_bits binary32 (get_or b k nan)
-
-  pub points_on : x ≡ y → same_numbers (bits (drop (k + 1) a)) (bits (drop (k + 1) b)) ≡ same_numbers (bits (drop k a)) (bits (drop k b))
+module _ (x y : Float) (xs ys : List Float) where
+  pub points_on : to_bits binary32 x ≡ to_bits binary32 y → same_numbers (bits xs) (bits ys) ≡ same_numbers (bits (x ∷ xs)) (bits (y ∷ ys))
   unfolding same_numbers
-  points_on e = rw (drop-cons a k nan h, drop-cons b k nan g, eq-eqb x y e, add-one)
+  points_on e = rw (eq-eqb (to_bits binary32 x) (to_bits binary32 y) e)
 
-  pub points_off : (x ≡ y → ⊥) → false ≡ same_numbers (bits (drop k a)) (bits (drop k b))
+  pub points_off : (to_bits binary32 x ≡ to_bits binary32 y → ⊥) → false ≡ same_numbers (bits (x ∷ xs)) (bits (y ∷ ys))
   unfolding same_numbers
-  points_off e = rw (drop-cons a k nan h, drop-cons b k nan g, ne_eqb x y e)
+  points_off e = rw (ne_eqb (to_bits binary32 x) (to_bits binary32 y) e)
 
-pub points_done : (a b : List Float) (k : ℕ) → length a ≤ k → length b ≤ k → true ≡ same_numbers (bits (drop k a)) (bits (drop k b))
+-- where none is left
+pub points_done : (xs ys : List Float) → length xs ≡ 0 → length ys ≡ 0 → true ≡ same_numbers (bits xs) (bits ys)
 unfolding same_numbers
-points_done a b k h g = rw (drop_of_length-le a h, drop_of_length-le b g)
+points_done [] [] e n = refl
+points_done [] (y ∷ ys) e n = absurd (omega arith)
+points_done (x ∷ xs) [] e n = absurd (omega arith)
+points_done (x ∷ xs) (y ∷ ys) e n = absurd (omega arith)
 
 -- ---- components
 and_false : (b : Bool) → (b && false) ≡ false

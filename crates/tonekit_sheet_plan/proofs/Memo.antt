@@ -1,59 +1,38 @@
 -- The planner's lists and memo: what one more of each keeps. Assumes nothing.
-use Prim.Native.Nat.{ℕ, zero, suc, ◌+◌, ◌*◌, ◌/◌, ◌%◌, ◌≤◌, ◌<◌}
-use mathlib.Core.Path.{◌≡◌, refl, sym, ◌∙◌, ap, ap₂, subst}
-use mathlib.Core.Bool.{Bool, true, false}
-use mathlib.Core.List.{List, [], ◌∷◌, ◌++◌}
-use mathlib.Core.Option.{none, some}
-use native.Mathlib.Omega.{arith}
-use native.Mathlib.Numerals.{add-one}
-use lib.Dec.{ltb}
-use lib.ListN.{length, get_or, set, length-set, length-append, get_or-append}
-use lib.Seq.{get_or-set_other, get_or-set_same, get_or_at}
-use borrow.Author.Tests.{ltb-true, ltb-false, lt-ltb, le-ltb}
-use Rattle.tonekit_core.proofs.Entries.{entries_more}
+use Rattle.std.proofs.Common.{ℕ, zero, suc, ◌+◌, ◌≤◌, ◌<◌, ◌≡◌, refl, sym, ◌∙◌, ap, subst, Bool, true, false, List, [], ◌∷◌, ◌++◌, length, get_or, set, length-set, length-append, arith, add-one, ltb-true, ltb-false, lt-ltb, le-ltb, get_or-set_other, get_or-set_same, ltb, eqb, eqb-true}
+use Rattle.std.proofs.Math.ListN.{get_or-append}
+use Rattle.std.proofs.Math.Seq.{get_or_at}
+use Rattle.std.proofs.Math.Option.{none, some}
+use borrow.Author.Tests.{eqb-false}
 use Rattle.tonekit_core.proofs.Split.{split}
 use Rattle.tonekit_expect.specs.Source.{Carried}
 use Rattle.tonekit_expect.specs.declared.Listing.{Listing}
 use Rattle.tonekit_sheet.specs.Number.{same, seen_in, place_in, noted, number_in}
 use Rattle.tonekit_sheet.proofs.Same.{place_more, seen_more, seen_last, place_last}
-use Rattle.tonekit_sheet_plan.specs.declared.Counts.{Counts}
-use Rattle.tonekit_sheet_plan.specs.Listings.{carried_by, record_of, listing_from, Kept}
+use Rattle.tonekit_sheet_plan.specs.declared.Entry.{Entry}
+use Rattle.tonekit_sheet_plan.specs.declared.Known.{Known}
+use Rattle.tonekit_sheet_plan.specs.declared.Plan.{Plan}
+use Rattle.tonekit_sheet_plan.specs.Listings.{carried_by, record_of, Kept}
 use Rattle.tonekit_sheet_plan.specs.Marks.{mark_of}
-use Rattle.tonekit_sheet_plan.specs.Plans.{key_of, entry_of, key_listing, list_at, planned, FirstPlace, ListsFine, MemoFine, Sane, PlanOf, known_after, memo_after}
+use Rattle.tonekit_sheet_plan.specs.Plans.{entry_of, known_of, entry_listing, known_listing, no_entry, no_known, list_at, planned, planned_by, Marked, FirstPlace, ListsFine, Right, MemoFine, Sane, Blank, PlanOf, Noted, known_after, memo_after}
 use Rattle.tonekit_sheet_plan.proofs.Placing.{Placing, placing_out}
 
--- ---- a listing and its number
-module _ (s : List ℕ) (l : Listing) (k : Kept s l) (byte : l.owner < 256) where
-  pub key_small : key_of l < 16777216
-  key_small = omega (arith, k.near)
-
-  -- the number gives the listing again, whatever stands above its owner
-  pub again : (e : ℕ) → e % 16777216 ≡ key_of l → key_listing s e ≡ l
-  again e q =
-      let o : e % 65536 ≡ record_of l = low e (record_of l) l.owner k.near byte q in
-      let w : e / 65536 % 256 ≡ l.owner = high e (record_of l) l.owner k.near byte q in
-      ap₂ (listing_from s) w o ∙ k.same
-    where
-      low : (e o w : ℕ) → o < 65536 → w < 256 → e % 16777216 ≡ o + 65536 * w → e % 65536 ≡ o
-      low e o w a b q = omega arith
-
-      high : (e o w : ℕ) → o < 65536 → w < 256 → e % 16777216 ≡ o + 65536 * w → e / 65536 % 256 ≡ w
-      high e o w a b q = omega arith
-
-entry_key : (key number : ℕ) → key < 16777216 → entry_of key number % 16777216 ≡ key
-entry_key key number h = omega arith
-
-entry_number : (key number : ℕ) → key < 16777216 → entry_of key number / 16777216 ≡ number
-entry_number key number h = omega arith
+-- one more entry of an array: what holds of the entries before it, and of it, holds of all
+entries_more : {A : Type 0} (d : A) (P : A → Type 0) (xs : List A) (n : ℕ) (x : A) → n < length xs → ((i : ℕ) → i < n → P (get_or xs i d)) → P x
+    → (i : ℕ) → i < n + 1 → P (get_or (set xs n x) i d)
+entries_more d P xs n x l before here i h =
+    split (eqb i n)
+    (λ q. rw (eqb-true i n q, get_or-set_same xs n x d l) here)
+    (λ q. let z : i ≡ n → ⊥ = eqb-false i n q in rw (get_or-set_other xs n i x d z) (before i (omega (arith, z))))
 
 -- ---- the lists of the first n numbers
 module _ (s : List ℕ) where
-  pub planned_length : (lists : List ℕ) (n : ℕ) → length (planned s lists n) ≡ n
+  pub planned_length : (lists : List Entry) (n : ℕ) → length (planned s lists n) ≡ n
   unfolding planned
   planned_length lists zero = refl
   planned_length lists (suc n) = simp (length-append, planned_length lists n, add-one)
 
-  pub planned_get : (lists : List ℕ) (n i : ℕ) → i < n → get_or (planned s lists n) i [] ≡ carried_by s (list_at s lists i)
+  pub planned_get : (lists : List Entry) (n i : ℕ) → i < n → get_or (planned s lists n) i [] ≡ carried_by s (list_at s lists i)
   unfolding planned
   planned_get lists zero i h = absurd (omega arith)
   planned_get lists (suc n) i h =
@@ -61,14 +40,14 @@ module _ (s : List ℕ) where
       (λ l. get_or-append (planned s lists n) (carried_by s (list_at s lists n) ∷ []) [] i (rw (planned_length lists n) (ltb-true i n l)) ∙ planned_get lists n i (ltb-true i n l))
       (λ l. let e : i ≡ n = omega (arith, ltb-false i n l) in rw e (get_or_at (planned s lists n) (carried_by s (list_at s lists n)) [] [] n (planned_length lists n)))
 
-  planned_kept : (lists : List ℕ) (n m e : ℕ) → n ≤ m → planned s (set lists m e) n ≡ planned s lists n
+  planned_kept : (lists : List Entry) (n m : ℕ) (e : Entry) → n ≤ m → planned s (set lists m e) n ≡ planned s lists n
   unfolding planned
   planned_kept lists zero m e h = refl
-  planned_kept lists (suc n) m e h = rw (planned_kept lists n m e (omega arith), get_or-set_other lists m n e 0 (λ q. omega arith))
+  planned_kept lists (suc n) m e h = rw (planned_kept lists n m e (omega arith), get_or-set_other lists m n e no_entry (λ q. omega arith))
 
-  planned_set : (lists : List ℕ) (n e : ℕ) → n < length lists → planned s (set lists n e) (n + 1) ≡ planned s lists n ++ (carried_by s (key_listing s e) ∷ [])
+  planned_set : (lists : List Entry) (n : ℕ) (e : Entry) → n < length lists → planned s (set lists n e) (n + 1) ≡ planned s lists n ++ (carried_by s (entry_listing s e) ∷ [])
   unfolding planned
-  planned_set lists n e h = rw add-one (rw (planned_kept lists n n e (omega arith), get_or-set_same lists n e 0 h))
+  planned_set lists n e h = rw add-one (rw (planned_kept lists n n e (omega arith), get_or-set_same lists n e no_entry h))
 
 -- ---- what noting gives
 module _ (lists : List (List Carried)) (v : List Carried) where
@@ -93,135 +72,118 @@ unfolding number_in
 number_some lists v = refl
 
 -- ---- one more entry of the memo: that of a listing whose list has this place
-module _ (s lists : List ℕ) (n : ℕ) (memo : List ℕ) (k : ℕ) (g : MemoFine s lists n memo k) (l : Listing) (key x : ℕ) (small : key < 16777216)
-    (is : (e : ℕ) → e % 16777216 ≡ key → key_listing s e ≡ l)
-    (seen : seen_in (carried_by s l) (planned s lists n) ≡ true) (place : x ≡ suc (place_in (carried_by s l) (planned s lists n))) where
-  abbrev entry : ℕ
-  entry = entry_of key x
+module _ (s : List ℕ) (its : List (List Carried)) (l : Listing) (k : Kept s l) (x : ℕ) (seen : seen_in (carried_by s l) its ≡ true) (place : x ≡ suc (place_in (carried_by s l) its)) where
+  right : Right s its (known_of l x)
+  right = record {
+    seen = ap (λ (m : Listing). seen_in (carried_by s m) its) k.same ∙ seen;
+    number = place ∙ ap (λ (m : Listing). suc (place_in (carried_by s m) its)) (sym k.same);
+  }
 
-  here : key_listing s entry ≡ l
-  here = is entry (entry_key key x small)
-
-  -- what is right of an entry
-  abbrev Right : ℕ → Type 0
-  Right m =
-      (seen_in (carried_by s (key_listing s m)) (planned s lists n) ≡ true)
-      × (m / 16777216 ≡ suc (place_in (carried_by s (key_listing s m)) (planned s lists n)))
-
-  right : Right entry
-  right =
-      let b : carried_by s (key_listing s entry) ≡ carried_by s l = ap (carried_by s) here in (
-        ap (λ (v : List Carried). seen_in v (planned s lists n)) b ∙ seen,
-        entry_number key x small ∙ place ∙ ap (λ (v : List Carried). suc (place_in v (planned s lists n))) (sym b),
-      )
-
-  memo_more : MemoFine s lists n (memo_after memo k entry) (known_after k)
-  memo_more =
-      split (ltb k 128)
-      (λ t. let r : k < 128 = ltb-true k 128 t in
-      rw t (record { few = omega arith; slots = length-set memo k entry ∙ g.slots; right = entries_more (λ i. Right) memo k entry (omega (arith, g.slots)) g.right right }))
+  memo_more : (memo : List Known) (n : ℕ) → MemoFine s its memo n → MemoFine s its (memo_after memo n (known_of l x)) (known_after n)
+  memo_more memo n g =
+      split (ltb n 128)
+      (λ t. let r : n < 128 = ltb-true n 128 t in
+      rw t (record { few = omega arith; slots = length-set memo n (known_of l x) ∙ g.slots; right = entries_more no_known (Right s its) memo n (known_of l x) (omega (arith, g.slots)) g.right right }))
       (λ t. rw t g)
 
 -- ---- one more list
-module _ (s lists : List ℕ) (n : ℕ) (g : ListsFine s lists n) (e : ℕ) (room : n < 128) where
-  planned_more : planned s (set lists n e) (n + 1) ≡ planned s lists n ++ (carried_by s (key_listing s e) ∷ [])
+module _ (s : List ℕ) (lists : List Entry) (n : ℕ) (g : ListsFine s lists n) (e : Entry) (room : n < 128) where
+  planned_more : planned s (set lists n e) (n + 1) ≡ planned s lists n ++ (carried_by s (entry_listing s e) ∷ [])
   planned_more = planned_set s lists n e (omega (arith, g.slots))
 
-  lists_more : Kept s (key_listing s e) → e / 16777216 ≡ mark_of (carried_by s (key_listing s e)) → ListsFine s (set lists n e) (n + 1)
-  lists_more k m = record {
+  lists_more : Marked s (entry_listing s e) e.mark → ListsFine s (set lists n e) (n + 1)
+  lists_more m = record {
     few = omega arith;
     slots = length-set lists n e ∙ g.slots;
-    each = entries_more (λ i x. Kept s (key_listing s x)) lists n e (omega (arith, g.slots)) g.each k;
-    marked = entries_more (λ i x. x / 16777216 ≡ mark_of (carried_by s (key_listing s x))) lists n e (omega (arith, g.slots)) g.marked m;
+    each = entries_more no_entry (λ x. Marked s (entry_listing s x) x.mark) lists n e (omega (arith, g.slots)) g.each m;
   }
 
-  memo_kept : (memo : List ℕ) (k : ℕ) → MemoFine s lists n memo k → MemoFine s (set lists n e) (n + 1) memo k
-  memo_kept memo k m = record {
-    few = m.few;
-    slots = m.slots;
-    right = λ i h.
-        let r = m.right i h in
-        let v = carried_by s (list_at s memo i) in
-        rw planned_more
-        (seen_more v (planned s lists n) (carried_by s (key_listing s e) ∷ []) r.0, r.1 ∙ ap suc (sym (place_more v (planned s lists n) (carried_by s (key_listing s e) ∷ []) r.0)));
-  }
+-- a memo is right of more lists too
+memo_kept : (s : List ℕ) (its more : List (List Carried)) (memo : List Known) (k : ℕ) → MemoFine s its memo k → MemoFine s (its ++ more) memo k
+memo_kept s its more memo k m = record {
+  few = m.few;
+  slots = m.slots;
+  right = λ i h. let r = m.right i h in record {
+    seen = seen_more (carried_by s (known_listing s (get_or memo i no_known))) its more r.seen;
+    number = r.number ∙ ap suc (sym (place_more (carried_by s (known_listing s (get_or memo i no_known))) its more r.seen));
+  };
+}
 
--- ---- the ways through `note_listing`
-module _ (s lists memo : List ℕ) (n : Counts) (l : Listing) (g : Sane s lists memo n) (k : Kept s l) (byte : l.owner < 256) where
+-- ---- a listing that is noted or numbered
+module _ (s : List ℕ) (plan : Plan) (l : Listing) (g : Sane s plan) (k : Kept s l) where
   abbrev its : List Carried
   its = carried_by s l
 
   abbrev before : List (List Carried)
-  before = planned s lists n.lists
+  before = planned_by s plan
 
   -- the memo has it
-  module _ (i : ℕ) (h : i < n.known) (e : get_or memo i 0 % 16777216 ≡ key_of l) where
-    known : (seen_in its before ≡ true) × (get_or memo i 0 / 16777216 ≡ suc (place_in its before))
-    known = rw (again s l k byte (get_or memo i 0) e) at (g.memo_fine.right i h)
+  module _ {n : ℕ} (e : Noted plan.memo plan.known (record_of l) l.owner n) where
+    known : Right s before (known_of l n)
+    known = subst (Right s before) e.entry (g.memo_fine.right e.place e.inside)
 
-    pub way_known : PlanOf (noted before (some its)) s lists memo n
-    way_known = record { same = sym (noted_old before its known.0); sane = g }
+    seen_known : seen_in its before ≡ true
+    seen_known = ap (λ (m : Listing). seen_in (carried_by s m) before) (sym k.same) ∙ known.seen
 
-    pub number_known : get_or memo i 0 / 16777216 ≡ number_in before (some its)
-    number_known = known.1 ∙ number_some before its
+    pub way_known : PlanOf (noted before (some its)) s plan
+    way_known = record { same = sym (noted_old before its seen_known); sane = g }
 
-  module _ (j : ℕ) (place : FirstPlace its before n.lists j) where
+    pub number_known : n ≡ number_in before (some its)
+    number_known = known.number ∙ ap (λ (m : Listing). suc (place_in (carried_by s m) before)) k.same ∙ number_some before its
+
+  module _ {j : ℕ} (place : FirstPlace its before plan.count j) where
     pub number_place : j + 1 ≡ number_in before (some its)
     number_place = add-one j ∙ ap suc place.first ∙ number_some before its
 
-    abbrev memo' : List ℕ
-    memo' = memo_after memo n.known (entry_of (key_of l) (j + 1))
-
     -- it is one of the lists
-    pub way_found : j < n.lists → PlanOf (noted before (some its)) s lists memo' (record { lists = n.lists; known = known_after n.known })
-    way_found h =
-        let t : seen_in its before ≡ true = place.seen ∙ lt-ltb j n.lists h in
+    pub way_found : j < plan.count → (next : Plan) → next.count ≡ plan.count → next.lists ≡ plan.lists → next.known ≡ known_after plan.known
+        → next.memo ≡ memo_after plan.memo plan.known (known_of l (j + 1)) → PlanOf (noted before (some its)) s next
+    way_found h next ec el ek em =
+        let t : seen_in its before ≡ true = place.seen ∙ lt-ltb j plan.count h in
+        let same : planned_by s next ≡ before = rw (ec, el) in
         record {
-          same = sym (noted_old before its t);
+          same = same ∙ sym (noted_old before its t);
           sane = record {
-            lists_fine = g.lists_fine;
-            memo_fine = memo_more s lists n.lists memo n.known g.memo_fine l (key_of l) (j + 1) (key_small s l k byte) (again s l k byte) t (add-one j ∙ ap suc place.first);
+            lists_fine = rw (ec, el) g.lists_fine;
+            memo_fine = rw (same, ek, em) (memo_more s before l k (j + 1) t (add-one j ∙ ap suc place.first) plan.memo plan.known g.memo_fine);
           };
         }
 
     -- it is new
-    module _ (h : n.lists ≤ j) (room : length (noted before (some its)) ≤ 128) where
+    module _ (h : plan.count ≤ j) (room : length (noted before (some its)) ≤ 128) where
       fresh : seen_in its before ≡ false
-      fresh = place.seen ∙ le-ltb j n.lists h
+      fresh = place.seen ∙ le-ltb j plan.count h
 
-      at_end : j ≡ n.lists
+      at_end : j ≡ plan.count
       at_end = omega (arith, place.few)
 
       pub way_room : j < 128
       way_room =
           let m : length (before ++ (its ∷ [])) ≤ 128 = rw (noted_new before its fresh) at room in
-          omega (arith, length-append before (its ∷ []), planned_length s lists n.lists, at_end)
+          omega (arith, length-append before (its ∷ []), planned_length s plan.lists plan.count, at_end)
 
-      -- its entry has its mark
-      module _ (mark : ℕ) (marked : mark ≡ mark_of its) where
-        abbrev entered : ℕ
-        entered = entry_of (key_of l) mark
-
-        pub way_new : PlanOf (noted before (some its)) s (set lists j entered) memo' (record { lists = j + 1; known = known_after n.known })
-        way_new =
-            let small = key_small s l k byte in
-            let same : key_listing s entered ≡ l = again s l k byte entered (entry_key (key_of l) mark small) in
-            let lf : ListsFine s lists j = subst (ListsFine s lists) (sym at_end) g.lists_fine in
-            let mf : MemoFine s lists j memo n.known = subst (λ (m : ℕ). MemoFine s lists m memo n.known) (sym at_end) g.memo_fine in
-            let p : planned s (set lists j entered) (j + 1) ≡ before ++ (its ∷ []) =
-            planned_more s lists j lf entered way_room ∙ ap₂ (λ (a : List (List Carried)) (v : Listing). a ++ (carried_by s v ∷ [])) (ap (planned s lists) at_end) same in
-            record {
-              same = p ∙ sym (noted_new before its fresh);
-              sane = record {
-                lists_fine = lists_more s lists j lf entered way_room (rw same k) (entry_number (key_of l) mark small ∙ marked ∙ ap (λ (v : Listing). mark_of (carried_by s v)) (sym same));
-                memo_fine =
-                    memo_more s (set lists j entered) (j + 1) memo n.known (memo_kept s lists j lf entered way_room memo n.known mf) l (key_of l) (j + 1) small (again s l k byte)
-                    (rw p (seen_last its before)) (rw p (add-one j ∙ ap suc (at_end ∙ sym (planned_length s lists n.lists) ∙ sym (place_last its before fresh))));
-              };
-            }
+      pub way_new : {mark : ℕ} → mark ≡ mark_of its → (next : Plan) → next.count ≡ j + 1 → next.lists ≡ set plan.lists j (entry_of l mark) → next.known ≡ known_after plan.known
+          → next.memo ≡ memo_after plan.memo plan.known (known_of l (j + 1)) → PlanOf (noted before (some its)) s next
+      way_new {mark} marked next ec el ek em =
+          let e = entry_of l mark in
+          let q : planned s (set plan.lists plan.count e) (plan.count + 1) ≡ before ++ (its ∷ []) =
+          planned_more s plan.lists plan.count g.lists_fine e (omega (arith, way_room, at_end)) ∙ ap (λ (m : Listing). before ++ (carried_by s m ∷ [])) k.same in
+          let same : planned_by s next ≡ before ++ (its ∷ []) = rw (ec, el, at_end) q in
+          let fine = lists_more s plan.lists plan.count g.lists_fine e (omega (arith, way_room, at_end)) (record { kept = rw k.same k; mark = marked ∙ ap (λ (m : Listing). mark_of (carried_by s m)) (sym k.same) }) in
+          record {
+            same = same ∙ sym (noted_new before its fresh);
+            sane = record {
+              lists_fine = rw (ec, el, at_end) fine;
+              memo_fine =
+                  rw (same, ek, em)
+                  (memo_more s (before ++ (its ∷ [])) l k (j + 1) (seen_last its before)
+                  (add-one j ∙ ap suc (at_end ∙ sym (planned_length s plan.lists plan.count) ∙ sym (place_last its before fresh)))
+                  plan.memo plan.known (memo_kept s before (its ∷ []) plan.memo plan.known g.memo_fine));
+            };
+          }
 
 -- ---- a turn of the search for a place
-module _ (s lists : List ℕ) (n : ℕ) (v : List Carried) where
+module _ (s : List ℕ) (lists : List Entry) (n : ℕ) (v : List Carried) where
   pub compared : {i : ℕ} {b : Bool} → i < n → b ≡ same v (carried_by s (list_at s lists i)) → same v (get_or (planned s lists n) i []) ≡ b
   compared {i} h q = ap (same v) (planned_get s lists n i h) ∙ sym q
 
@@ -237,12 +199,12 @@ module _ (s lists : List ℕ) (n : ℕ) (v : List Carried) where
       placed n (subst (FirstPlace v (planned s lists n) (length (planned s lists n))) m (placing_out v (planned s lists n) g (omega (arith, h, m))))
 
 -- ---- no list yet
-pub none_planned : (s lists : List ℕ) → planned s lists 0 ≡ []
+pub none_planned : (s : List ℕ) (plan : Plan) → Blank plan → planned_by s plan ≡ []
 unfolding planned
-none_planned s lists = refl
+none_planned s plan b = rw b.no_lists
 
-pub sane_none : (s lists memo : List ℕ) → length lists ≡ 128 → length memo ≡ 128 → Sane s lists memo (record { lists = 0; known = 0 })
-sane_none s lists memo a b = record {
-  lists_fine = record { few = omega arith; slots = a; each = λ i h. absurd (omega arith); marked = λ i h. absurd (omega arith) };
-  memo_fine = record { few = omega arith; slots = b; right = λ i h. absurd (omega arith) };
+pub sane_none : (s : List ℕ) (plan : Plan) → Blank plan → Sane s plan
+sane_none s plan b = record {
+  lists_fine = record { few = omega (arith, b.no_lists); slots = b.list_slots; each = λ i h. absurd (omega (arith, b.no_lists, h)) };
+  memo_fine = record { few = omega (arith, b.none_known); slots = b.memo_slots; right = λ i h. absurd (omega (arith, b.none_known, h)) };
 }

@@ -1,24 +1,14 @@
 -- Every listing that a lookup in a pack that loads gives is found again from its owner and its record, and can be read. Assumes nothing.
-use Prim.Native.Nat.{ℕ, ◌+◌, ◌-◌, ◌≤◌, ◌<◌}
-use mathlib.Core.Path.{◌≡◌, refl, subst}
-use mathlib.Core.List.{List}
-use native.Mathlib.Omega.{arith}
-use lib.Dec.{eqb, ltb}
-use lib.ListN.{length, get_or}
-use borrow.Author.Tests.{eq-eqb, ne_eqb, ltb-true}
+use Rattle.std.proofs.Common.{ℕ, ◌+◌, ◌-◌, ◌≤◌, ◌<◌, ◌≡◌, refl, subst, List, arith, eqb, ltb, length, get_or, eq-eqb, ne_eqb, ltb-true}
 use Rattle.tonekit_core.specs.Layout.{tone_knot_count, rule_kind, rule_size, rule_form}
 use Rattle.tonekit_bytes.specs.Fields.{byte_at}
 use Rattle.tonekit_pack.specs.Pack.{Pst, loaded, read_pack, number_at}
 use Rattle.tonekit_core.proofs.Split.{split}
 use Rattle.tonekit_pack.proofs.Loads.{RuleFine, Loads, loads, firsts_bound}
-use Rattle.tonekit_expect.specs.declared.Found.{Found}
-use Rattle.tonekit_expect.specs.declared.Found.TheVariants as found
-use Rattle.tonekit_expect.specs.declared.Winner.{Winner}
-use Rattle.tonekit_expect.specs.declared.Winner.TheVariants as winner
+use Rattle.std.specs.Prelude.{Some, None}
 use Rattle.tonekit_expect.specs.declared.Context.{Context}
 use Rattle.tonekit_expect.specs.declared.Listing.{Listing}
-use Rattle.tonekit_expect.specs.declared.Look.TheVariants as look
-use Rattle.tonekit_expect.specs.Lookup.{index_of, to_rule, find_rule, rule_listing, citation, listed, look_at, look_up}
+use Rattle.tonekit_expect.specs.Lookup.{Found, Walked, index_of, to_rule, find_rule, rule_listing, citation, listed, look_at, look_up}
 use Rattle.tonekit_expect.proofs.Walk.{index_found, winner_is}
 use Rattle.tonekit_expect.proofs.Curves.{listed_fine}
 use Rattle.tonekit_sheet_plan.specs.Listings.{record_of, listing_from, LookKept}
@@ -69,12 +59,14 @@ module _ (s : List ℕ) (st : Pst) (e : ℕ) (l : Loads s st e) (rules : (k : �
         few = omega arith;
       }
 
-  of_winner : (m : Listing) (i t : ℕ) → i < length st.accents → t < length st.tones → (w : Winner) → find_rule s st c i ≡ w
-      → listed s st c (get_or st.tones t 0) w ≡ look.Found m → Again s m
-  of_winner m i t hi ht (winner.Rule a r) q g =
+  of_winner : (m : Listing) (i t : ℕ) → i < length st.accents → t < length st.tones → (w : Walked) → find_rule s st c i ≡ w
+      → listed s st c (get_or st.tones t 0) w ≡ Some m → Again s m
+  of_winner m i t hi ht (Some w) q g =
+      let a = w.accent in
+      let r = w.rule in
       let is : rule_listing s (number_at s (get_or st.accents a 0)) r ≡ m = cc in
       subst (Again s) is (of_rule (number_at s (get_or st.accents a 0)) r (winner_is s st c Own own i a r hi q).1)
-  of_winner m i t hi ht winner.Nothing q g =
+  of_winner m i t hi ht None q g =
       let o = get_or st.tones t 0 in
       split (eqb (byte_at s (o + tone_knot_count)) 0)
       (λ z. let g' = rw z at g in let n : ◌≡◌ {A = ℕ} 0 1 = cc in absurd (omega arith))
@@ -83,12 +75,12 @@ module _ (s : List ℕ) (st : Pst) (e : ℕ) (l : Loads s st e) (rules : (k : �
       subst (Again s) is (of_citation t ht))
 
   of_places : (m : Listing) (f g : Found) → index_of s st.accents c.accent ≡ f → index_of s st.tones c.tone ≡ g
-      → look_at s st c f g ≡ look.Found m → Again s m
-  of_places m (found.At i) (found.At t) a b q = of_winner m i t (index_found _ _ _ i a).inside (index_found _ _ _ t b).inside (find_rule s st c i) refl q
-  of_places m found.Nothing g a b q = let n : ◌≡◌ {A = ℕ} 0 1 = cc in absurd (omega arith)
-  of_places m (found.At i) found.Nothing a b q = let n : ◌≡◌ {A = ℕ} 0 1 = cc in absurd (omega arith)
+      → look_at s st c f g ≡ Some m → Again s m
+  of_places m (Some i) (Some t) a b q = of_winner m i t (index_found _ _ _ i a).inside (index_found _ _ _ t b).inside (find_rule s st c i) refl q
+  of_places m None g a b q = let n : ◌≡◌ {A = ℕ} 0 1 = cc in absurd (omega arith)
+  of_places m (Some i) None a b q = let n : ◌≡◌ {A = ℕ} 0 1 = cc in absurd (omega arith)
 
-  again : (m : Listing) → look_up s st c ≡ look.Found m → Again s m
+  again : (m : Listing) → look_up s st c ≡ Some m → Again s m
   unfolding look_up
   again m q = of_places m (index_of s st.accents c.accent) (index_of s st.tones c.tone) refl refl q
 

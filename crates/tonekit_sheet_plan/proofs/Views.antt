@@ -1,10 +1,7 @@
 -- What a pack's sheet is made of, and the room that its lists need on the way. Assumes nothing.
-use Prim.Native.Nat.{ℕ, zero, suc, ◌+◌, ◌-◌, ◌≤◌, ◌<◌}
-use mathlib.Core.Path.{◌≡◌, refl, sym, ◌∙◌, ap}
-use mathlib.Core.List.{List, [], ◌∷◌, map}
+use Rattle.std.proofs.Common.{ℕ, zero, suc, ◌+◌, ◌-◌, ◌≤◌, ◌<◌, ◌≡◌, refl, sym, ◌∙◌, ap, List, [], ◌∷◌, map, arith, length, length-append}
 use mathlib.Core.Option.{Option, none, some}
-use native.Mathlib.Omega.{arith}
-use lib.ListN.{length, length-append, length-map}
+use lib.ListN.{length-map}
 use Rattle.tonekit_core.specs.Loop.{turns, range, range_step}
 use Rattle.tonekit_pack.specs.Pack.{Pst}
 use Rattle.tonekit_pack.specs.Held.{in_order, shown}
@@ -16,7 +13,7 @@ use Rattle.tonekit_expect.specs.Lookup.{look_up}
 use Rattle.tonekit_expect.specs.Source.{Carried, given, accent_at, tone_at, source_of_pack}
 use Rattle.tonekit_sheet.specs.Number.{seen_in, noted}
 use Rattle.tonekit_sheet.specs.Sheet.{View, view_of, ascending, row_context, row_count, rows_of, note_turn, lists_of}
-use Rattle.tonekit_sheet_plan.specs.declared.Sorted.{Sorted}
+use Rattle.tonekit_sheet_plan.specs.declared.order.Sorted.{Sorted}
 use Rattle.tonekit_sheet_plan.specs.Listings.{Reads}
 use Rattle.tonekit_sheet_plan.specs.Rows.{pack_view, tones_of, accents_of, Ordered}
 

@@ -3,11 +3,10 @@ use Rattle.std.specs.Prelude.{ℕ, ◌-◌, ◌≤◌, ◌<◌, ◌≡◌, cond,
 use Rattle.tonekit_core.specs.Layout.{rule_kind, rule_size}
 use Rattle.tonekit_bytes.specs.Fields.{byte_at}
 use Rattle.tonekit_pack.specs.Pack.{Pst, loaded, read_pack}
-use Rattle.tonekit_expect.specs.Lookup.{rule_listing, citation, Listed}
+use Rattle.std.specs.Prelude.{Some}
+use Rattle.tonekit_expect.specs.Lookup.{Look, rule_listing, citation, Listed}
 use Rattle.tonekit_expect.specs.Source.{Carried, components}
 use Rattle.tonekit_expect.specs.declared.Listing.{Listing}
-use Rattle.tonekit_expect.specs.declared.Look.{Look}
-use Rattle.tonekit_expect.specs.declared.Look.TheVariants as look
 
 -- all that the components of a listing carry
 abbrev pub carried_by : List ℕ → Listing → List Carried
@@ -32,7 +31,7 @@ pub record Kept (s : List ℕ) (l : Listing) : Type 0 where
 
 -- what a lookup gives is such a listing, or nothing
 abbrev pub LookKept : List ℕ → Look → Type 0
-LookKept s x = (l : Listing) → x ≡ look.Found l → Kept s l
+LookKept s x = (l : Listing) → x ≡ Some l → Kept s l
 
 -- the bytes begin with a pack of which this was read
 pub record Reads (s : List ℕ) (st : Pst) : Type 0 where

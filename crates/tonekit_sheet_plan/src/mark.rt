@@ -10,7 +10,7 @@ ghost use Rattle.tonekit_sheet.specs.Marks.{mixed};
 ghost use Rattle.tonekit_sheet_plan.specs.Marks.{component_mark, mark_of};
 
 use tonekit_expect::{Listing, component_at};
-use tonekit_float::bits_of_f32;
+use tonekit_float::AnyFloat;
 use tonekit_sheet::mix;
 
 // A mark so far, and ten points.
@@ -19,8 +19,8 @@ fn mark_points(m: u32, points: &[f32; 10]) -> u32
     ensures { result ≡ fold mixed m (map (to_bits binary32) points.now) }
 {
     let mut mark = m;
-    for k in 0..10 {
-        mark = mix(mark, bits_of_f32(points[k]));
+    for x in points {
+        mark = mix(mark, x.bits());
     }
     mark
 }
@@ -31,18 +31,18 @@ fn mark_component(s: &[u8], l: Listing, j: usize, m: u32) -> u32
     ensures { result ≡ component_mark m (carried (component_of s.now l j)) }
 {
     let c = component_at(s, l, j);
-    let weighed = mix(m, bits_of_f32(c.weight));
+    let weighed = mix(m, c.weight.bits());
     mark_points(weighed, &c.points)
 }
 
 // The mark of a listing of these bytes.
-pub fn mark_of(s: &[u8], l: Listing) -> u32
+pub fn mark_of(s: &[u8], l: Listing) -> u8
     requires { Kept s.now l }
-    ensures { (result ≡ mark_of (carried_by s.now l)) × (result < 256) }
+    ensures { result ≡ mark_of (carried_by s.now l) }
 {
     let mut m: u32 = 0;
     for j in 0..l.count {
         m = mark_component(s, l, j, m);
     }
-    (m % 256 + m / 256 % 256 + m / 65536 % 256) % 256
+    ((m % 256 + m / 256 % 256 + m / 65536 % 256) % 256) as u8
 }

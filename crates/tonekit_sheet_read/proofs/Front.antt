@@ -1,30 +1,22 @@
 -- The reader looks at no more than a sheet can hold: inputs with the same first 13,400 bytes give the same answer. Assumes nothing.
-use Prim.Native.Nat.{ℕ, zero, suc, ◌+◌, ◌-◌, ◌*◌, ◌≤◌, ◌<◌}
-use mathlib.Core.Path.{◌≡◌, refl, sym, ap, ◌∙◌}
-use mathlib.Core.Bool.{Bool, true, false, ◌&&◌, ◌||◌}
-use mathlib.Core.List.{List}
-use native.Mathlib.Omega.{arith}
-use lib.ListN.{length, get_or, take}
-use lib.Dec.{eqb, leb, ltb}
+use Rattle.std.proofs.Common.{ℕ, zero, suc, ◌+◌, ◌-◌, ◌*◌, ◌≤◌, ◌<◌, ◌≡◌, refl, sym, ap, ◌∙◌, Bool, true, false, ◌&&◌, ◌||◌, List, arith, length, get_or, take, eqb, leb, ltb, eqb-true, leb-true, leb-false, ltb-true, ltb-false, None}
 use lib.Ieee.{Float}
-use borrow.Author.Tests.{eqb-true, eqb-false, leb-true, leb-false, ltb-true, ltb-false}
+use borrow.Author.Tests.{eqb-false}
 use Rattle.tonekit_core.specs.Loop.{loop_to, loop_on}
 use Rattle.tonekit_core.proofs.LoopLaws.{range_same, to_same}
-use Rattle.tonekit_core.specs.declared.Refusal.TheVariants.{CutShort, Loose, Unordered}
+use Rattle.tonekit_core.specs.declared.Refusal.TheVariants.{CutShort}
 use Rattle.tonekit_bytes.specs.Fields.{byte_at}
 use Rattle.tonekit_bytes.proofs.Agreeing.{Agree, taken_agrees, two, four, float}
-use Rattle.tonekit_expect.specs.declared.Found.{Found}
-use Rattle.tonekit_expect.specs.declared.Found.TheVariants as found
 use Rattle.tonekit_pack.specs.Pack.{number_at, settings_verdict}
 use Rattle.tonekit_core.proofs.Split.{split}
 use Rattle.tonekit_pack.proofs.Turns.{by_verdict}
 use Rattle.tonekit_pack.proofs.Front.{region_same, tolerances_same, holds_same, zero_or_same}
 use Rattle.tonekit_sheet.specs.Sheet.{accent_place, tone_place, prev_place}
-use Rattle.tonekit_sheet.specs.Reader.{Sst, Out, loaded, refused, rows_due, due_next, size_of, tone_verdict, accent_verdict, row_verdict, list_verdict, point_fine, point_turn, points_fine, last_list, component_verdict, body_verdict, record_verdict, added, row_at, loose_turn, loose_row, accent_turn, accent_down, prev_due, row_due, row_names, row_turn, row_wrong, names_turn, named, list_size, same_turn, same_lists, equal_turn, repeated, list_turn, list_wrong, or_else, refused_at, finished, start, read_sheet, singly, load_sheet, said, check_sheet}
-use Rattle.tonekit_sheet_read.proofs.Places.{rows_few, accent_inside, tone_inside, prev_inside}
-use Rattle.tonekit_sheet_read.proofs.Records.{Closed, Due, due_is, settings, tone, accent, row, list, component, finish, sound}
+use Rattle.tonekit_sheet.specs.Reader.{Sst, Out, loaded, refused, rows_due, due_next, size_of, tone_verdict, accent_verdict, row_verdict, list_verdict, point_fine, point_turn, points_fine, last_list, component_verdict, body_verdict, record_verdict, added, row_at, loose_turn, loose_row, accent_turn, accent_down, prev_due, row_due, row_names, row_turn, row_wrong, names_turn, named, list_size, same_turn, same_lists, equal_turn, repeated, list_turn, list_wrong, finished, start, read_sheet, singly, load_sheet, said, check_sheet}
+use Rattle.tonekit_sheet.proofs.RowPlaces.{rows_few, some_tone, row_places}
+use Rattle.tonekit_sheet.proofs.Records.{Complete, Due, due_is, settings, tone, accent, row, list, component, finish, sound, closes}
 use Rattle.tonekit_sheet_read.proofs.Reading.{after_list}
-use Rattle.tonekit_sheet_read.proofs.Turns.{run, run_refused, run_end, run_on, limit_idle, accepted, no_turns, not_loaded, same_loaded}
+use Rattle.tonekit_sheet.proofs.Turns.{run, run_refused, run_end, run_on, limit_idle, accepted, no_turns, finished_is}
 use Rattle.tonekit_sheet_read.proofs.Kept.{ListRead, Kept, kept_start, no_due, keep}
 
 -- the points of a component in both
@@ -103,7 +95,7 @@ module _ (n : ℕ) (t s : List ℕ) (a : Agree n t s) (at : ℕ) (st : Sst) (p :
   loose_same : loose_row t st ≡ loose_row s st
   unfolding loose_row
   loose_same =
-      to_same (loose_turn t st) (loose_turn s st) (λ u. found.Nothing) st.rows 0
+      to_same (loose_turn t st) (loose_turn s st) (λ u. None) st.rows 0
       (λ r u l. rw (row_byte r 4 l (omega arith), row_byte r 5 l (omega arith), zero_or_same n t s a st.lists (byte_at s (row_at st r + 4)) lists_seen, zero_or_same n t s a st.lists (byte_at s (row_at st r + 5)) lists_seen))
 
   tone_number : (i : ℕ) → i < length st.tones → number_at t (get_or st.tones i 0) ≡ number_at s (get_or st.tones i 0)
@@ -114,7 +106,7 @@ module _ (n : ℕ) (t s : List ℕ) (a : Agree n t s) (at : ℕ) (st : Sst) (p :
 
   down_same : accent_down t st ≡ accent_down s st
   unfolding accent_down
-  down_same = to_same (accent_turn t st) (accent_turn s st) (λ u. found.Nothing) (length st.accents) 0 (λ i b l. rw (accent_number i l))
+  down_same = to_same (accent_turn t st) (accent_turn s st) (λ u. None) (length st.accents) 0 (λ i b l. rw (accent_number i l))
 
   prev_same : (q : ℕ) → q ≤ length st.tones → prev_due t st q ≡ prev_due s st q
   prev_same zero l = refl
@@ -126,7 +118,8 @@ module _ (n : ℕ) (t s : List ℕ) (a : Agree n t s) (at : ℕ) (st : Sst) (p :
       let x = length st.accents in
       let y = length st.tones in
       let h : r < rows_due st = omega (arith, p.placed.few_rows) in
-      rw (row_byte r 1 l (omega arith), row_byte r 2 l (omega arith), row_byte r 3 l (omega arith), accent_number (accent_place y r) (accent_inside x y r h), tone_number (tone_place y r) (tone_inside x y r h), prev_same (prev_place y r) (prev_inside x y r h))
+      let q = row_places x y r (some_tone x y r h) h in
+      rw (row_byte r 1 l (omega arith), row_byte r 2 l (omega arith), row_byte r 3 l (omega arith), accent_number (accent_place y r) q.accent, tone_number (tone_place y r) q.tone, prev_same (prev_place y r) q.prev)
 
   names_same : (r m : ℕ) → r < st.rows → row_names t st r m ≡ row_names s st r m
   unfolding row_names
@@ -135,7 +128,7 @@ module _ (n : ℕ) (t s : List ℕ) (a : Agree n t s) (at : ℕ) (st : Sst) (p :
   wrong_same : row_wrong t st ≡ row_wrong s st
   unfolding row_wrong
   wrong_same =
-      to_same (row_turn t st) (row_turn s st) (λ u. found.Nothing) st.rows 0
+      to_same (row_turn t st) (row_turn s st) (λ u. None) st.rows 0
       (λ r m l. rw (due_same r l, names_same r m l, row_byte r 4 l (omega arith), row_byte r 5 l (omega arith)))
 
   named_same : (x : ℕ) → named t st x ≡ named s st x
@@ -144,7 +137,7 @@ module _ (n : ℕ) (t s : List ℕ) (a : Agree n t s) (at : ℕ) (st : Sst) (p :
       range_same (names_turn t st x) (names_turn s st x) 0 st.rows false (omega arith)
       (λ r u l. rw (row_byte r 4 l (omega arith), row_byte r 5 l (omega arith)))
 
-  module _ (c : Closed st) where
+  module _ (c : Complete st) where
     -- a list, with all its components, stands before the end
     list_fine_lem : (i : ℕ) → i < length st.lists → ListRead s (get_or st.lists i 0) 0 at
     list_fine_lem i h =
@@ -173,21 +166,12 @@ module _ (n : ℕ) (t s : List ℕ) (a : Agree n t s) (at : ℕ) (st : Sst) (p :
     lists_same : list_wrong t st ≡ list_wrong s st
     unfolding list_wrong
     lists_same =
-        to_same (list_turn t st) (list_turn s st) (λ u. found.Nothing) (length st.lists) 0
+        to_same (list_turn t st) (list_turn s st) (λ u. None) (length st.lists) 0
         (λ i u l. rw (list_byte i 1 l (omega arith), named_same (i + 1), repeated_same i l))
 
     finished_same : (e : ℕ) → finished t st e ≡ finished s st e
     unfolding finished
     finished_same e = rw (loose_same, down_same, wrong_same, lists_same)
-
-closes : (st : Sst) {k : ℕ} → k ≡ 23 → Due st k → Closed st
-closes st q (settings z) = absurd (omega arith)
-closes st q (tone l u) = absurd (omega arith)
-closes st q (accent l u) = absurd (omega arith)
-closes st q (row l u d) = absurd (omega arith)
-closes st q (list c) = absurd (omega arith)
-closes st q (component d) = absurd (omega arith)
-closes st q (finish c) = c
 
 no_turn : (s : List ℕ) (d : Out) (at : ℕ) (st : Sst) → run s d 0 at st ≡ d
 unfolding loop_to loop_on
@@ -221,21 +205,12 @@ single_agrees : (n : ℕ) (t s : List ℕ) (a : Agree n t s) (o : Out) → ((st 
 single_agrees n t s a (loaded st e) h = rw (a.goes e (h st e refl))
 single_agrees n t s a (refused r place) h = refl
 
-end_of : (st fin : Sst) (e e' : ℕ) (a b : Found) → refused_at Loose a (refused_at Unordered b (loaded st e)) ≡ loaded fin e' → e ≡ e'
-end_of st fin e e' (found.At o) b h = not_loaded Loose o e' fin h
-end_of st fin e e' found.Nothing (found.At o) h = not_loaded Unordered o e' fin h
-end_of st fin e e' found.Nothing found.Nothing h = (same_loaded st fin e e' h).1
-
-finished_end : (s : List ℕ) (st fin : Sst) (e e' : ℕ) → finished s st e ≡ loaded fin e' → e ≡ e'
-unfolding finished
-finished_end s st fin e e' h = end_of st fin e e' (loose_row s st) (or_else (accent_down s st) (or_else (row_wrong s st) (list_wrong s st))) h
-
 run_near : (f : ℕ) (s : List ℕ) (at : ℕ) (st fin : Sst) (e : ℕ) → run s (refused CutShort (length s)) f at st ≡ loaded fin e → Kept s at st → e ≤ 13266
 run_near zero s at st fin e h p = no_turns s at st fin CutShort (length s) e h
 run_near (suc f) s at st fin e h p =
     let a = accepted s (refused CutShort (length s)) f at st fin e h in
     split (eqb (byte_at s at) 23)
-    (λ b. omega (arith, near s at st p, finished_end s st fin (at + 1) e (a.ended (eqb-true (byte_at s at) 23 b))))
+    (λ b. omega (arith, near s at st p, (finished_is s st (at + 1) fin e (a.ended (eqb-true (byte_at s at) 23 b))).ends))
     (λ b. let n : byte_at s at ≡ 23 → ⊥ = eqb-false (byte_at s at) 23 b in
     run_near f s (at + size_of (byte_at s at)) (added (byte_at s at) at (byte_at s (at + 6)) st) fin e (a.goes n) (keep s at st p a.passes.due a.passes.body n))
 

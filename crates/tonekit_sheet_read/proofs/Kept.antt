@@ -1,18 +1,13 @@
 -- What the reader keeps at every turn: every record read stands where the counts put it, and each list has as many components as it says. Assumes nothing.
-use Prim.Native.Nat.{ℕ, ◌+◌, ◌-◌, ◌*◌, ◌≤◌, ◌<◌}
-use mathlib.Core.Path.{◌≡◌, refl, ◌∙◌}
-use mathlib.Core.List.{List, [], ◌∷◌, ◌++◌}
-use native.Mathlib.Omega.{arith}
-use lib.ListN.{length, get_or, length-append, get_or-append}
+use Rattle.std.proofs.Common.{ℕ, ◌+◌, ◌-◌, ◌*◌, ◌≤◌, ◌<◌, ◌≡◌, refl, List, [], ◌∷◌, ◌++◌, arith, length, get_or, length-append, ltb, ltb-true, ltb-false, Ok}
+use lib.ListN.{get_or-append}
 use lib.Seq.{get_or-append_seam}
-use lib.Dec.{ltb}
-use borrow.Author.Tests.{ltb-true, ltb-false}
-use Rattle.tonekit_core.specs.declared.Verdict.TheVariants as verdict
 use Rattle.tonekit_bytes.specs.Fields.{byte_at}
 use Rattle.tonekit_core.proofs.Split.{split}
 use Rattle.tonekit_sheet.specs.Reader.{Sst, size_of, last_list, body_verdict, added, start}
-use Rattle.tonekit_sheet_read.proofs.Records.{Closed, rows, components, Due, settings, tone, accent, row, list, component, finish, tone_room, accent_room, list_room, list_some, component_room}
-use Rattle.tonekit_sheet_read.proofs.Reading.{Placed, placed_next, after_list}
+use Rattle.tonekit_sheet.proofs.Every.{every_snoc}
+use Rattle.tonekit_sheet.proofs.Records.{Complete, rows_done, list_done, Due, settings, tone, accent, row, list, component, finish, tone_room, accent_room, list_room, list_some, component_room}
+use Rattle.tonekit_sheet_read.proofs.Reading.{Placed, placed_start, placed_next, after_list}
 
 -- the list at o as far as it was read at a place: so many of its components are still due
 pub record ListRead (s : List ℕ) (o due at : ℕ) : Type 0 where
@@ -39,7 +34,7 @@ pub record Kept (s : List ℕ) (at : ℕ) (st : Sst) : Type 0 where
 
 pub kept_start : (s : List ℕ) → Kept s 0 start.st
 kept_start s = record {
-  placed = record { first = λ q. refl; place = λ q. absurd (omega arith); no_tones = λ q. refl; no_accents = λ q. refl; no_rows = λ q. refl; no_lists = λ q. (refl, refl, refl); few_rows = omega arith; all_rows = λ q. absurd (omega arith) };
+  placed = placed_start;
   few_tones = omega arith;
   tones_at = λ i l. absurd (omega arith);
   few_accents = omega arith;
@@ -52,21 +47,14 @@ kept_start s = record {
   few_in_all = omega arith;
 }
 
--- entries at places that a rule gives, with one more
-at_snoc : (f : ℕ → ℕ) (xs : List ℕ) (x : ℕ) → ((i : ℕ) → i < length xs → get_or xs i 0 ≡ f i) → x ≡ f (length xs) → (i : ℕ) → i < length (xs ++ (x ∷ [])) → get_or (xs ++ (x ∷ [])) i 0 ≡ f i
-at_snoc f xs x h e i l =
-    split (ltb i (length xs))
-    (λ t. let b : i < length xs = ltb-true i (length xs) t in get_or-append xs (x ∷ []) 0 i b ∙ h i b)
-    (λ t. let q : i ≡ length xs = omega (arith, ltb-false i (length xs) t, length-append xs (x ∷ [])) in rw q (get_or-append_seam xs x [] 0 ∙ e))
-
 last_snoc : (os : List ℕ) (o : ℕ) → get_or (os ++ (o ∷ [])) (length (os ++ (o ∷ [])) - 1) 0 ≡ o
 last_snoc os o =
     let q : length (os ++ (o ∷ [])) - 1 ≡ length os = simp length-append (omega arith) in
     rw q (get_or-append_seam os o [] 0)
 
-pub no_due : {at : ℕ} {st : Sst} → Placed at st → Closed st → st.due ≡ 0
-no_due p (rows l e) = (p.no_lists (omega arith)).2
-no_due p (components l e) = e
+pub no_due : {at : ℕ} {st : Sst} → Placed at st → Complete st → st.due ≡ 0
+no_due p (rows_done l e) = (p.no_lists (omega arith)).2
+no_due p (list_done l e) = e
 
 module _ (s : List ℕ) (at : ℕ) (st : Sst) (p : Kept s at st) where
   count : ℕ
@@ -90,7 +78,7 @@ module _ (s : List ℕ) (at : ℕ) (st : Sst) (p : Kept s at st) where
         few_in_all = p.few_in_all;
       }
 
-  after_tone : 17 ≤ st.last → st.last ≤ 18 → body_verdict 18 s at st ≡ verdict.Fine → Kept s (at + size_of 18) (added 18 at count st)
+  after_tone : 17 ≤ st.last → st.last ≤ 18 → body_verdict 18 s at st ≡ Ok tt → Kept s (at + size_of 18) (added 18 at count st)
   unfolding added size_of count
   after_tone l u b =
       let n = p.placed.no_lists (omega arith) in
@@ -100,7 +88,7 @@ module _ (s : List ℕ) (at : ℕ) (st : Sst) (p : Kept s at st) where
       record {
         placed = placed_next at count st (tone l u) (λ q. omega arith) p.placed;
         few_tones = simp length-append (omega (arith, tone_room s at st b));
-        tones_at = at_snoc (λ (i : ℕ). 9 + 15 * i) st.tones at p.tones_at o;
+        tones_at = every_snoc (λ i o. o ≡ 9 + 15 * i) st.tones at p.tones_at o;
         few_accents = p.few_accents;
         accents_at = λ i h. absurd (omega arith);
         few_lists = p.few_lists;
@@ -111,7 +99,7 @@ module _ (s : List ℕ) (at : ℕ) (st : Sst) (p : Kept s at st) where
         few_in_all = p.few_in_all;
       }
 
-  after_accent : 18 ≤ st.last → st.last ≤ 19 → body_verdict 19 s at st ≡ verdict.Fine → Kept s (at + size_of 19) (added 19 at count st)
+  after_accent : 18 ≤ st.last → st.last ≤ 19 → body_verdict 19 s at st ≡ Ok tt → Kept s (at + size_of 19) (added 19 at count st)
   unfolding added size_of count
   after_accent l u b =
       let n = p.placed.no_lists (omega arith) in
@@ -122,7 +110,7 @@ module _ (s : List ℕ) (at : ℕ) (st : Sst) (p : Kept s at st) where
         few_tones = p.few_tones;
         tones_at = p.tones_at;
         few_accents = simp length-append (omega (arith, accent_room s at st b));
-        accents_at = at_snoc (λ (i : ℕ). 9 + 15 * length st.tones + 18 * i) st.accents at p.accents_at o;
+        accents_at = every_snoc (λ i o. o ≡ 9 + 15 * length st.tones + 18 * i) st.accents at p.accents_at o;
         few_lists = p.few_lists;
         some_list = λ q. absurd (omega arith);
         lists = λ i h. absurd (omega arith);
@@ -149,7 +137,7 @@ module _ (s : List ℕ) (at : ℕ) (st : Sst) (p : Kept s at st) where
         few_in_all = p.few_in_all;
       }
 
-  after_head : Closed st → body_verdict 21 s at st ≡ verdict.Fine → Kept s (at + size_of 21) (added 21 at count st)
+  after_head : Complete st → body_verdict 21 s at st ≡ Ok tt → Kept s (at + size_of 21) (added 21 at count st)
   unfolding added size_of count
   after_head c b =
       let z = no_due p.placed c in
@@ -175,7 +163,7 @@ module _ (s : List ℕ) (at : ℕ) (st : Sst) (p : Kept s at st) where
         few_in_all = p.few_in_all;
       }
 
-  after_component : 0 < st.due → Due st 22 → body_verdict 22 s at st ≡ verdict.Fine → Kept s (at + size_of 22) (added 22 at count st)
+  after_component : 0 < st.due → Due st 22 → body_verdict 22 s at st ≡ Ok tt → Kept s (at + size_of 22) (added 22 at count st)
   unfolding added size_of count
   after_component g d b =
       let l = after_list at st p.placed g in
@@ -196,7 +184,7 @@ module _ (s : List ℕ) (at : ℕ) (st : Sst) (p : Kept s at st) where
         few_in_all = omega (arith, component_room s at st b);
       }
 
-  pub keep : {k : ℕ} → Due st k → body_verdict k s at st ≡ verdict.Fine → (k ≡ 23 → ⊥) → Kept s (at + size_of k) (added k at (byte_at s (at + 6)) st)
+  pub keep : {k : ℕ} → Due st k → body_verdict k s at st ≡ Ok tt → (k ≡ 23 → ⊥) → Kept s (at + size_of k) (added k at (byte_at s (at + 6)) st)
   unfolding size_of count
   keep (settings z) b n = after_settings z
   keep (tone l u) b n = after_tone l u b

@@ -1,14 +1,9 @@
+pub mod Roomy
 pub mod Stepped
-pub mod Places
 pub mod Rows
 pub mod Loops
 pub mod Lists
 pub mod Marks
-pub mod Records
 pub mod Reading
-pub mod HandedBack
-pub mod AtEnd
-pub mod Turns
-pub mod Single
 pub mod Kept
 pub mod Front

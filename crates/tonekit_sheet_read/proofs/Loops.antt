@@ -1,8 +1,5 @@
 -- Laws of tonekit_core's loops: a state that no turn changes, and a loop in two parts. Assumes nothing.
-use Prim.Native.Nat.{ℕ, zero, suc, ◌+◌, ◌-◌, ◌≤◌, ◌<◌}
-use mathlib.Core.Path.{◌≡◌, refl, sym, ◌∙◌}
-use mathlib.Core.Bool.{Bool, true, false}
-use native.Mathlib.Omega.{arith}
+use Rattle.std.proofs.Common.{ℕ, zero, suc, ◌+◌, ◌-◌, ◌≤◌, ◌<◌, ◌≡◌, refl, sym, ◌∙◌, Bool, true, false, arith}
 use Rattle.tonekit_core.specs.Loop.{turns, range, again}
 use Rattle.tonekit_core.proofs.Split.{split}
 

@@ -1,12 +1,6 @@
 -- Marks of a sheet's lists: equal lists have one mark, and one more mark is kept with the others. Assumes nothing.
-use Prim.Native.Nat.{ℕ, ◌+◌, ◌*◌, ◌≤◌, ◌<◌}
-use mathlib.Core.Path.{◌≡◌, sym, ◌∙◌, ap}
-use mathlib.Core.Bool.{true, false}
-use mathlib.Core.List.{List}
-use native.Mathlib.Omega.{arith}
-use lib.Dec.{eqb}
-use lib.ListN.{length, get_or, set}
-use borrow.Author.Tests.{eqb-true, eqb-false}
+use Rattle.std.proofs.Common.{ℕ, ◌+◌, ◌*◌, ◌≤◌, ◌<◌, ◌≡◌, sym, ◌∙◌, ap, true, false, List, arith, eqb, length, get_or, set, take, length-take-le, get_or-take, eqb-true}
+use borrow.Author.Tests.{eqb-false}
 use Rattle.tonekit_core.specs.Loop.{range}
 use Rattle.tonekit_core.proofs.LoopLaws.{range_same}
 use Rattle.tonekit_core.proofs.Entries.{entries_more}
@@ -51,3 +45,9 @@ marked_apart s a b h = split (same_lists s a b) (λ e. absurd (h (mark_same s a 
 -- ---- one more mark
 pub marked_more : (s at marks : List ℕ) (n m : ℕ) → Marked s at marks n → n < length marks → m ≡ mark_at s (get_or at n 0) → Marked s at (set marks n m) (n + 1)
 marked_more s at marks n m g l e = entries_more (λ i x. x ≡ mark_at s (get_or at i 0)) marks n m l g e
+
+-- the marks of the first n lists, beside those lists alone
+pub marked_part : (s at marks : List ℕ) (n : ℕ) → n ≤ length at → n ≤ length marks → Marked s at marks n → Marked s (take n at) (take n marks) (length (take n marks))
+marked_part s at marks n h l g i b =
+    let c : i < n = omega (arith, length-take-le n marks l) in
+    rw (get_or-take n marks i 0 c, get_or-take n at i 0 c) (g i c)

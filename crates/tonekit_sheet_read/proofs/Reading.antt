@@ -1,24 +1,17 @@
 -- What the reader's loop keeps: from here it gives what it gives of the whole, and its place is the one that the counts give. Assumes nothing.
-use Prim.Native.Nat.{ℕ, ◌+◌, ◌-◌, ◌*◌, ◌≤◌, ◌<◌}
-use mathlib.Core.Path.{◌≡◌, refl}
-use mathlib.Core.List.{List}
-use native.Mathlib.Omega.{arith}
-use lib.ListN.{length, length-append}
-use lib.Dec.{leb}
-use borrow.Author.Tests.{ne_eqb, leb-true, leb-false}
+use Rattle.std.proofs.Common.{ℕ, ◌+◌, ◌-◌, ◌*◌, ◌≤◌, ◌<◌, ◌≡◌, refl, List, arith, length, length-append, leb, ne_eqb, leb-true, leb-false, Ok, Err}
 use Rattle.tonekit_core.specs.Loop.{loop_to, loop_again, loop_stop}
 use Rattle.tonekit_core.specs.declared.Refusal.{Refusal}
 use Rattle.tonekit_core.specs.declared.Refusal.TheVariants.{CutShort}
-use Rattle.tonekit_core.specs.declared.Verdict.TheVariants as verdict
 use Rattle.tonekit_bytes.specs.Fields.{byte_at}
 use Rattle.tonekit_core.proofs.Split.{split}
 use Rattle.tonekit_pack.proofs.InOrder.{order_length}
-use Rattle.tonekit_sheet.specs.Reader.{Sst, refused, rows_due, size_of, added, finished, body_verdict, record_verdict, record_turn, read_sheet}
+use Rattle.tonekit_sheet.specs.Reader.{Sst, refused, rows_due, size_of, added, finished, body_verdict, record_verdict, record_turn, start, read_sheet}
 use Rattle.tonekit_sheet_read.specs.declared.Sheet.{Sheet}
-use Rattle.tonekit_sheet_read.specs.Held.{shown, Roomy, Follows}
+use Rattle.tonekit_sheet_read.specs.Held.{shown, Follows}
 use Rattle.tonekit_sheet_read.proofs.Stepped.{stepped_length}
-use Rattle.tonekit_sheet_read.proofs.Places.{rows_few}
-use Rattle.tonekit_sheet_read.proofs.Records.{Closed, rows, components, Due, settings, tone, accent, row, list, component, finish, Sound, sound, size_pos, tone_room, accent_room, list_room, component_room}
+use Rattle.tonekit_sheet_read.proofs.Rows.{due_few}
+use Rattle.tonekit_sheet.proofs.Records.{Complete, rows_done, list_done, Due, settings, tone, accent, row, list, component, finish, Sound, sound, size_pos, tone_room, accent_room, list_room, component_room}
 
 -- where the counts put the next record
 abbrev pub place_of : Sst → ℕ
@@ -35,13 +28,25 @@ pub record Placed (at : ℕ) (st : Sst) : Type 0 where
   pub few_rows : st.rows ≤ rows_due st
   pub all_rows : 21 ≤ st.last → st.rows ≡ rows_due st
 
-full : (at : ℕ) (st : Sst) → Placed at st → Closed st → st.rows ≡ rows_due st
-full at st p (rows l e) = e
-full at st p (components l e) = p.all_rows (omega arith)
+pub placed_start : Placed 0 start.st
+placed_start = record {
+  first = λ q. refl;
+  place = λ q. absurd (omega arith);
+  no_tones = λ q. refl;
+  no_accents = λ q. refl;
+  no_rows = λ q. refl;
+  no_lists = λ q. (refl, refl, refl);
+  few_rows = omega arith;
+  all_rows = λ q. absurd (omega arith);
+}
 
-begun : (st : Sst) → Closed st → 1 ≤ st.last
-begun st (rows l e) = omega arith
-begun st (components l e) = omega arith
+full : (at : ℕ) (st : Sst) → Placed at st → Complete st → st.rows ≡ rows_due st
+full at st p (rows_done l e) = e
+full at st p (list_done l e) = p.all_rows (omega arith)
+
+begun : (st : Sst) → Complete st → 1 ≤ st.last
+begun st (rows_done l e) = omega arith
+begun st (list_done l e) = omega arith
 
 -- components are due of a list that was read
 pub after_list : (at : ℕ) (st : Sst) → Placed at st → 0 < st.due → 21 ≤ st.last
@@ -118,7 +123,6 @@ placed_next at count st (finish d) n p = absurd (n refl)
 
 -- from here the reader gives what it gives of the whole
 pub record Going (s : List ℕ) (st : Sheet) (at : ℕ) : Type 0 where
-  pub roomy : Roomy st
   pub placed : Placed at (shown st)
   pub inside : at ≤ length s
   pub fuel : ℕ
@@ -143,13 +147,13 @@ module _ (s : List ℕ) (st : Sheet) (at : ℕ) (g : Going s st at) where
       (λ a. omega (arith, g.placed.first (omega (arith, leb-false 1 st.last a))))
 
   pub few_rows : rows_due (shown st) ≤ 576
-  few_rows = rw (tones_are, accents_are) (rows_few st.accents st.tones g.roomy.few_accents g.roomy.few_tones)
+  few_rows = due_few st
 
   -- what a record that is due and fine shows: it stands where `add` takes it to stand, and there is room
   other : {k : ℕ} → (k ≡ 18 → ⊥) → (k ≡ 19 → ⊥) → (k ≡ 20 → ⊥) → (k ≡ 21 → ⊥) → (k ≡ 22 → ⊥) → (count : ℕ) → Follows k at count st
   other a b c d e count = record { tone = λ q. absurd (a q); accent = λ q. absurd (b q); row = λ q. absurd (c q); list = λ q. absurd (d q); component = λ q. absurd (e q) }
 
-  follows_of : {k : ℕ} → Due (shown st) k → body_verdict k s at (shown st) ≡ verdict.Fine → Follows k at (byte_at s (at + 6)) st
+  follows_of : {k : ℕ} → Due (shown st) k → body_verdict k s at (shown st) ≡ Ok tt → Follows k at (byte_at s (at + 6)) st
   follows_of (settings z) b = other (λ q. omega arith) (λ q. omega arith) (λ q. omega arith) (λ q. omega arith) (λ q. omega arith) (byte_at s (at + 6))
   follows_of (tone l u) b = record {
     tone = λ q. (omega (arith, g.placed.place (omega arith), g.placed.no_accents u, g.placed.no_rows (omega arith), g.placed.no_lists (omega arith), tones_are), omega (arith, tone_room s at (shown st) b, tones_are), omega (arith, g.placed.no_accents u, accents_are));
@@ -188,10 +192,10 @@ module _ (s : List ℕ) (st : Sheet) (at : ℕ) (g : Going s st at) where
   }
   follows_of (finish d) b = other (λ q. omega arith) (λ q. omega arith) (λ q. omega arith) (λ q. omega arith) (λ q. omega arith) (byte_at s (at + 6))
 
-  pub refuses : (r : Refusal) → record_verdict s at (shown st) ≡ verdict.Refused r → refused r at ≡ read_sheet s
+  pub refuses : (r : Refusal) → record_verdict s at (shown st) ≡ Err r → refused r at ≡ read_sheet s
   refuses r v = loop_stop (record_turn s) (refused CutShort (length s)) g.same (omega arith) (rw v)
 
-  module _ (v : record_verdict s at (shown st) ≡ verdict.Fine) where
+  module _ (v : record_verdict s at (shown st) ≡ Ok tt) where
     pub ok : Sound s at (shown st)
     ok = sound s at (shown st) v
 
@@ -201,9 +205,8 @@ module _ (s : List ℕ) (st : Sheet) (at : ℕ) (g : Going s st at) where
     pub follows : Follows (byte_at s at) at (byte_at s (at + 6)) st
     follows = follows_of ok.due ok.body
 
-    pub goes : (st' : Sheet) → (byte_at s at ≡ 23 → ⊥) → shown st' ≡ added (byte_at s at) at (byte_at s (at + 6)) (shown st) → Roomy st' → Going s st' (at + size_of (byte_at s at))
-    goes st' n e r = record {
-      roomy = r;
+    pub goes : (st' : Sheet) → (byte_at s at ≡ 23 → ⊥) → shown st' ≡ added (byte_at s at) at (byte_at s (at + 6)) (shown st) → Going s st' (at + size_of (byte_at s at))
+    goes st' n e = record {
       placed = rw e (placed_next at (byte_at s (at + 6)) (shown st) ok.due n g.placed);
       inside = ok.whole;
       fuel = g.fuel - 1;

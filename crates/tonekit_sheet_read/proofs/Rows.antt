@@ -1,28 +1,40 @@
 -- What is due at a row's places. Assumes nothing.
-use Prim.Native.Nat.{ℕ, zero, suc, ◌+◌, ◌-◌, ◌*◌, ◌/◌, ◌%◌, ◌≤◌, ◌<◌}
-use mathlib.Core.Path.{◌≡◌}
-use mathlib.Core.Bool.{◌&&◌}
-use mathlib.Core.List.{List}
-use native.Mathlib.Omega.{arith}
-use native.Mathlib.Numerals.{sub-one}
-use lib.Dec.{eqb}
+use Rattle.std.proofs.Common.{ℕ, zero, suc, ◌+◌, ◌-◌, ◌*◌, ◌/◌, ◌%◌, ◌≤◌, ◌<◌, ◌≡◌, ◌&&◌, List, arith, sub-one, eqb}
 use Rattle.tonekit_bytes.specs.Fields.{byte_at}
-use Rattle.tonekit_sheet.specs.Reader.{row_at, prev_due, row_due}
+use Rattle.tonekit_sheet.specs.Sheet.{row_count}
+use Rattle.tonekit_sheet.specs.Reader.{rows_due, row_at, prev_due, row_due}
 use Rattle.tonekit_sheet_read.specs.declared.Sheet.{Sheet}
 use Rattle.tonekit_sheet_read.specs.Held.{shown}
 use Rattle.tonekit_sheet_read.proofs.Stepped.{stepped_length, stepped_get}
-use Rattle.tonekit_sheet_read.proofs.Places.{accent_inside, tone_inside}
+use Rattle.tonekit_sheet.proofs.RowPlaces.{rows_few, some_tone, Places, row_places}
 
 pub prev_some : (s : List ℕ) (st : Sheet) (p : ℕ) → 0 < p → p ≤ st.tones → prev_due s (shown st) p ≡ byte_at s (9 + 15 * (p - 1) + 1)
 prev_some s st zero h l = absurd (omega arith)
 prev_some s st (suc p) h l = rw (sub-one, stepped_get 9 15 st.tones p (omega arith))
 
--- the row due, with each number read at its offset
-pub row_due_at : (s : List ℕ) (st : Sheet) (r o : ℕ) → r < st.accents * (st.tones * (st.tones + 1)) → o ≡ row_at (shown st) r
-    → row_due s (shown st) r
-    ≡ (eqb (byte_at s (o + 1)) (byte_at s (9 + 15 * st.tones + 18 * (r / (st.tones * (st.tones + 1))) + 1))
-    && (eqb (byte_at s (o + 2)) (byte_at s (9 + 15 * (r / (st.tones + 1) % st.tones) + 1))
-    && eqb (byte_at s (o + 3)) (prev_due s (shown st) (r % (st.tones + 1)))))
-unfolding row_due
-row_due_at s st r o h e =
-    rw (e, stepped_length 9 15 st.tones, stepped_get (9 + 15 * st.tones) 18 st.accents (r / (st.tones * (st.tones + 1))) (accent_inside st.accents st.tones r h), stepped_get 9 15 st.tones (r / (st.tones + 1) % st.tones) (tone_inside st.accents st.tones r h))
+pub due_count : (st : Sheet) → rows_due (shown st) ≡ row_count st.accents st.tones
+due_count st = simp stepped_length
+
+pub due_few : (st : Sheet) → rows_due (shown st) ≤ 576
+due_few st = rw (due_count st) (rows_few st.accents st.tones st.few_accents st.few_tones)
+
+module _ (st : Sheet) (r : ℕ) (h : r < rows_due (shown st)) where
+  below : r < row_count st.accents st.tones
+  below = rw (due_count st) at h
+
+  pub a_tone : 1 ≤ st.tones
+  a_tone = some_tone st.accents st.tones r below
+
+  -- a row that is due has its accent, tone and prev
+  pub places : Places st.accents st.tones r
+  places = row_places st.accents st.tones r a_tone below
+
+  -- the row due, with each number read at its offset
+  pub row_due_at : (s : List ℕ) (o : ℕ) → o ≡ row_at (shown st) r
+      → row_due s (shown st) r
+      ≡ (eqb (byte_at s (o + 1)) (byte_at s (9 + 15 * st.tones + 18 * (r / (st.tones * (st.tones + 1))) + 1))
+      && (eqb (byte_at s (o + 2)) (byte_at s (9 + 15 * (r / (st.tones + 1) % st.tones) + 1))
+      && eqb (byte_at s (o + 3)) (prev_due s (shown st) (r % (st.tones + 1)))))
+  unfolding row_due
+  row_due_at s o e =
+      rw (e, stepped_length 9 15 st.tones, stepped_get (9 + 15 * st.tones) 18 st.accents (r / (st.tones * (st.tones + 1))) places.accent, stepped_get 9 15 st.tones (r / (st.tones + 1) % st.tones) places.tone)

@@ -1,13 +1,6 @@
 -- Offsets that stand a fixed step apart. Assumes nothing.
-use Prim.Native.Nat.{ℕ, zero, suc, ◌+◌, ◌*◌, ◌≤◌, ◌<◌}
-use mathlib.Core.Path.{◌≡◌, refl, ◌∙◌}
-use mathlib.Core.List.{[], ◌∷◌, ◌++◌}
-use native.Mathlib.Omega.{arith}
-use native.Mathlib.Nat.{mul-le-mul}
-use native.Mathlib.Numerals.{add-one}
-use lib.Dec.{ltb}
-use borrow.Author.Tests.{ltb-true, ltb-false}
-use lib.ListN.{length, get_or, length-append, get_or-append}
+use Rattle.std.proofs.Common.{ℕ, zero, suc, ◌+◌, ◌*◌, ◌≤◌, ◌<◌, ◌≡◌, refl, ◌∙◌, [], ◌∷◌, ◌++◌, arith, mul-le-mul, add-one, ltb, ltb-true, ltb-false, length, get_or, length-append}
+use lib.ListN.{get_or-append}
 use lib.Seq.{get_or_at}
 use Rattle.tonekit_core.proofs.Split.{split}
 use Rattle.tonekit_sheet_read.specs.Held.{stepped}

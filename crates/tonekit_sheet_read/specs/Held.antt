@@ -1,12 +1,10 @@
 -- What the reader's struct and answer stand for.
-use Rattle.std.specs.Prelude.{ℕ, zero, suc, ◌+◌, ◌*◌, ◌≤◌, ◌<◌, ◌≡◌, List, [], ◌∷◌, ◌++◌, length, replicate}
-use Rattle.tonekit_core.specs.declared.Refusal.{Refusal}
+use Rattle.std.specs.Prelude.{ℕ, zero, suc, ◌+◌, ◌*◌, ◌≤◌, ◌<◌, ◌≡◌, List, [], ◌∷◌, ◌++◌, length, Result, Ok, Err}
+use Rattle.tonekit_core.specs.declared.Rejection.{Rejection}
 use Rattle.tonekit_core.specs.Layout.{settings_size, sheet_tone_kind, sheet_tone_size, sheet_accent_kind, sheet_accent_size, sheet_row_kind}
 use Rattle.tonekit_core.specs.Layout.{sheet_list_kind, sheet_component_kind, sheet_tone_at, sheet_accent_at}
 use Rattle.tonekit_pack.specs.Held.{in_order}
 use Rattle.tonekit_sheet_read.specs.declared.Sheet.{Sheet}
-use Rattle.tonekit_sheet_read.specs.declared.SheetRead.{SheetRead}
-use Rattle.tonekit_sheet_read.specs.declared.SheetRead.TheVariants.{Good, Refused}
 use Rattle.tonekit_sheet_read.specs.declared.Loaded.{Loaded}
 use Rattle.tonekit_sheet.specs.Reader.{Sst, Out, loaded, refused, read_sheet}
 
@@ -27,25 +25,11 @@ shown p = record {
   total = p.total;
 }
 
-abbrev pub outcome : SheetRead → Sst → Out
-outcome (Good e) st = loaded st e
-outcome (Refused r place) st = refused r place
+abbrev pub answered : Result Loaded Rejection → Out
+answered (Ok l) = loaded (shown l.sheet) l.end
+answered (Err e) = refused e.why e.place
 
-abbrev pub answered : Loaded → Out
-answered l = outcome l.read (shown l.sheet)
-
--- nothing read
-abbrev pub empty_sheet : Sheet
-empty_sheet = record { last = 0; tones = 0; accents = 0; rows = 0; lists = 0; due = 0; total = 0; listat = replicate 128 0 }
-
-abbrev pub turned_back : Refusal → ℕ → Loaded
-turned_back r place = record { read = Refused r place; sheet = empty_sheet }
-
--- with a refusal nothing is handed back, whatever was read before it
-abbrev pub EmptyIfRefused : Loaded → Type 0
-EmptyIfRefused l = (r : Refusal) (place : ℕ) → l.read ≡ Refused r place → l.sheet ≡ empty_sheet
-
--- the counts keep document 01's limits, and the array has the length of its own
+-- what every Sheet keeps: the format's limits, and the length of its array
 pub record Roomy (p : Sheet) : Type 0 where
   pub few_tones : p.tones ≤ 8
   pub few_accents : p.accents ≤ 8
@@ -57,7 +41,6 @@ pub record Roomy (p : Sheet) : Type 0 where
 
 -- a sheet as its reader handed it back for these bytes, which load
 pub record ReadFrom (s : List ℕ) (p : Sheet) : Type 0 where
-  pub roomy : Roomy p
   pub end : ℕ
   pub reads : read_sheet s ≡ loaded (shown p) end
 

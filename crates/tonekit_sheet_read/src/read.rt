@@ -1,28 +1,28 @@
 // What is said of one record of a sheet, and what is kept of it.
-ghost use Rattle.std.specs.Prelude.{◌≡◌, ◌+◌, ◌≤◌, length};
+ghost use Rattle.std.specs.Prelude.{◌≡◌, ◌+◌, ◌≤◌, length, replicate};
 ghost use Rattle.tonekit_core.specs.Layout.{sheet_tone_size, sheet_accent_size, sheet_component_size};
 ghost use Rattle.tonekit_pack.specs.Pack.{holds};
-ghost use Rattle.tonekit_sheet.specs.Reader.{rows_due, complete, due_next, size_of, tone_verdict, accent_verdict, row_verdict, list_verdict, point_fine, points_fine, last_list, component_verdict, body_verdict, record_verdict, added};
-ghost use Rattle.tonekit_sheet_read.specs.Held.{stepped, shown, empty_sheet, Roomy, Follows};
+ghost use Rattle.tonekit_sheet.specs.Reader.{rows_due, complete, due_next, size_of, tone_verdict, accent_verdict, row_verdict, list_verdict, point_fine, points_fine, last_list, component_verdict, body_verdict, record_verdict, added, start};
+ghost use Rattle.tonekit_sheet_read.specs.Held.{stepped, shown, Follows};
 
 use crate::Sheet;
 use tonekit_bytes::{byte_at, f32_at, u16_at, u32_at};
-use tonekit_core::{Refusal, Verdict, layout, limits};
+use tonekit_core::{Refusal, layout, limits};
 use tonekit_pack::ranges::{a_share, region_fine, tolerances_fine, weight_fine};
 use tonekit_pack::read::{in_turn, settings_verdict};
 use tonekit_sheet::size_of;
 
 // The rows that are due: one for each accent, tone, and tone or none before it.
+#[tactic(auto, using(crate::proofs::Rows::due_count, tonekit_sheet::proofs::RowPlaces::each_few, tonekit_sheet::proofs::RowPlaces::rows_few))]
 fn rows_due(st: Sheet) -> usize
-    requires { Roomy st }
     ensures { (result ≡ rows_due (shown st)) × (result ≤ 576) }
 {
     st.accents * (st.tones * (st.tones + 1))
 }
 
 // Whether all rows are there, and all components of the last list.
+#[tactic(auto, unfolding(tonekit_sheet::specs::Reader::complete))]
 fn complete(st: Sheet) -> bool
-    requires { Roomy st }
     ensures { result ≡ complete (shown st) }
 {
     if st.last == layout::SHEET_ROW_KIND {
@@ -31,9 +31,10 @@ fn complete(st: Sheet) -> bool
     (st.last == layout::SHEET_COMPONENT_KIND) & (st.due == 0)
 }
 
+// Stays: a kind is the byte that the format gives it, and the arms name the format's constants.
 // Whether a record of kind k may stand here.
+#[tactic(auto, unfolding(tonekit_sheet::specs::Reader::due_next))]
 fn due_next(st: Sheet, k: u8) -> bool
-    requires { Roomy st }
     ensures { result ≡ due_next (shown st) k }
 {
     let last = st.last;
@@ -53,8 +54,10 @@ fn due_next(st: Sheet, k: u8) -> bool
     }
 }
 
+// Stays: beside tonekit_pack's search and list_there, since tones and accents of a sheet have no offsets in an array to go over.
 // Whether one of n records, from an offset on and each so many bytes behind the one before, has x
 // as its number.
+#[tactic(auto, using(crate::proofs::Stepped::stepped_length, crate::proofs::Stepped::stepped_get, crate::proofs::Stepped::near, tonekit_pack::proofs::Numbers::hit, tonekit_pack::proofs::Numbers::miss, tonekit_pack::proofs::Numbers::none_left))]
 fn holds_from(s: &[u8], o: usize, step: usize, n: usize, x: u8) -> bool
     requires { (o ≤ 65536) × (step ≤ sheet_accent_size) × (n ≤ 8) }
     ensures { result ≡ holds s.now (stepped o step n) x }
@@ -69,7 +72,6 @@ fn holds_from(s: &[u8], o: usize, step: usize, n: usize, x: u8) -> bool
 
 // Whether a tone has x as its number.
 fn tone_held(s: &[u8], st: Sheet, x: u8) -> bool
-    requires { Roomy st }
     ensures { result ≡ holds s.now (shown st).tones x }
 {
     holds_from(
@@ -83,16 +85,17 @@ fn tone_held(s: &[u8], st: Sheet, x: u8) -> bool
 
 // Whether an accent has x as its number.
 fn accent_held(s: &[u8], st: Sheet, x: u8) -> bool
-    requires { Roomy st }
     ensures { result ≡ holds s.now (shown st).accents x }
 {
     let o = layout::sheet_tone_at(st.tones);
     holds_from(s, o, layout::SHEET_ACCENT_SIZE, st.accents, x)
 }
 
+// Stays: beside tonekit_pack's tones and accents, since each has fields that the other lacks, at other places.
 // What is said of a record of each kind that is due and whole, here and below. A tone: number, prior, region.
-fn tone_verdict(s: &[u8], o: usize, st: Sheet) -> Verdict
-    requires { Roomy st × (o + sheet_tone_size ≤ length s.now) }
+#[tactic(auto, using(crate::proofs::Stepped::stepped_length), unfolding(tonekit_sheet::specs::Reader::tone_verdict))]
+fn tone_verdict(s: &[u8], o: usize, st: Sheet) -> Result<(), Refusal>
+    requires { o + sheet_tone_size ≤ length s.now }
     ensures { result ≡ tone_verdict s.now o (shown st) }
 {
     let number = byte_at(s, o, layout::OWN_NUMBER);
@@ -103,9 +106,11 @@ fn tone_verdict(s: &[u8], o: usize, st: Sheet) -> Verdict
     in_turn(limits::TONES <= st.tones, fine, new, true)
 }
 
+// Stays: beside tonekit_pack's, since a pack's has a parent, and its offsets stand in an array.
 // An accent: number, tolerances. Its order waits for the end.
-fn accent_verdict(s: &[u8], o: usize, st: Sheet) -> Verdict
-    requires { Roomy st × (o + sheet_accent_size ≤ length s.now) }
+#[tactic(auto, using(crate::proofs::Stepped::stepped_length), unfolding(tonekit_sheet::specs::Reader::accent_verdict))]
+fn accent_verdict(s: &[u8], o: usize, st: Sheet) -> Result<(), Refusal>
+    requires { o + sheet_accent_size ≤ length s.now }
     ensures { result ≡ accent_verdict s.now o (shown st) }
 {
     let number = byte_at(s, o, layout::OWN_NUMBER);
@@ -115,8 +120,8 @@ fn accent_verdict(s: &[u8], o: usize, st: Sheet) -> Verdict
 }
 
 // A row: its accent, its tone and what stood before are held. Its order and its lists wait for the end.
-fn row_verdict(s: &[u8], o: usize, st: Sheet) -> Verdict
-    requires { Roomy st }
+#[tactic(auto, unfolding(tonekit_sheet::specs::Reader::row_verdict, tonekit_pack::specs::Pack::zero_or_held))]
+fn row_verdict(s: &[u8], o: usize, st: Sheet) -> Result<(), Refusal>
     ensures { result ≡ row_verdict s.now o (shown st) }
 {
     let accent = byte_at(s, o, layout::SHEET_ROW_ACCENT);
@@ -129,8 +134,8 @@ fn row_verdict(s: &[u8], o: usize, st: Sheet) -> Verdict
 }
 
 // A list: count, number, owner, form, label.
-fn list_verdict(s: &[u8], o: usize, st: Sheet) -> Verdict
-    requires { Roomy st }
+#[tactic(auto, using(tonekit_pack::proofs::InOrder::order_length), unfolding(tonekit_sheet::specs::Reader::list_verdict))]
+fn list_verdict(s: &[u8], o: usize, st: Sheet) -> Result<(), Refusal>
     ensures { result ≡ list_verdict s.now o (shown st) }
 {
     let owner = byte_at(s, o, layout::SHEET_LIST_OWNER);
@@ -151,7 +156,9 @@ fn point_fine(x: f32) -> bool
     (-128.0 <= x) & (x <= 128.0)
 }
 
+// Stays: beside tonekit_pack's knots_fine, which also wants zero bytes in the slots past its knots, and has another bound.
 // Ten points from an offset on.
+#[tactic(auto, using(tonekit_core::specs::Loop::again, tonekit_core::specs::Loop::ended), unfolding(tonekit_sheet::specs::Reader::points_fine))]
 fn points_fine(s: &[u8], o: usize) -> bool
     ensures { result ≡ points_fine s.now o }
 {
@@ -163,21 +170,20 @@ fn points_fine(s: &[u8], o: usize) -> bool
 }
 
 // The offset of the last list, 0 where there is none.
+#[tactic(auto, using(tonekit_pack::proofs::InOrder::last_none, tonekit_pack::proofs::InOrder::last_read, crate::proofs::Lists::order_take))]
 fn last_list(st: Sheet) -> usize
-    requires { Roomy st }
     ensures { result ≡ last_list (shown st) }
 {
-    let at = st.listat;
-    let n = st.lists;
-    if n == 0 {
-        return 0;
+    match st.listat[..st.lists].last() {
+        Some(o) => usize::from(*o),
+        None => 0,
     }
-    at[n - 1] as usize
 }
 
 // A component: weight and points.
-fn component_verdict(s: &[u8], o: usize, st: Sheet) -> Verdict
-    requires { Roomy st × (o + sheet_component_size ≤ length s.now) }
+#[tactic(auto, unfolding(tonekit_sheet::specs::Reader::component_verdict))]
+fn component_verdict(s: &[u8], o: usize, st: Sheet) -> Result<(), Refusal>
+    requires { o + sheet_component_size ≤ length s.now }
     ensures { result ≡ component_verdict s.now o (shown st) }
 {
     let weight = u32_at(s, o, layout::SHEET_COMPONENT_WEIGHT);
@@ -187,9 +193,11 @@ fn component_verdict(s: &[u8], o: usize, st: Sheet) -> Verdict
     in_turn(limits::COMPONENTS <= st.total, fine, true, true)
 }
 
+// Stays: a kind is the byte that the format gives it; a pack has other kinds, with tests of their own.
 // What is said of a record of kind k, by its kind; the end has nothing to be wrong.
-fn body_verdict(k: u8, s: &[u8], o: usize, st: Sheet) -> Verdict
-    requires { Roomy st × (o + size_of k ≤ length s.now) }
+#[tactic(auto, unfolding(tonekit_sheet::specs::Reader::body_verdict, tonekit_sheet::specs::Reader::size_of))]
+fn body_verdict(k: u8, s: &[u8], o: usize, st: Sheet) -> Result<(), Refusal>
+    requires { o + size_of k ≤ length s.now }
     ensures { result ≡ body_verdict k s.now o (shown st) }
 {
     match k {
@@ -199,31 +207,35 @@ fn body_verdict(k: u8, s: &[u8], o: usize, st: Sheet) -> Verdict
         layout::SHEET_ROW_KIND => row_verdict(s, o, st),
         layout::SHEET_LIST_KIND => list_verdict(s, o, st),
         layout::SHEET_COMPONENT_KIND => component_verdict(s, o, st),
-        _ => Verdict::Fine,
+        _ => Ok(()),
     }
 }
 
+// Stays: beside tonekit_pack's, since what was read, which kind is due and a record's tests are each the format's own.
 // What is said of the record at o, after what st has.
-pub fn record_verdict(s: &[u8], o: usize, st: Sheet) -> Verdict
-    requires { Roomy st }
+#[tactic(auto, unfolding(tonekit_sheet::specs::Reader::record_verdict))]
+pub fn record_verdict(s: &[u8], o: usize, st: Sheet) -> Result<(), Refusal>
     ensures { result ≡ record_verdict s.now o (shown st) }
 {
     if s.len() <= o {
-        return Verdict::Refused(Refusal::CutShort);
+        return Err(Refusal::CutShort);
     }
     let k = s[o];
     if !due_next(st, k) {
-        return Verdict::Refused(Refusal::Misplaced);
+        return Err(Refusal::Misplaced);
     }
     if s.len() - o < size_of(k) {
-        return Verdict::Refused(Refusal::CutShort);
+        return Err(Refusal::CutShort);
     }
     body_verdict(k, s, o, st)
 }
 
+// Stays: beside tonekit_pack's, since the fields are other ones.
 // Before the first record.
+#[tactic(auto, unfolding(tonekit_pack::specs::Held::in_order, crate::specs::Held::stepped))]
 pub fn nothing() -> Sheet
-    ensures { result ≡ empty_sheet }
+    ensures read { shown result ≡ start.st }
+    ensures lists { result.listat ≡ replicate 128 0 }
 {
     Sheet {
         last: 0,
@@ -237,36 +249,29 @@ pub fn nothing() -> Sheet
     }
 }
 
+// Stays: a kind is the byte that the format gives it; of a pack other counts are kept.
 // What is kept once the record of kind k at o, a list of so many components, is fine.
+#[tactic(auto, using(crate::proofs::Stepped::stepped_more, crate::proofs::Stepped::stepped_none, tonekit_pack::proofs::InOrder::order_set), unfolding(tonekit_sheet::specs::Reader::added))]
 pub fn add(k: u8, o: usize, count: u8, st: Sheet) -> Sheet
-    requires { Roomy st × Follows k o count st }
-    ensures { (shown result ≡ added k o count (shown st)) × Roomy result }
+    requires { Follows k o count st }
+    ensures { shown result ≡ added k o count (shown st) }
 {
     let mut next = st;
     next.last = k;
-    if k == layout::SHEET_TONE_KIND {
-        next.tones = st.tones + 1;
-        return next;
-    }
-    if k == layout::SHEET_ACCENT_KIND {
-        next.accents = st.accents + 1;
-        return next;
-    }
-    if k == layout::SHEET_ROW_KIND {
-        next.rows = st.rows + 1;
-        return next;
-    }
-    if k == layout::SHEET_LIST_KIND {
-        let n = st.lists;
-        next.listat[n] = o as u16;
-        next.lists = n + 1;
-        next.due = count as usize;
-        return next;
-    }
-    if k == layout::SHEET_COMPONENT_KIND {
-        next.due = st.due - 1;
-        next.total = st.total + 1;
-        return next;
+    match k {
+        layout::SHEET_TONE_KIND => next.tones = st.tones + 1,
+        layout::SHEET_ACCENT_KIND => next.accents = st.accents + 1,
+        layout::SHEET_ROW_KIND => next.rows = st.rows + 1,
+        layout::SHEET_LIST_KIND => {
+            next.listat[st.lists] = o as u16;
+            next.lists = st.lists + 1;
+            next.due = usize::from(count);
+        }
+        layout::SHEET_COMPONENT_KIND => {
+            next.due = st.due - 1;
+            next.total = st.total + 1;
+        }
+        _ => {}
     }
     next
 }

@@ -1,11 +1,7 @@
 -- The pieces of a pack's sheet: from what each is written, and how long it is. Assumes nothing.
-use Prim.Native.Nat.{ℕ, zero, suc, ◌+◌, ◌-◌, ◌*◌, ◌≤◌, ◌<◌}
-use mathlib.Core.Path.{◌≡◌, refl, sym, ◌∙◌, ap, ap₂, subst}
-use mathlib.Core.List.{List, [], ◌∷◌, ◌++◌, map, append_assoc, append-nil}
-use native.Mathlib.Omega.{arith}
-use native.Mathlib.Nat.{add-zero, zero-add}
-use lib.Ieee.{Float, binary32, to_bits}
-use lib.ListN.{length, get_or, take, drop, length-append, length-map}
+use Rattle.std.proofs.Common.{ℕ, zero, suc, ◌+◌, ◌-◌, ◌*◌, ◌≤◌, ◌<◌, ◌≡◌, refl, sym, ◌∙◌, ap, ap₂, subst, List, [], ◌∷◌, ◌++◌, map, append_assoc, append-nil, arith, add-zero, zero-add, Float, to_bits, length, get_or, take, drop, length-append}
+use lib.Ieee.{binary32}
+use lib.ListN.{length-map}
 use lib.Seq.{sets, length-sets}
 use Rattle.tonekit_core.specs.Layout.{sheet_list_kind, sheet_list_size, sheet_component_size}
 use Rattle.tonekit_bytes.specs.Fields.{le16, f32_bytes, f32s_bytes}
@@ -13,17 +9,17 @@ use Rattle.tonekit_bytes.proofs.Write.{part_put}
 use Rattle.tonekit_pack.specs.Held.{in_order, shown}
 use Rattle.tonekit_pack.specs.declared.Pack.{Pack}
 use Rattle.tonekit_pack.proofs.InOrder.{order_length, order_get}
-use Rattle.tonekit_expect.specs.Lookup.{component_of}
+use Rattle.tonekit_expect.specs.Lookup.{Look, component_of}
 use Rattle.tonekit_expect.specs.Source.{Tone, Accent, Carried, carried, components, given, tone_at, accent_at}
 use Rattle.tonekit_expect.specs.declared.Component.{Component}
 use Rattle.tonekit_expect.specs.declared.Context.{Context}
 use Rattle.tonekit_expect.specs.declared.Listing.{Listing}
-use Rattle.tonekit_expect.specs.declared.Look.{Look}
 use Rattle.tonekit_expect.proofs.Carried.{named, components_length, components_at}
 use Rattle.tonekit_sheet.specs.Gather.{pieces, gather, gather_length, Wrote}
 use Rattle.tonekit_sheet.specs.Number.{number_in}
 use Rattle.tonekit_sheet.specs.Sheet.{no_tone, no_accent, no_carried, tone_bytes, accent_bytes, row_bytes, row_context, bits_bytes, component_bytes, components_bytes, list_bytes, tone_piece, row_piece}
-use Rattle.tonekit_sheet_plan.specs.declared.Sorted.{Sorted}
+use Rattle.tonekit_sheet_plan.specs.declared.order.Sorted.{Sorted}
+use Rattle.tonekit_sheet_plan.specs.declared.Plan.{Plan}
 use Rattle.tonekit_sheet_plan.specs.Rows.{pack_view, tones_of, accents_of, Ordered}
 use Rattle.tonekit_sheet_plan.specs.Listings.{carried_by, Kept}
 use Rattle.tonekit_sheet_plan.specs.Plans.{list_at, ListsFine}
@@ -109,15 +105,15 @@ head_is : (s : List ℕ) (l : Listing) (n : ℕ) → Kept s l → (sheet_list_ki
 head_is s l n k =
     rw (components_at s l no_carried l.count 0 k.some, (named s l 0).owner, (named s l 0).form, (named s l 0).label, components_length s l l.count)
 
-module _ (s lists : List ℕ) (n i : ℕ) (h : i < n) (k : Kept s (list_at s lists i)) where
-  list_piece_lem : planned_list s lists n i ≡ head_of (i + 1) (list_at s lists i) ++ components_part s (list_at s lists i)
+module _ (s : List ℕ) (plan : Plan) (i : ℕ) (h : i < plan.count) (k : Kept s (list_at s plan.lists i)) where
+  list_piece_lem : planned_list s plan i ≡ head_of (i + 1) (list_at s plan.lists i) ++ components_part s (list_at s plan.lists i)
   list_piece_lem =
-      ap (list_bytes (i + 1)) (planned_get s lists n i h)
-      ∙ ap₂ (λ (a b : List ℕ). a ++ b) (head_is s (list_at s lists i) (i + 1) k) (components_gather s (list_at s lists i))
+      ap (list_bytes (i + 1)) (planned_get s plan.lists plan.count i h)
+      ∙ ap₂ (λ (a b : List ℕ). a ++ b) (head_is s (list_at s plan.lists i) (i + 1) k) (components_gather s (list_at s plan.lists i))
 
-  list_length : sheet_list_size + sheet_component_size * (list_at s lists i).count ≡ length (planned_list s lists n i)
+  list_length : sheet_list_size + sheet_component_size * (list_at s plan.lists i).count ≡ length (planned_list s plan i)
   list_length =
-      let l = list_at s lists i in
+      let l = list_at s plan.lists i in
       omega (arith, ap length list_piece_lem, length-append (head_of (i + 1) l) (components_part s l), components_size s l)
 
 -- ---- what was written, under another name
@@ -128,17 +124,17 @@ pub wrote_size : {a : List ℕ} {at r : ℕ} {l m : List ℕ} → Wrote a at l m
 wrote_size {a} {at} {r} {l} {m} w = ap length w.same ∙ length-sets l at a
 
 -- list i, from its listing
-module _ (s lists : List ℕ) (n : ℕ) (g : ListsFine s lists n) (i : ℕ) (h : i < n) {l : Listing} (e : l ≡ list_at s lists i) where
+module _ (s : List ℕ) (plan : Plan) (g : ListsFine s plan.lists plan.count) (i : ℕ) (h : i < plan.count) {l : Listing} (e : l ≡ list_at s plan.lists i) where
   pub list_kept : Kept s l
-  list_kept = rw e (g.each i h)
+  list_kept = rw e (g.each i h).kept
 
-  pub list_is : head_of (i + 1) l ++ components_part s l ≡ planned_list s lists n i
-  list_is = rw e (sym (list_piece_lem s lists n i h (g.each i h)))
+  pub list_is : head_of (i + 1) l ++ components_part s l ≡ planned_list s plan i
+  list_is = rw e (sym (list_piece_lem s plan i h (g.each i h).kept))
 
-  pub list_size_lem : sheet_list_size + sheet_component_size * l.count ≡ length (planned_list s lists n i)
-  list_size_lem = rw e (list_length s lists n i h (g.each i h))
+  pub list_size_lem : sheet_list_size + sheet_component_size * l.count ≡ length (planned_list s plan i)
+  list_size_lem = rw e (list_length s plan i h (g.each i h).kept)
 
-  pub list_room : (at m : ℕ) → at + length (planned_list s lists n i) ≤ m → at + length (head_of (i + 1) l ++ components_part s l) ≤ m
+  pub list_room : (at m : ℕ) → at + length (planned_list s plan i) ≤ m → at + length (head_of (i + 1) l ++ components_part s l) ≤ m
   list_room at m r = omega (arith, r, ap length list_is)
 
 -- ---- a row

@@ -1,9 +1,6 @@
 -- The whole sheet of a pack: its parts one behind the other, its length, and what the writer answers. Assumes nothing.
-use Prim.Native.Nat.{ℕ, ◌+◌, ◌-◌, ◌*◌, ◌≤◌, ◌<◌}
-use mathlib.Core.Path.{◌≡◌, refl, ◌∙◌, ap, ap₂}
-use mathlib.Core.List.{List, [], ◌∷◌, ◌++◌}
-use native.Mathlib.Omega.{arith}
-use lib.ListN.{length, get_or, length-append, length-map}
+use Rattle.std.proofs.Common.{ℕ, ◌+◌, ◌-◌, ◌*◌, ◌≤◌, ◌<◌, ◌≡◌, refl, ◌∙◌, ap, ap₂, List, [], ◌∷◌, ◌++◌, arith, length, get_or, length-append}
+use lib.ListN.{length-map}
 use Rattle.tonekit_core.specs.Layout.{sheet_tone_size, sheet_accent_size, sheet_row_size, sheet_end_kind, sheet_end_size, sheet_row_at}
 use Rattle.tonekit_pack.specs.Held.{in_order, shown}
 use Rattle.tonekit_pack.specs.declared.Pack.{Pack}
@@ -11,14 +8,15 @@ use Rattle.tonekit_pack.proofs.InOrder.{order_length}
 use Rattle.tonekit_expect.specs.Source.{Accent, settings_at, tone_at, accent_at, source_of_pack}
 use Rattle.tonekit_sheet.specs.Gather.{gather, gather_length, gather_more, gather_none, Wrote, joined, room_first, room_then}
 use Rattle.tonekit_sheet.specs.Sheet.{view_of, no_accent, settings_bytes, accent_bytes, tone_piece, accent_piece, row_count, rows_of, lists_of, bytes_with, bytes_of, sheet}
-use Rattle.tonekit_sheet_plan.specs.declared.Sorted.{Sorted}
+use Rattle.tonekit_sheet_plan.specs.declared.order.Sorted.{Sorted}
+use Rattle.tonekit_sheet_plan.specs.declared.Plan.{Plan}
 use Rattle.tonekit_sheet_plan.specs.Rows.{pack_view, Ordered}
-use Rattle.tonekit_sheet_plan.specs.Plans.{planned}
+use Rattle.tonekit_sheet_plan.specs.Plans.{planned_by}
 use Rattle.tonekit_sheet_plan.proofs.Memo.{planned_length}
 use Rattle.tonekit_sheet_plan.proofs.Views.{view_tones, view_sorted, view_rows}
 use Rattle.tonekit_sheet_write.specs.Pieces.{sorted_piece, planned_row, planned_list, tones_part, accents_part, rows_part, lists_part, planned_sheet}
 
-module _ (s : List ℕ) (p : Pack) (a : Sorted) (lists : List ℕ) (n : ℕ) where
+module _ (s : List ℕ) (p : Pack) (a : Sorted) (plan : Plan) where
   -- the six parts, one behind the other
   abbrev pub A : List ℕ
   A = settings_bytes (settings_at s 0)
@@ -30,16 +28,16 @@ module _ (s : List ℕ) (p : Pack) (a : Sorted) (lists : List ℕ) (n : ℕ) whe
   C = accents_part s a
 
   abbrev pub D : List ℕ
-  D = rows_part s p a lists n
+  D = rows_part s p a plan
 
   abbrev pub E : List ℕ
-  E = lists_part s lists n
+  E = lists_part s plan
 
   abbrev pub F : List ℕ
   F = sheet_end_kind ∷ []
 
   abbrev pub Whole : List ℕ
-  Whole = planned_sheet s p lists n
+  Whole = planned_sheet s p plan
 
   module _ (o : Ordered s (shown p) a) where
     settings_are : (pack_view s (shown p)).settings ≡ settings_at s 0
@@ -62,8 +60,8 @@ module _ (s : List ℕ) (p : Pack) (a : Sorted) (lists : List ℕ) (n : ℕ) whe
     parts =
         let v = pack_view s (shown p) in
         let b : gather (tone_piece v) 0 (length v.tones) ≡ B = ap (gather (tone_piece v) 0) tones_are in
-        let d : gather (planned_row s p lists n) 0 (rows_of v) ≡ D = ap (gather (planned_row s p lists n) 0) rows_are in
-        let e : gather (planned_list s lists n) 0 (length (planned s lists n)) ≡ E = ap (gather (planned_list s lists n) 0) (planned_length s lists n) in
+        let d : gather (planned_row s p plan) 0 (rows_of v) ≡ D = ap (gather (planned_row s p plan) 0) rows_are in
+        let e : gather (planned_list s plan) 0 (length (planned_by s plan)) ≡ E = ap (gather (planned_list s plan) 0) (planned_length s plan.lists plan.count) in
         ap₂ (λ (x y : List ℕ). x ++ y) (ap settings_bytes settings_are)
         (ap₂ (λ (x y : List ℕ). x ++ y) b (ap₂ (λ (x y : List ℕ). x ++ y) accents_are (ap₂ (λ (x y : List ℕ). x ++ y) d (ap (λ (x : List ℕ). x ++ F) e))))
 
@@ -72,7 +70,7 @@ module _ (s : List ℕ) (p : Pack) (a : Sorted) (lists : List ℕ) (n : ℕ) whe
     sheet_length r o z h at k =
         let b : length B ≡ sheet_tone_size * (p.tones - 0) = gather_length (tone_piece (pack_view s (shown p))) sheet_tone_size (λ i. refl) 0 p.tones in
         let c : length C ≡ sheet_accent_size * (a.count - 0) = gather_length (sorted_piece s a) sheet_accent_size (λ i. refl) 0 a.count in
-        let d : length D ≡ sheet_row_size * (row_count a.count p.tones - 0) = gather_length (planned_row s p lists n) sheet_row_size (λ i. refl) 0 (row_count a.count p.tones) in
+        let d : length D ≡ sheet_row_size * (row_count a.count p.tones - 0) = gather_length (planned_row s p plan) sheet_row_size (λ i. refl) 0 (row_count a.count p.tones) in
         omega
         (arith, ap length parts, length-append A (B ++ (C ++ (D ++ (E ++ F)))), length-append B (C ++ (D ++ (E ++ F))), length-append C (D ++ (E ++ F)), length-append D (E ++ F), length-append E F)
 
@@ -120,17 +118,17 @@ module _ (s : List ℕ) (p : Pack) (a : Sorted) (lists : List ℕ) (n : ℕ) whe
                 all_written w₆ = rw parts (joined w₁ (joined w₂ (joined w₃ (joined w₄ (joined w₅ w₆)))))
 
 -- ---- the sum of the lists' lengths
-module _ (s lists : List ℕ) (n : ℕ) where
+module _ (s : List ℕ) (plan : Plan) where
   abbrev left : ℕ → ℕ
-  left i = length (gather (planned_list s lists n) i n)
+  left i = length (gather (planned_list s plan) i plan.count)
 
-  pub sum_on : (i total m : ℕ) → total + left i ≡ length (lists_part s lists n) → i < n → m ≡ length (planned_list s lists n i) → total + m + left (i + 1) ≡ length (lists_part s lists n)
-  sum_on i total m e h k = omega (arith, e, gather_more (planned_list s lists n) i n h, k)
+  pub sum_on : (i total m : ℕ) → total + left i ≡ length (lists_part s plan) → i < plan.count → m ≡ length (planned_list s plan i) → total + m + left (i + 1) ≡ length (lists_part s plan)
+  sum_on i total m e h k = omega (arith, e, gather_more (planned_list s plan) i plan.count h, k)
 
-  pub sum_end : (i total : ℕ) → total + left i ≡ length (lists_part s lists n) → n ≤ i → total ≡ length (lists_part s lists n)
-  sum_end i total e h = omega (arith, e, gather_none (planned_list s lists n) i n h)
+  pub sum_end : (i total : ℕ) → total + left i ≡ length (lists_part s plan) → plan.count ≤ i → total ≡ length (lists_part s plan)
+  sum_end i total e h = omega (arith, e, gather_none (planned_list s plan) i plan.count h)
 
 -- ---- the lists planned are those of the sheet
-pub sheet_is : (s : List ℕ) (p : Pack) (lists : List ℕ) (n : ℕ) → planned s lists n ≡ lists_of (pack_view s (shown p)) → planned_sheet s p lists n ≡ sheet (source_of_pack s (shown p))
+pub sheet_is : (s : List ℕ) (p : Pack) (plan : Plan) → planned_by s plan ≡ lists_of (pack_view s (shown p)) → planned_sheet s p plan ≡ sheet (source_of_pack s (shown p))
 unfolding sheet bytes_of
-sheet_is s p lists n e = ap (bytes_with (pack_view s (shown p))) e
+sheet_is s p plan e = ap (bytes_with (pack_view s (shown p))) e

@@ -1,10 +1,9 @@
 -- A worked example, computed: a pack of one tone with a citation and two accents, the greater number first, and its sheet.
-use Rattle.std.specs.Prelude.{ℕ, ◌≡◌, refl, List, [], ◌∷◌, ◌++◌, replicate}
+use Rattle.std.specs.Prelude.{ℕ, ◌≡◌, refl, List, [], ◌∷◌, ◌++◌, replicate, Err}
 use Rattle.std.specs.Float.Ieee.{le, lt, of_bits, to_bits}
 use Rattle.tonekit_core.specs.Loop.{turns, range, turns_to, range_to, loop_on, loop_to}
 use Rattle.tonekit_core.specs.Calls.{answer_in, written}
 use Rattle.tonekit_core.specs.declared.Refusal.TheVariants.{ShortBuffer}
-use Rattle.tonekit_core.specs.declared.Answer.TheVariants.{Refused}
 use Rattle.tonekit_pack.specs.Ranges.{above_zero, a_share, knot_fine, weight_fine, slot_fine, knots_fine, region_fine, tolerances_fine}
 use Rattle.tonekit_pack.specs.Pack.{parts_from, due_after, size_of, holds, zero_or_held, settings_verdict, tone_verdict, accent_verdict, rule_verdict, part_verdict, body_verdict, record_verdict, added, read_pack, load_pack}
 use Rattle.tonekit_expect.specs.Knots.{point_at, first_points, knots_at}
@@ -43,6 +42,6 @@ unfolding sheet_outcome load_pack read_pack record_verdict due_after size_of bod
 whole = refl
 
 -- one byte short: the length is answered
-short : answer_in 188 (written its) ≡ Refused ShortBuffer 189
+short : answer_in 188 (written its) ≡ Err (record { why = ShortBuffer; place = 189 })
 unfolding answer_in
 short = refl

@@ -1,21 +1,13 @@
 -- A judgement depends on nothing but settings, tones, the graded accent's tolerances and the inventory's listings. Assumes nothing.
-use Prim.Native.Nat.{ℕ, zero, suc, ◌≤◌, ◌<◌}
-use mathlib.Core.Path.{◌≡◌, refl, sym, ◌∙◌, ap}
-use mathlib.Core.Logic.{◌⊎◌, inl, inr}
-use mathlib.Core.Bool.{Bool, true, false, ◌||◌}
-use mathlib.Core.List.{List, [], ◌∷◌}
+use Rattle.std.proofs.Common.{ℕ, zero, suc, ◌≤◌, ◌<◌, ◌≡◌, refl, sym, ◌∙◌, ap, ◌⊎◌, inl, inr, Bool, true, false, ◌||◌, List, [], ◌∷◌, le_of_suc-le-suc, not-suc-le-zero, arith, eqb, ltb, eq-eqb, eqb-true, length, get_or}
 use mathlib.Core.Option.{Option, none, some}
-use native.Mathlib.Nat.{le_of_suc-le-suc, not-suc-le-zero}
-use native.Mathlib.Omega.{arith}
-use lib.Dec.{eqb, ltb}
-use borrow.Author.Tests.{eq-eqb, eqb-true}
-use lib.ListN.{length, get_or}
 use Rattle.tonekit_core.specs.Loop.{range}
 use Rattle.tonekit_core.proofs.LoopLaws.{range_same}
 use Rattle.tonekit_query.specs.Query.{load_query, frames_of}
 use Rattle.tonekit_query.specs.declared.Query.{Query}
-use Rattle.tonekit_query.specs.declared.QueryRead.{QueryRead}
-use Rattle.tonekit_query.specs.declared.QueryRead.TheVariants as query
+use Rattle.std.specs.Prelude.{Some, None, Result, Ok, Err}
+use Rattle.tonekit_core.specs.declared.Rejection.{Rejection}
+use Rattle.tonekit_score.specs.declared.Tolerance.{Tolerance}
 use Rattle.tonekit_query.proofs.Laws.{load_reads, read_holds}
 use Rattle.tonekit_core.proofs.Split.{split}
 use Rattle.tonekit_expect.specs.Source.{Tone, Accent, Carried, Source, accent_in, tone_in}
@@ -23,7 +15,7 @@ use Rattle.tonekit_expect.specs.declared.Context.{Context}
 use Rattle.tonekit_shape.specs.Extract.{extent_of}
 use Rattle.tonekit_sheet.specs.Agree.{Held, Agree}
 use Rattle.tonekit_judge.specs.Judge.{Listed}
-use Rattle.tonekit_inventory.specs.Gather.{Gathering, no_tone, nothing_yet, in_context, given_of, slotted, list_tone, listings, graded_of, gathered}
+use Rattle.tonekit_inventory.specs.Gather.{Gathering, no_tone, nothing_yet, in_context, given_of, slotted, list_tone, listings, graded_of, tolerance_of, gathered}
 use Rattle.tonekit_station.specs.Judgement.{context_of, query_verdict, judge_gathered, on_query, judgement}
 
 -- a tone of the list is held by its number
@@ -40,23 +32,23 @@ prev_held ts n h = split (eqb n 0) (λ e. inl (eqb-true n 0 e)) (λ e. inr (rw e
 
 -- where the accent is not held, or what stood before, the listings do not count
 module _ (g h : Gathering) (s : List ℕ) (q : Query) where
-  unheld : g.accent ≡ false → h.accent ≡ false → judge_gathered g s q ≡ judge_gathered h s q
+  unheld : g.tolerance ≡ None → h.tolerance ≡ None → judge_gathered g s q ≡ judge_gathered h s q
   unfolding judge_gathered query_verdict
   unheld x y =
       split (ltb (extent_of (frames_of s q.count) q.count q.start q.end).count 3)
       (λ t. rw t)
       (λ f. rw (f, x, y))
 
-  unheld_prev : g.accent ≡ true → h.accent ≡ true → g.prev ≡ false → h.prev ≡ false → judge_gathered g s q ≡ judge_gathered h s q
+  unheld_prev : (t : Tolerance) → g.tolerance ≡ Some t → h.tolerance ≡ Some t → g.prev ≡ false → h.prev ≡ false → judge_gathered g s q ≡ judge_gathered h s q
   unfolding judge_gathered query_verdict
-  unheld_prev x y u v =
+  unheld_prev t x y u v =
       split (ltb (extent_of (frames_of s q.count) q.count q.start q.end).count 3)
       (λ t. rw t)
       (λ f. rw (f, x, y, u, v))
 
 -- what is gathered of accent and previous tone
 module _ (src : Source) (c : Context) where
-  accent_is : (x : Option Accent) → accent_in src.accents c.accent ≡ x → (gathered src c).accent ≡ (graded_of x).held
+  accent_is : (x : Option Accent) → accent_in src.accents c.accent ≡ x → (gathered src c).tolerance ≡ graded_of x
   unfolding gathered
   accent_is x e = rw e
 
@@ -95,11 +87,11 @@ module _ (a b : Source) (agree : Agree a b) where
       let c = context_of q in
       split (eqb q.prev 0 || tone_in a.tones q.prev)
       (λ t. ap (λ (g : Gathering). judge_gathered g s q) (gathers_same c x h t last))
-      (λ f. unheld_prev (gathered a c) (gathered b c) s q (accent_is a c (some x) h) (accent_is b c (some x) (sym (agree.accents q.accent) ∙ h)) (prev_is a c false f) (prev_is b c false (sym (prev_same c) ∙ f)))
+      (λ f. unheld_prev (gathered a c) (gathered b c) s q (tolerance_of x) (accent_is a c (some x) h) (accent_is b c (some x) (sym (agree.accents q.accent) ∙ h)) (prev_is a c false f) (prev_is b c false (sym (prev_same c) ∙ f)))
 
-  read_same : (s : List ℕ) (r : QueryRead) → load_query s ≡ r → on_query a s r ≡ on_query b s r
-  read_same s (query.Refused r place) e = refl
-  read_same s (query.Good q) e = judged_same s q (read_holds s q (load_reads s q e)).last (accent_in a.accents q.accent) refl
+  read_same : (s : List ℕ) (r : Result Query Rejection) → load_query s ≡ r → on_query a s r ≡ on_query b s r
+  read_same s (Err r) e = refl
+  read_same s (Ok q) e = judged_same s q (read_holds s q (load_reads s q e)).last (accent_in a.accents q.accent) refl
 
   pub judgement_same : (s : List ℕ) → judgement a s ≡ judgement b s
   unfolding judgement

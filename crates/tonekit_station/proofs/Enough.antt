@@ -1,17 +1,13 @@
 -- 10,287 bytes of a query are enough to judge it: a query that loads has at most 10,286. And 75,824 bytes of a program's input are enough to answer it: what
 -- stands past them is not read. Assumes nothing.
-use Prim.Native.Nat.{ℕ, ◌-◌, ◌≤◌, ◌<◌}
-use mathlib.Core.Path.{◌≡◌, refl, ◌∙◌, ap}
-use mathlib.Core.List.{List}
-use native.Mathlib.Omega.{arith}
-use lib.ListN.{length, take}
-use lib.Seq.{take_all}
+use Rattle.std.proofs.Common.{ℕ, ◌-◌, ◌≤◌, ◌<◌, ◌≡◌, refl, ◌∙◌, ap, List, arith, length, take, take_all}
 use Rattle.tonekit_bytes.specs.Fields.{byte_at, u16_at}
 use Rattle.tonekit_input.specs.Input.{held_of, query_of}
 use Rattle.tonekit_input.proofs.Input.{held_same, query_same, query_enough}
 use Rattle.tonekit_query.specs.Query.{load_query, end_of}
-use Rattle.tonekit_query.specs.declared.QueryRead.{QueryRead}
-use Rattle.tonekit_query.specs.declared.QueryRead.TheVariants as query
+use Rattle.std.specs.Prelude.{Result, Ok, Err}
+use Rattle.tonekit_core.specs.declared.Rejection.{Rejection}
+use Rattle.tonekit_query.specs.declared.Query.{Query}
 use Rattle.tonekit_query.proofs.Laws.{load_reads, load_length, read_holds}
 use Rattle.tonekit_query.proofs.Enough.{load_enough}
 use Rattle.tonekit_pack.specs.Pack.{Out, load_pack}
@@ -23,12 +19,12 @@ use Rattle.tonekit_expect.specs.Source.{Source, source_of_pack}
 use Rattle.tonekit_station.specs.Judgement.{on_query, judgement, on_pack, judge_outcome, on_sheet, judge_sheet_outcome, station_outcome, station_sheet_outcome}
 
 module _ (src : Source) (s : List ℕ) (n : ℕ) (h : 10287 ≤ n) where
-  either_way : (r : QueryRead) → load_query s ≡ r → on_query src (take n s) r ≡ on_query src s r
-  either_way (query.Refused r place) e = refl
-  either_way (query.Good q) e =
+  either_way : (r : Result Query Rejection) → load_query s ≡ r → on_query src (take n s) r ≡ on_query src s r
+  either_way (Err r) e = refl
+  either_way (Ok q) e =
       let l : length s ≡ end_of q.count = load_length s q e in
       let c : q.count ≤ 1024 = (read_holds s q (load_reads s q e)).count in
-      ap (λ (t : List ℕ). on_query src t (query.Good q)) (take_all n s (omega arith))
+      ap (λ (t : List ℕ). on_query src t (Ok q)) (take_all n s (omega arith))
 
   pub judgement_enough : judgement src (take n s) ≡ judgement src s
   unfolding judgement

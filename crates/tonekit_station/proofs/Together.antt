@@ -1,14 +1,9 @@
 -- Document 01's bench cases, "Proved together", and its worked example.
-use Prim.Native.Nat.{ℕ, ◌≤◌}
-use mathlib.Core.Path.{◌≡◌}
-use mathlib.Core.Bool.{true}
-use mathlib.Core.List.{List, [], ◌∷◌, ◌++◌}
-use lib.IntN.{pos, negsuc}
-use lib.ListN.{replicate}
-use lib.Ieee.{Float, binary32, binary64, of_int, of_bits}
+use Rattle.std.proofs.Common.{ℕ, ◌≤◌, ◌≡◌, true, List, [], ◌∷◌, ◌++◌, pos, negsuc, replicate, Float}
+use lib.Ieee.{binary32, binary64, of_int, of_bits}
 use Rattle.tonekit_core.specs.Calls.{written}
 use Rattle.tonekit_core.specs.declared.Refusal.TheVariants.{BadVariant}
-use Rattle.tonekit_core.specs.declared.Verdict.TheVariants.{Fine, Refused}
+use Rattle.std.specs.Prelude.{Some, None, Ok, Err}
 use Rattle.tonekit_core.specs.declared.DeltaKind.TheVariants.{StartLower}
 use Rattle.tonekit_root.specs.Root.{root_of}
 use Rattle.tonekit_root.specs.Bench as root
@@ -17,10 +12,12 @@ use Rattle.tonekit_fit.specs.Bench as chao
 use Rattle.tonekit_expect.specs.Knots.{expanded}
 use Rattle.tonekit_expect.specs.Bench as knots
 use Rattle.tonekit_query.specs.declared.Query.{Query}
-use Rattle.tonekit_deltas.specs.Deltas.{no_delta, no_deltas}
+use Rattle.tonekit_deltas.specs.Deltas.{no_deltas}
 use Rattle.tonekit_deltas.specs.Bench as deltas
 use Rattle.tonekit_judge.specs.Judge.{ranking_of, heard_of}
 use Rattle.tonekit_judge.specs.declared.Inventory.{Inventory}
+use Rattle.tonekit_judge.specs.declared.ToneEntry.{ToneEntry}
+use Rattle.tonekit_score.specs.declared.Tolerance.{Tolerance}
 use Rattle.tonekit_judge.specs.Bench as heard
 use Rattle.tonekit_target.specs.Target.{variants_fine}
 use Rattle.tonekit_target.specs.Bench as variants
@@ -39,6 +36,13 @@ bits n = of_bits binary32 n
 abbrev weighing : ℕ → List ℕ
 weighing n = variants.variants (0 ∷ 0 ∷ 0 ∷ 0x3f ∷ []) (n ∷ 0 ∷ 0 ∷ 0x3f ∷ [])
 
+-- two tones that are as likely before anything is heard
+abbrev toned : ℕ → ToneEntry
+toned number = record { number = number; prior = bits 0x3f00_0000; region = None; count = 0; owner = 0; form = 0; label = 0 }
+
+abbrev two_tones : Inventory
+two_tones = record { tones = 2; entries = toned 7 ∷ toned 9 ∷ [] }
+
 pub record Together : Type 0 where
   -- "55 Hz is 0 semitones, 110 is 12, 27.5 is −12."
   pub hz_55 : hz_to_st (whole 55) ≡ whole 0
@@ -54,14 +58,14 @@ pub record Together : Type 0 where
   pub root_of_2 : root_of (of_bits binary64 0x4000_0000_0000_0000) ≡ of_bits binary64 0x3ff6_a09e_667f_3bcd
   -- "Variants 0.5 and 0.5+2^−20 pass; 0.5 and 0.5+2^−19 give 15."
   pub slack_passes : variants_fine (weighing 16) 2 ≡ true
-  pub slack_past : (voiced : ℕ) (i : Inventory) (q : Query) → 3 ≤ voiced → tones_verdict i.tones i.counts ≡ Fine
-      → q.variants ≡ 2 → query_verdict voiced true true i (weighing 32) q ≡ Refused BadVariant
+  pub slack_past : (voiced : ℕ) (t : Tolerance) (i : Inventory) (q : Query) → 3 ≤ voiced → tones_verdict i ≡ Ok tt
+      → q.variants ≡ 2 → query_verdict voiced (Some t) true i (weighing 32) q ≡ Err BadVariant
   -- "Onset tolerance 0.5, unwidened: 0.5 high gives no delta, 0.75 StartLower."
   pub half_high : deltas.advice (bits 0x3f00_0000) (bits 0) ≡ no_deltas
   pub three_quarters_high : deltas.advice (bits 0x3f40_0000) (bits 0)
-      ≡ record { first = record { some = true; z = bits 0x3fc0_0000; kind = StartLower; amount = bits 0x3f40_0000 }; second = no_delta }
+      ≡ record { first = Some (record { z = bits 0x3fc0_0000; kind = StartLower; amount = bits 0x3f40_0000 }); second = None }
   -- "Two tones of equal score, threshold 0.25: the first is heard."
-  pub equal_tones : heard_of (7 ∷ 9 ∷ []) (bits 0x3e80_0000) (ranking_of 2 (bits 0x3f00_0000 ∷ bits 0x3f00_0000 ∷ []) (bits 0 ∷ bits 0 ∷ [])) ≡ 7
+  pub equal_tones : heard_of two_tones (bits 0x3e80_0000) (ranking_of two_tones (bits 0 ∷ bits 0 ∷ [])) ≡ 7
   -- "Tone 1, accent 1 with a citation, eight voiced frames of 110 Hz, floor NaN: hexadecimal 31 01 01 00 24 74 C9, 54 zero bytes, 02 40 00."
   pub floor_nan : judge_outcome station.pack station.unmeasured
       ≡ written ((0x31 ∷ 0x01 ∷ 0x01 ∷ 0x00 ∷ 0x24 ∷ 0x74 ∷ 0xc9 ∷ []) ++ (replicate 54 0 ++ (0x02 ∷ 0x40 ∷ 0x00 ∷ [])))
@@ -77,7 +81,7 @@ together = record {
   two_knots = knots.two_knots;
   root_of_2 = root.root_of_two;
   slack_passes = variants.slack_passes;
-  slack_past = λ voiced i q enough listed two. bad_variant voiced i (weighing 32) q enough listed (rw two variants.slack_past);
+  slack_past = λ voiced t i q enough listed two. bad_variant voiced i (weighing 32) q enough listed t (rw two variants.slack_past);
   half_high = deltas.half_high;
   three_quarters_high = deltas.three_quarters_high;
   equal_tones = heard.equal_tones;

@@ -1,117 +1,91 @@
--- What the calls `judge` and `judge_sheet` make of a query, way by way. Assumes nothing.
-use Prim.Native.Nat.{ℕ, ◌≤◌}
-use mathlib.Core.Path.{◌≡◌, sym, ◌∙◌}
-use mathlib.Core.Bool.{Bool, true, false}
-use mathlib.Core.List.{List}
-use native.Mathlib.Omega.{arith}
-use lib.Dec.{ltb}
-use borrow.Author.Tests.{le-ltb, ltb-false}
+-- What a judgement makes of a query, way by way, and that what a pack or a sheet holds is judged as their calls say. Assumes nothing.
+use Rattle.std.specs.Prelude.{Option, Some, None, Result, Ok, Err}
+use Rattle.std.proofs.Common.{ℕ, ◌≤◌, ◌≡◌, refl, Bool, true, false, List, ltb, le-ltb, ltb-false}
 use Rattle.tonekit_core.specs.Calls.{refused, written}
+use Rattle.tonekit_core.specs.declared.Rejection.{Rejection}
 use Rattle.tonekit_core.specs.declared.Refusal.{Refusal}
 use Rattle.tonekit_core.specs.declared.Refusal.TheVariants as refusal
-use Rattle.tonekit_core.specs.declared.Verdict.TheVariants as verdict
 use Rattle.tonekit_query.specs.Query.{load_query, frames_of}
 use Rattle.tonekit_query.specs.declared.Query.{Query}
-use Rattle.tonekit_query.specs.declared.QueryRead.TheVariants as query
 use Rattle.tonekit_core.proofs.Split.{split}
 use Rattle.tonekit_pack.specs.Pack.{load_pack}
 use Rattle.tonekit_pack.specs.Pack as pack
-use Rattle.tonekit_pack.specs.Held.{shown, answered, Roomy, ReadFrom}
-use Rattle.tonekit_pack.proofs.Single as pack-single
-use Rattle.tonekit_pack.specs.declared.Loaded.{Loaded}
-use Rattle.tonekit_pack.specs.declared.PackRead.TheVariants as read
 use Rattle.tonekit_sheet.specs.Reader.{load_sheet}
 use Rattle.tonekit_sheet.specs.Reader as sheet
-use Rattle.tonekit_sheet.specs.FromSheet.{source_of_sheet}
-use Rattle.tonekit_sheet_read.specs.Held as sheet-held
-use Rattle.tonekit_sheet_read.proofs.Single as sheet-single
-use Rattle.tonekit_sheet_read.specs.declared.Loaded as sheet-loaded
-use Rattle.tonekit_sheet_read.specs.declared.SheetRead.TheVariants as sheet-read
-use Rattle.tonekit_expect.specs.Source.{Source, source_of_pack}
+use Rattle.tonekit_expect.specs.Source.{Source}
 use Rattle.tonekit_shape.specs.Extract.{extent_of, shape_of}
 use Rattle.tonekit_shape.specs.Record.{united}
 use Rattle.tonekit_shape.specs.declared.Extent.{Extent}
 use Rattle.tonekit_shape.specs.declared.ToneShape.{ToneShape}
+use Rattle.tonekit_score.specs.declared.Tolerance.{Tolerance}
 use Rattle.tonekit_judge.specs.Judge.{judgement_of}
 use Rattle.tonekit_judge.specs.Record.{judgement_bytes}
 use Rattle.tonekit_judge.specs.declared.Inventory.{Inventory}
 use Rattle.tonekit_judge.specs.declared.Targets.{Targets}
 use Rattle.tonekit_judge.specs.declared.ToneJudgement.{ToneJudgement}
-use Rattle.tonekit_target.specs.Target.{Aim, held, loose, variants_fine, targets_of}
+use Rattle.tonekit_target.specs.Target.{variants_fine, targets_of}
 use Rattle.tonekit_inventory.specs.Gather.{Gathering, gathered}
-use Rattle.tonekit_station.specs.Judgement.{context_of, tones_verdict, query_verdict, judge_gathered, judgement, judge_outcome, judge_sheet_outcome}
+use Rattle.tonekit_inventory.specs.OfPack as of-pack
+use Rattle.tonekit_sheet_inventory.specs.Look as of-sheet
+use Rattle.tonekit_station.specs.Judgement.{context_of, tones_verdict, query_verdict, judge_gathered, judgement, on_held, on_pack, on_sheet, judge_outcome, judge_sheet_outcome}
 
 -- 11 to 15 but for targets, each once those before it are passed
 module _ (voiced : ℕ) (i : Inventory) (s : List ℕ) (q : Query) where
   -- what is passed has three voiced frames
-  pub enough_voiced : (accent prev : Bool) → query_verdict voiced accent prev i s q ≡ verdict.Fine → 3 ≤ voiced
+  pub enough_voiced : (accent : Option Tolerance) (prev : Bool) (t : Tolerance) → query_verdict voiced accent prev i s q ≡ Ok t → 3 ≤ voiced
   unfolding query_verdict
-  enough_voiced accent prev e =
+  enough_voiced accent prev a e =
       split (ltb voiced 3)
-      (λ t. let no : verdict.Refused refusal.Unvoiced ≡ verdict.Fine = rw t at e in let z : ◌≡◌ {A = ℕ} 0 1 = cc in absurd (omega arith))
+      (λ t. let no : ◌≡◌ {A = Result Tolerance Refusal} (Err refusal.Unvoiced) (Ok a) = rw t at e in cc)
       (λ f. ltb-false voiced 3 f)
 
-  module _ (enough : 3 ≤ voiced) (listed : tones_verdict i.tones i.counts ≡ verdict.Fine) where
-    pub bad_variant : variants_fine s q.variants ≡ false → query_verdict voiced true true i s q ≡ verdict.Refused refusal.BadVariant
+  module _ (enough : 3 ≤ voiced) (listed : tones_verdict i ≡ Ok tt) where
+    pub bad_variant : (t : Tolerance) → variants_fine s q.variants ≡ false → query_verdict voiced (Some t) true i s q ≡ Err refusal.BadVariant
     unfolding query_verdict
-    bad_variant f = rw (le-ltb voiced 3 enough, listed, f)
+    bad_variant t f = rw (le-ltb voiced 3 enough, listed, f)
 
 -- a query that loads, by what was gathered: refused, 13 for targets, or the record
 module _ (g : Gathering) (s : List ℕ) (q : Query) (e : Extent) (is : e ≡ extent_of (frames_of s q.count) q.count q.start q.end) where
-  pub turned_back_lem : (r : Refusal) → query_verdict e.count g.accent g.prev g.listed.inventory s q ≡ verdict.Refused r → judge_gathered g s q ≡ refused r 0
+  pub turned_back_lem : (r : Refusal) → query_verdict e.count g.tolerance g.prev g.listed.inventory s q ≡ Err r → judge_gathered g s q ≡ refused r 0
   unfolding judge_gathered
   turned_back_lem r v = rw (← is, v)
 
-  module _ (fine : query_verdict e.count g.accent g.prev g.listed.inventory s q ≡ verdict.Fine) (a : Aim)
-      (aims : a ≡ targets_of g.listed.inventory.tones g.listed.inventory.numbers s q.tone q.variants) (t : Targets) where
-    pub target_loose : a ≡ loose t → judge_gathered g s q ≡ refused refusal.UnknownTone 0
+  module _ (t : Tolerance) (fine : query_verdict e.count g.tolerance g.prev g.listed.inventory s q ≡ Ok t) (a : Option Targets)
+      (aims : a ≡ targets_of g.listed.inventory s q.tone q.variants) where
+    pub target_loose : a ≡ None → judge_gathered g s q ≡ refused refusal.UnknownTone 0
     unfolding judge_gathered
     target_loose o = rw (← is, fine, ← aims, o)
 
-    pub target_held : a ≡ held t → (x : ToneShape) → x ≡ shape_of (frames_of s q.count) e q.start q.end q.floor q.ceil
+    pub target_held : (targets : Targets) → a ≡ Some targets → (x : ToneShape) → x ≡ shape_of (frames_of s q.count) e q.start q.end q.floor q.ceil
         → (issues : ℕ) → issues ≡ united q.issues x.frames
-        → (j : ToneJudgement) → j ≡ judgement_of x g.temperature g.threshold g.tolerance g.listed t issues
+        → (j : ToneJudgement) → j ≡ judgement_of x g.temperature g.threshold t g.listed targets issues
         → (bytes : List ℕ) → bytes ≡ judgement_bytes q.tone g.listed.inventory.tones j
         → written bytes ≡ judge_gathered g s q
     unfolding judge_gathered
-    target_held o x x-is issues i-is j j-is bytes b-is = rw (← is, fine, ← aims, o, ← x-is, ← i-is, ← j-is, ← b-is)
+    target_held targets o x x-is issues i-is j j-is bytes b-is = rw (← is, fine, ← aims, o, ← x-is, ← i-is, ← j-is, ← b-is)
 
-pub query_good : (src : Source) (s : List ℕ) (q : Query) → load_query s ≡ query.Good q → judge_gathered (gathered src (context_of q)) s q ≡ judgement src s
+pub query_good : (src : Source) (s : List ℕ) (q : Query) → load_query s ≡ Ok q → judge_gathered (gathered src (context_of q)) s q ≡ judgement src s
 unfolding judgement
 query_good src s q e = rw e
 
-pub query_bad : (src : Source) (s : List ℕ) (r : Refusal) (place : ℕ) → load_query s ≡ query.Refused r place → judgement src s ≡ refused r place
+pub query_bad : (src : Source) (s : List ℕ) (r : Rejection) → load_query s ≡ Err r → judgement src s ≡ refused r.why r.place
 unfolding judgement
-query_bad src s r place e = rw e
+query_bad src s r e = rw e
 
--- what the pack's reader answered
-module _ (p : List ℕ) (l : Loaded) (is : answered l ≡ load_pack p) where
-  pack_loads : (end : ℕ) → l.read ≡ read.Good end → load_pack p ≡ pack.loaded (shown l.pack) end
-  pack_loads end e = sym is ∙ rw e
+-- what a pack or a sheet holds is judged as its call says
+module _ (p s : List ℕ) where
+  by_pack : (o : pack.Out) → on_held (of-pack.source_or p o) s ≡ on_pack p s o
+  by_pack (pack.refused r place) = refl
+  by_pack (pack.loaded st e) = refl
 
-  pub pack_read : Roomy l.pack → (end : ℕ) → l.read ≡ read.Good end → ReadFrom p l.pack
-  pack_read r end e = record { roomy = r; end = end; reads = (pack-single.loads_alone p (shown l.pack) end (pack_loads end e)).0 }
-
-  pub pack_good : (s : List ℕ) (end : ℕ) → l.read ≡ read.Good end → judgement (source_of_pack p (shown l.pack)) s ≡ judge_outcome p s
+  pub pack_held : on_held (of-pack.load_source p) s ≡ judge_outcome p s
   unfolding judge_outcome
-  pack_good s end e = rw (pack_loads end e)
+  pack_held = by_pack (load_pack p)
 
-  pub pack_bad : (s : List ℕ) (r : Refusal) (place : ℕ) → l.read ≡ read.Refused r place → judge_outcome p s ≡ refused r place
-  unfolding judge_outcome
-  pack_bad s r place e = rw (← is, e)
+  by_sheet : (o : sheet.Out) → on_held (of-sheet.source_or p o) s ≡ on_sheet p s o
+  by_sheet (sheet.refused r place) = refl
+  by_sheet (sheet.loaded st e) = refl
 
--- what the sheet's reader answered
-module _ (p : List ℕ) (l : sheet-loaded.Loaded) (is : sheet-held.answered l ≡ load_sheet p) where
-  sheet_loads : (end : ℕ) → l.read ≡ sheet-read.Good end → load_sheet p ≡ sheet.loaded (sheet-held.shown l.sheet) end
-  sheet_loads end e = sym is ∙ rw e
-
-  pub sheet_read_from : sheet-held.Roomy l.sheet → (end : ℕ) → l.read ≡ sheet-read.Good end → sheet-held.ReadFrom p l.sheet
-  sheet_read_from r end e = record { roomy = r; end = end; reads = (sheet-single.loads_alone p (sheet-held.shown l.sheet) end (sheet_loads end e)).0 }
-
-  pub sheet_good : (s : List ℕ) (end : ℕ) → l.read ≡ sheet-read.Good end → judgement (source_of_sheet p (sheet-held.shown l.sheet)) s ≡ judge_sheet_outcome p s
+  pub sheet_held : on_held (of-sheet.load_source p) s ≡ judge_sheet_outcome p s
   unfolding judge_sheet_outcome
-  sheet_good s end e = rw (sheet_loads end e)
-
-  pub sheet_bad : (s : List ℕ) (r : Refusal) (place : ℕ) → l.read ≡ sheet-read.Refused r place → judge_sheet_outcome p s ≡ refused r place
-  unfolding judge_sheet_outcome
-  sheet_bad s r place e = rw (← is, e)
+  sheet_held = by_sheet (load_sheet p)

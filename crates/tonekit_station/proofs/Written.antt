@@ -1,15 +1,12 @@
 -- What an outcome of a judgement holds where it is bytes: what holds of the record of every judgement. Assumes nothing.
-use Prim.Native.Nat.{ℕ}
-use mathlib.Core.List.{List}
-use lib.Ieee.{Float}
+use Rattle.std.specs.Prelude.{Option, Some, None, Result, Ok, Err}
+use Rattle.std.proofs.Common.{ℕ, List, Float}
 use Rattle.tonekit_core.specs.Calls.{Outcome}
 use Rattle.tonekit_core.proofs.Calls.{Writes}
-use Rattle.tonekit_core.specs.declared.Verdict.{Verdict}
-use Rattle.tonekit_core.specs.declared.Verdict.TheVariants as verdict
+use Rattle.tonekit_core.specs.declared.Refusal.{Refusal}
+use Rattle.tonekit_core.specs.declared.Rejection.{Rejection}
 use Rattle.tonekit_query.specs.Query.{load_query, frames_of}
 use Rattle.tonekit_query.specs.declared.Query.{Query}
-use Rattle.tonekit_query.specs.declared.QueryRead.{QueryRead}
-use Rattle.tonekit_query.specs.declared.QueryRead.TheVariants as query
 use Rattle.tonekit_pack.specs.Pack.{Out, load_pack}
 use Rattle.tonekit_pack.specs.Pack as pack
 use Rattle.tonekit_sheet.specs.Reader.{load_sheet}
@@ -24,9 +21,9 @@ use Rattle.tonekit_score.specs.declared.Tolerance.{Tolerance}
 use Rattle.tonekit_judge.specs.Judge.{Listed, judgement_of}
 use Rattle.tonekit_judge.specs.Record.{judgement_bytes}
 use Rattle.tonekit_judge.specs.declared.Targets.{Targets}
-use Rattle.tonekit_target.specs.Target.{Aim, held, loose, targets_of}
+use Rattle.tonekit_target.specs.Target.{targets_of}
 use Rattle.tonekit_inventory.specs.Gather.{Gathering, gathered}
-use Rattle.tonekit_station.specs.Judgement.{context_of, query_verdict, recorded, unless, judge_gathered, on_query, judgement, on_pack, judge_outcome, on_sheet, judge_sheet_outcome}
+use Rattle.tonekit_station.specs.Judgement.{context_of, query_verdict, recorded, unless, judge_gathered, on_query, judgement, on_held, on_pack, judge_outcome, on_sheet, judge_sheet_outcome}
 
 -- the record of every judgement, of any shape against anything
 abbrev pub Records : (List ℕ → Type 0) → Type 0
@@ -35,30 +32,34 @@ Records P =
     → P (judgement_bytes expected tones (judgement_of x temperature threshold t l g issues))
 
 module _ (P : List ℕ → Type 0) (records : Records P) where
-  recorded_writes : (g : Gathering) (q : Query) (frames : List ℕ) (e : Extent) (a : Aim) → Writes P (recorded g q frames e a)
-  recorded_writes g q frames e (loose a) = tt
-  recorded_writes g q frames e (held a) =
+  recorded_writes : (g : Gathering) (q : Query) (frames : List ℕ) (e : Extent) (t : Tolerance) (a : Option Targets) → Writes P (recorded g t q frames e a)
+  recorded_writes g q frames e t None = tt
+  recorded_writes g q frames e t (Some a) =
       let x = shape_of frames e q.start q.end q.floor q.ceil in
-      records x g.temperature g.threshold g.tolerance g.listed a (united q.issues x.frames) q.tone g.listed.inventory.tones
+      records x g.temperature g.threshold t g.listed a (united q.issues x.frames) q.tone g.listed.inventory.tones
 
-  unless_writes : (v : Verdict) (o : Outcome) → Writes P o → Writes P (unless v o)
-  unless_writes (verdict.Refused r) o h = tt
-  unless_writes verdict.Fine o h = h
+  unless_writes : (v : Result Tolerance Refusal) (o : Tolerance → Outcome) → ((t : Tolerance) → Writes P (o t)) → Writes P (unless v o)
+  unless_writes (Err r) o h = tt
+  unless_writes (Ok t) o h = h t
 
-  query_writes : (src : Source) (s : List ℕ) (q : QueryRead) → Writes P (on_query src s q)
+  query_writes : (src : Source) (s : List ℕ) (q : Result Query Rejection) → Writes P (on_query src s q)
   unfolding judge_gathered
-  query_writes src s (query.Refused r place) = tt
-  query_writes src s (query.Good q) =
+  query_writes src s (Err r) = tt
+  query_writes src s (Ok q) =
       let g = gathered src (context_of q) in
       let frames = frames_of s q.count in
       let e = extent_of frames q.count q.start q.end in
       let i = g.listed.inventory in
-      unless_writes (query_verdict e.count g.accent g.prev i s q) _
-      (recorded_writes g q frames e (targets_of i.tones i.numbers s q.tone q.variants))
+      unless_writes (query_verdict e.count g.tolerance g.prev i s q) _
+      (λ t. recorded_writes g q frames e t (targets_of i s q.tone q.variants))
 
   judgement_writes : (src : Source) (s : List ℕ) → Writes P (judgement src s)
   unfolding judgement
   judgement_writes src s = query_writes src s (load_query s)
+
+  pub held_writes : (r : Result Source Rejection) (s : List ℕ) → Writes P (on_held r s)
+  held_writes (Err e) s = tt
+  held_writes (Ok src) s = judgement_writes src s
 
   pack_writes : (p s : List ℕ) (o : Out) → Writes P (on_pack p s o)
   pack_writes p s (pack.refused r place) = tt

@@ -1,14 +1,12 @@
 -- Document 01's Judgement, from whatever a station holds: what a query's bytes are turned into, a function of a source and of those bytes.
-use Rattle.std.specs.Prelude.{ℕ, Bool, cond, not, List, eqb, ltb, get_or}
+use Rattle.std.specs.Prelude.{ℕ, Bool, cond, not, Option, Some, None, Result, Ok, Err, List, eqb, ltb}
 use Rattle.tonekit_core.specs.Calls.{Outcome, refused, written}
 use Rattle.tonekit_core.specs.Loop.{Turn, next, stop, range_to}
+use Rattle.tonekit_core.specs.declared.Refusal.{Refusal}
 use Rattle.tonekit_core.specs.declared.Refusal.TheVariants as refusal
-use Rattle.tonekit_core.specs.declared.Verdict.{Verdict}
-use Rattle.tonekit_core.specs.declared.Verdict.TheVariants as verdict
+use Rattle.tonekit_core.specs.declared.Rejection.{Rejection}
 use Rattle.tonekit_query.specs.Query.{load_query, frames_of}
 use Rattle.tonekit_query.specs.declared.Query.{Query}
-use Rattle.tonekit_query.specs.declared.QueryRead.{QueryRead}
-use Rattle.tonekit_query.specs.declared.QueryRead.TheVariants as query
 use Rattle.tonekit_input.specs.Input.{held_of, query_of}
 use Rattle.tonekit_pack.specs.Pack.{Out, load_pack}
 use Rattle.tonekit_pack.specs.Pack as pack
@@ -20,47 +18,55 @@ use Rattle.tonekit_expect.specs.declared.Context.{Context}
 use Rattle.tonekit_shape.specs.Extract.{extent_of, shape_of}
 use Rattle.tonekit_shape.specs.Record.{united}
 use Rattle.tonekit_shape.specs.declared.Extent.{Extent}
-use Rattle.tonekit_judge.specs.Judge.{judgement_of}
+use Rattle.tonekit_score.specs.declared.Tolerance.{Tolerance}
+use Rattle.tonekit_judge.specs.Judge.{entry_at, judgement_of}
 use Rattle.tonekit_judge.specs.Record.{judgement_bytes}
 use Rattle.tonekit_judge.specs.declared.Inventory.{Inventory}
-use Rattle.tonekit_target.specs.Target.{Aim, held, loose, variants_fine, targets_of}
+use Rattle.tonekit_judge.specs.declared.Targets.{Targets}
+use Rattle.tonekit_target.specs.Target.{variants_fine, targets_of}
 use Rattle.tonekit_inventory.specs.Gather.{Gathering, gathered}
 
 abbrev pub context_of : Query → Context
 context_of q = record { accent = q.accent; tone = q.tone; prev = q.prev; last = q.last }
 
 -- "no realisation: some inventory tone has nothing here", tone by tone
-abbrev pub tone_turn : List ℕ → ℕ → ℕ → Turn ℕ Verdict
-tone_turn counts t u = cond (eqb (get_or counts t 0) 0) (stop (verdict.Refused refusal.NoRealisation)) (next u)
+abbrev pub tone_turn : Inventory → ℕ → ℕ → Turn ℕ (Result (Unit {0}) Refusal)
+tone_turn i t u = cond (eqb (entry_at i t).count 0) (stop (Err refusal.NoRealisation)) (next u)
 
-unfoldable pub tones_verdict : ℕ → List ℕ → Verdict
-tones_verdict tones counts = range_to (tone_turn counts) (λ u. verdict.Fine) 0 tones 0
+unfoldable pub tones_verdict : Inventory → Result (Unit {0}) Refusal
+tones_verdict i = range_to (tone_turn i) (λ u. Ok tt) 0 i.tones 0
 
-abbrev pub or_else : Verdict → Verdict → Verdict
-or_else (verdict.Refused r) v = verdict.Refused r
-or_else verdict.Fine v = v
+abbrev pub or_else : Result (Unit {0}) Refusal → Result Tolerance Refusal → Result Tolerance Refusal
+or_else (Err r) v = Err r
+or_else (Ok u) v = v
 
--- "Then 11, 12, 13 for prev, 14, 15": of so many voiced frames, whether accent and what stood before are held, the inventory, and the query's bytes and what they say
-unfoldable pub query_verdict : ℕ → Bool → Bool → Inventory → List ℕ → Query → Verdict
+-- 12, unless the accent is held
+abbrev pub of_accent : Option Tolerance → (Tolerance → Result Tolerance Refusal) → Result Tolerance Refusal
+of_accent None after = Err refusal.UnknownAccent
+of_accent (Some t) after = after t
+
+-- "Then 11, 12, 13 for prev, 14, 15": of so many voiced frames, the accent's tolerances if it is held, whether what stood before is, the inventory, and the
+-- query's bytes and what they say; where nothing is refused, the tolerances
+unfoldable pub query_verdict : ℕ → Option Tolerance → Bool → Inventory → List ℕ → Query → Result Tolerance Refusal
 query_verdict voiced accent prev i s q =
-    cond (ltb voiced 3) (verdict.Refused refusal.Unvoiced)
-    (cond (not accent) (verdict.Refused refusal.UnknownAccent)
-    (cond (not prev) (verdict.Refused refusal.UnknownTone)
-    (or_else (tones_verdict i.tones i.counts)
-    (cond (variants_fine s q.variants) verdict.Fine (verdict.Refused refusal.BadVariant)))))
+    cond (ltb voiced 3) (Err refusal.Unvoiced)
+    (of_accent accent (λ t.
+    cond (not prev) (Err refusal.UnknownTone)
+    (or_else (tones_verdict i)
+    (cond (variants_fine s q.variants) (Ok t) (Err refusal.BadVariant)))))
 
 -- "13 for targets"; or the record: `judge` after `extract`, "issues the union"
-abbrev pub recorded : Gathering → Query → List ℕ → Extent → Aim → Outcome
-recorded g q frames e (loose a) = refused refusal.UnknownTone 0
-recorded g q frames e (held a) =
+abbrev pub recorded : Gathering → Tolerance → Query → List ℕ → Extent → Option Targets → Outcome
+recorded g t q frames e None = refused refusal.UnknownTone 0
+recorded g t q frames e (Some a) =
     let x = shape_of frames e q.start q.end q.floor q.ceil in
     written
     (judgement_bytes q.tone g.listed.inventory.tones
-    (judgement_of x g.temperature g.threshold g.tolerance g.listed a (united q.issues x.frames)))
+    (judgement_of x g.temperature g.threshold t g.listed a (united q.issues x.frames)))
 
-abbrev pub unless : Verdict → Outcome → Outcome
-unless (verdict.Refused r) o = refused r 0
-unless verdict.Fine o = o
+abbrev pub unless : Result Tolerance Refusal → (Tolerance → Outcome) → Outcome
+unless (Err r) o = refused r 0
+unless (Ok t) o = o t
 
 -- a query that loads, judged by what a station gathered for its context: s is its bytes, and q what they say
 unfoldable pub judge_gathered : Gathering → List ℕ → Query → Outcome
@@ -68,18 +74,23 @@ judge_gathered g s q =
     let frames = frames_of s q.count in
     let e = extent_of frames q.count q.start q.end in
     let i = g.listed.inventory in
-    unless (query_verdict e.count g.accent g.prev i s q)
-    (recorded g q frames e (targets_of i.tones i.numbers s q.tone q.variants))
+    unless (query_verdict e.count g.tolerance g.prev i s q)
+    (λ t. recorded g t q frames e (targets_of i s q.tone q.variants))
 
-abbrev pub on_query : Source → List ℕ → QueryRead → Outcome
-on_query src s (query.Refused r place) = refused r place
-on_query src s (query.Good q) = judge_gathered (gathered src (context_of q)) s q
+abbrev pub on_query : Source → List ℕ → Result Query Rejection → Outcome
+on_query src s (Err e) = refused e.why e.place
+on_query src s (Ok q) = judge_gathered (gathered src (context_of q)) s q
 
 -- a query's bytes, judged by what a station holds
 unfoldable pub judgement : Source → List ℕ → Outcome
 judgement src s = on_query src s (load_query s)
 
--- "Pack or sheet comes before query."
+-- what is held, or why it is refused: "Pack or sheet comes before query."
+abbrev pub on_held : Result Source Rejection → List ℕ → Outcome
+on_held (Err e) s = refused e.why e.place
+on_held (Ok src) s = judgement src s
+
+-- of a pack's bytes
 abbrev pub on_pack : List ℕ → List ℕ → Out → Outcome
 on_pack p s (pack.refused r place) = refused r place
 on_pack p s (pack.loaded st e) = judgement (source_of_pack p st) s

@@ -1,15 +1,14 @@
 -- The tones that a query asks for, as `expect` of the Rust weighs them: the main tone, then its variants.
-use Rattle.std.specs.Prelude.{ℕ, zero, suc, ◌+◌, Bool, true, cond, not, ◌&&◌, List, eqb, get_or, set, replicate, Float}
+use Rattle.std.specs.Prelude.{ℕ, zero, suc, ◌+◌, Bool, true, not, ◌&&◌, ◌==◌, Option, Some, None, List, ◌++◌, take, position, set, replicate, Float}
 use Rattle.std.specs.Float.{binary32}
 use Rattle.std.specs.Float.Ieee.{neg, add, sub, lt, le, of_bits}
 use Rattle.std.specs.Float.Ieee.Scale.{finite}
 use Rattle.tonekit_core.specs.Loop.{Turn, next, stop, range, range_to}
 use Rattle.tonekit_float.specs.Pick.{greater}
 use Rattle.tonekit_query.specs.Query.{variant_tone, variant_weight}
-use Rattle.tonekit_expect.specs.declared.Found.{Found}
-use Rattle.tonekit_expect.specs.declared.Found.TheVariants as found
+use Rattle.tonekit_judge.specs.declared.Inventory.{Inventory}
 use Rattle.tonekit_judge.specs.declared.Targets.{Targets}
-use Rattle.tonekit_target.specs.declared.Aimed.{Aimed}
+use Rattle.tonekit_judge.specs.Judge.{no_entry}
 
 abbrev pub zero32 : Float
 zero32 = of_bits binary32 0
@@ -42,12 +41,9 @@ main_weight s n = sub binary32 one32 (range (sum_turn s) 0 n zero32)
 unfoldable pub variants_fine : List ℕ → ℕ → Bool
 variants_fine s n = weights_fine s n && not (lt (main_weight s n) (neg slack))
 
--- the place of a number among the inventory's
-abbrev pub place_turn : List ℕ → ℕ → ℕ → ℕ → Turn ℕ Found
-place_turn numbers n i u = cond (eqb (get_or numbers i 0) n) (stop (found.At i)) (next u)
-
-unfoldable pub place_of : ℕ → List ℕ → ℕ → Found
-place_of tones numbers n = range_to (place_turn numbers n) (λ u. found.Nothing) 0 tones 0
+-- the place of a number among the inventory's; behind its entries stand tones of number 0
+unfoldable pub place_of : Inventory → ℕ → Option ℕ
+place_of i n = position (λ e. e.number == n) (take i.tones (i.entries ++ replicate i.tones no_entry))
 
 -- tone k of the target, and its weight: the main tone's is what is left, at least 0
 abbrev pub target_tone : List ℕ → ℕ → ℕ → ℕ
@@ -59,29 +55,19 @@ target_weight s main zero = greater main zero32
 target_weight s main (suc i) = variant_weight s i
 
 abbrev pub no_targets : ℕ → Targets
-no_targets n = record { count = n; places = replicate 5 0; weights = replicate 5 zero32 }
+no_targets n = record { count = n; list = replicate 5 (record { place = 0; weight = zero32 }) }
 
 unfoldable pub with_target : ℕ → ℕ → Float → Targets → Targets
-with_target k place weight g = record { count = g.count; places = set g.places k place; weights = set g.weights k weight }
-
--- every tone of the target is held; or one is not, and those before it are there
-pub data Aim : Type 0 where
-  held : Targets → Aim
-  loose : Targets → Aim
+with_target k place weight g = record { count = g.count; list = set g.list k (record { place = place; weight = weight }) }
 
 -- "unknown tone: .. target tone not held"
-abbrev pub aim_at : List ℕ → Float → ℕ → Targets → Found → Turn Targets Aim
-aim_at s main k g (found.At t) = next (with_target k t (target_weight s main k) g)
-aim_at s main k g found.Nothing = stop (loose g)
+abbrev pub aim_at : List ℕ → Float → ℕ → Targets → Option ℕ → Turn Targets (Option Targets)
+aim_at s main k g (Some t) = next (with_target k t (target_weight s main k) g)
+aim_at s main k g None = stop None
 
-abbrev pub aim_turn : ℕ → List ℕ → List ℕ → ℕ → Float → ℕ → Targets → Turn Targets Aim
-aim_turn tones numbers s tone main k g = aim_at s main k g (place_of tones numbers (target_tone s tone k))
+abbrev pub aim_turn : Inventory → List ℕ → ℕ → Float → ℕ → Targets → Turn Targets (Option Targets)
+aim_turn i s tone main k g = aim_at s main k g (place_of i (target_tone s tone k))
 
--- the target of a query of this tone and so many variants, among the inventory's tones
-unfoldable pub targets_of : ℕ → List ℕ → List ℕ → ℕ → ℕ → Aim
-targets_of tones numbers s tone variants =
-    range_to (aim_turn tones numbers s tone (main_weight s variants)) held 0 (variants + 1) (no_targets (variants + 1))
-
--- what the struct stands for
-abbrev pub aim_of : Aimed → Aim
-aim_of a = cond a.held (held a.targets) (loose a.targets)
+-- the target of a query of this tone and so many variants, among the inventory's tones; none where one of them is not held
+unfoldable pub targets_of : Inventory → List ℕ → ℕ → ℕ → Option Targets
+targets_of i s tone variants = range_to (aim_turn i s tone (main_weight s variants)) Some 0 (variants + 1) (no_targets (variants + 1))

@@ -1,13 +1,6 @@
 -- The walk in whole steps ends by its own test, never by its 1,100 turns (`ends`; `walk_ends` over each window); and what the code's loop keeps (`Going`).
-use Prim.Native.Nat.{ℕ, zero, suc, ◌+◌, ◌-◌, ◌^◌, ◌≤◌, ◌<◌, zero-le}
-use mathlib.Core.Path.{◌≡◌, refl, sym, ◌∙◌, ap, subst}
-use mathlib.Core.Logic.{◌⊎◌, inl, inr}
-use mathlib.Core.Bool.{Bool, true, false, true≢false, cond}
-use mathlib.Core.List.{List}
-use native.Mathlib.Nat.{add-zero}
-use native.Mathlib.Omega.{arith}
-use lib.Dec.{T, lit≤}
-use lib.Ieee.{Float, binary64, add, le, lt, is_nan, of_int, of_bits}
+use Rattle.std.proofs.Common.{ℕ, zero, suc, ◌+◌, ◌-◌, ◌^◌, ◌≤◌, ◌<◌, zero-le, ◌≡◌, refl, sym, ◌∙◌, ap, subst, ◌⊎◌, inl, inr, Bool, true, false, true≢false, cond, List, add-zero, arith, T, lit≤, Float, is_nan}
+use lib.Ieee.{binary64, add, le, lt, of_int, of_bits}
 use lib.Ieee.Scale.{finite}
 use Rattle.tonekit_core.specs.Loop.{while, while_again, while_ended, while_out}
 use Rattle.tonekit_float.specs.Pick.{lesser}

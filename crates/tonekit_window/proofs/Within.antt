@@ -1,10 +1,6 @@
 -- The window about a point lies within the frames (`low_in`, `high_in`); what its ends ask as indices.
-use Prim.Native.Nat.{ℕ, ◌-◌, ◌≤◌, zero-le}
-use mathlib.Core.Bool.{true, false}
-use native.Mathlib.Omega.{arith}
-use lib.Dec.{T}
-use lib.IntN.{pos}
-use lib.Ieee.{Float, fin, binary64, add, sub, mul, le, lt, of_int, of_bits}
+use Rattle.std.proofs.Common.{ℕ, ◌-◌, ◌≤◌, zero-le, true, false, arith, T, pos, Float}
+use lib.Ieee.{fin, binary64, add, sub, mul, le, lt, of_int, of_bits}
 use lib.Ieee.Fits.{of_int-fits}
 use lib.Ieee.Scale.{finite}
 use Rattle.tonekit_float.specs.Pick.{lesser}

@@ -1,5 +1,5 @@
 -- extract.rs, `window_mean` and the windows of a contour: the mean of the piecewise-linear curve over a window that narrows at the ends.
-use Rattle.std.specs.Prelude.{ℕ, ◌+◌, ◌-◌, ◌≤◌, ◌<◌, Bool, false, cond, ◌≡◌, List, ltb, leb, pos, length, get_or, Float}
+use Rattle.std.specs.Prelude.{ℕ, ◌+◌, ◌-◌, ◌≤◌, ◌<◌, Bool, false, cond, ◌≡◌, List, leb, min, pos, length, get_or, Float}
 use Rattle.std.specs.Float.{nan, fin, binary64}
 use Rattle.std.specs.Float.Ieee.{add, sub, mul, div, lt, of_bits}
 use Rattle.tonekit_core.specs.Loop.{while, range}
@@ -43,14 +43,10 @@ pub record Spans (n k : ℕ) (r : Span) : Type 0 where
   pub low_in : In (fin false 0 (pos 0)) (whole64 (n - 1)) r.low
   pub high_in : In (fin false 0 (pos 0)) (whole64 (n - 1)) r.high
 
--- i, or top where that is less
-abbrev pub at_most : ℕ → ℕ → ℕ
-at_most i top = cond (ltb i top) i top
-
 -- the curve at time t: between frame i, the last but one at the most, and the next
 unfoldable pub curve_at : List Float → Float → Float
 curve_at l t =
-    let i = at_most (whole_part t) (length l - 2) in
+    let i = min (whole_part t) (length l - 2) in
     let f = sub binary64 t (whole64 i) in
     add binary64 (mul binary64 (get_or l i nan) (sub binary64 one64 f)) (mul binary64 (get_or l (i + 1) nan) f)
 
@@ -101,13 +97,13 @@ rounded x = let w = whole_part x in cond (lt (sub binary64 x (whole64 w)) half) 
 
 -- the frames inside a window, from the first to the last; where there is none, the nearest
 abbrev pub nearest : ℕ → ℕ → ℕ
-nearest n k = at_most (rounded (position k (n - 1))) (n - 1)
+nearest n k = min (rounded (position k (n - 1))) (n - 1)
 
 abbrev pub low_frame : ℕ → ℕ → ℕ
 low_frame n k = round_up (sub binary64 (span_at n k).low edge)
 
 abbrev pub high_frame : ℕ → ℕ → ℕ
-high_frame n k = at_most (whole_part (add binary64 (span_at n k).high edge)) (n - 1)
+high_frame n k = min (whole_part (add binary64 (span_at n k).high edge)) (n - 1)
 
 abbrev pub from_frame : ℕ → ℕ → ℕ
 from_frame n k = cond (leb (low_frame n k) (high_frame n k)) (low_frame n k) (nearest n k)

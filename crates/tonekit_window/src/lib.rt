@@ -5,8 +5,10 @@
 
 ghost use Rattle.std.specs.Prelude.{◌≡◌, ◌+◌, ◌-◌, ◌≤◌, ◌<◌, length};
 ghost use Rattle.tonekit_float.specs.Whole.{whole_part};
-ghost use Rattle.tonekit_contour.specs.Position.{whole64};
-ghost use Rattle.tonekit_window.specs.Window.{half_width, reach, curve_at, moved_to, step_of, at_most, mean_over, contour_at, rounded, voiced_in, weight_at, Frame, Spans, Swept, Framed};
+ghost use Rattle.tonekit_contour.specs.Position.{whole64, position};
+ghost use Rattle.tonekit_window.specs.Window.{half_width, reach, curve_at, moved_to, step_of, mean_over, contour_at, rounded, voiced_in, weight_at, Frame, Spans, Swept, Framed};
+
+use tonekit_fit::Frames;
 
 // WINDOW_FRACTION, MIN_HALF_WINDOW and EDGE_EPS of the Rust.
 const WINDOW_FRACTION: f64 = 0.05;
@@ -15,8 +17,32 @@ const MIN_HALF_WINDOW: f64 = 0.5;
 
 const EDGE_EPS: f64 = 1e-9;
 
+// A time in a voiced part, in frames: from 0 to 1,023, the last that a part can have.
+#[derive(Clone, Copy)]
+pub struct Time {
+    pub at: f64,
+    ghost inside: { Frame at },
+}
+
+// The curve of a voiced part, one value a frame, of which there are at least two.
+#[derive(Clone, Copy)]
+pub struct Curve<'a> {
+    pub values: &'a [f64],
+    ghost some: { 2 ≤ length values.now },
+}
+
+// Point k of ten in a part of n frames.
+#[derive(Clone, Copy)]
+pub struct Point {
+    pub n: usize,
+    pub k: usize,
+    ghost some: { 1 ≤ n },
+    ghost few: { n ≤ 1024 },
+    ghost ten: { k ≤ 9 },
+}
+
 // The window about a contour point, in frames of the voiced part.
-#[derive(Drop)]
+#[derive(Clone, Copy)]
 pub struct Span {
     pub low: f64,
     pub high: f64,
@@ -24,7 +50,7 @@ pub struct Span {
 
 // Where the sweep over a window stands: a time, the curve there, the next whole frame, and the
 // area so far.
-#[derive(Drop)]
+#[derive(Clone, Copy)]
 pub struct Sweep {
     pub t0: f64,
     pub v0: f64,
@@ -33,67 +59,91 @@ pub struct Sweep {
 }
 
 // The first and the last frame inside a window.
-#[derive(Drop)]
+#[derive(Clone, Copy)]
 pub struct FrameRange {
     pub from: usize,
     pub to: usize,
 }
 
 // Half the width of a window in a part of n frames.
+#[tactic(auto, unfolding(crate::specs::Window::half_width))]
 fn half_width(n: usize) -> f64
     ensures { result ≡ half_width n }
 {
-    tonekit_float::max_f64(WINDOW_FRACTION * tonekit_float::f64_of(n), MIN_HALF_WINDOW)
+    tonekit_float::greater(WINDOW_FRACTION * tonekit_float::f64_of(n), MIN_HALF_WINDOW)
 }
 
-// Half the width of the window about point k, which narrows at the ends of the part.
-fn reach(n: usize, k: usize) -> f64
-    requires { 1 ≤ n }
-    ensures { result ≡ reach n k }
-{
-    let x = tonekit_contour::position(k, n - 1);
-    tonekit_float::min_f64(
-        tonekit_float::min_f64(half_width(n), x),
-        tonekit_float::f64_of(n - 1) - x,
-    )
-}
+impl Time {
+    // The whole frame at the time or before it.
+    fn whole(self) -> usize
+        ensures { (result ≡ whole_part self.at) × (result ≤ 1023) }
+    {
+        tonekit_float::floor_index(self.at)
+    }
 
-// The window about point k of ten in a part of n frames. It lies within the part.
-pub fn span_at(n: usize, k: usize) -> Span
-    requires { (1 ≤ n) × (n ≤ 1024) × (k ≤ 9) }
-    ensures { Spans n k result }
-{
-    let x = tonekit_contour::position(k, n - 1);
-    let w = reach(n, k);
-    Span {
-        low: x - w,
-        high: x + w,
+    // The nearest whole frame, a half up.
+    #[tactic(auto, unfolding(crate::specs::Window::rounded))]
+    fn rounded(self) -> usize
+        ensures { result ≡ rounded self.at }
+    {
+        let w = self.whole();
+        if self.at - tonekit_float::f64_of(w) < 0.5 {
+            w
+        } else {
+            w + 1
+        }
     }
 }
 
-// i, or top where that is less.
-fn at_most(i: usize, top: usize) -> usize
-    ensures { (result ≡ at_most i top) × (result ≤ top) }
-{
-    if i < top { i } else { top }
-}
+impl Point {
+    // Where the point lies among the frames.
+    fn place(self) -> f64
+        ensures { result ≡ position self.k (self.n - 1) }
+    {
+        tonekit_contour::position(self.k, self.n - 1)
+    }
 
-// The curve at time t, whose whole part is w, from a line between the two frames about it.
-fn curve_from(values: &[f64], t: f64, w: usize) -> f64
-    requires { (2 ≤ length values.now) × (w ≡ whole_part t) }
-    ensures { result ≡ curve_at values.now t }
-{
-    let i = at_most(w, values.len() - 2);
-    let f = t - tonekit_float::f64_of(i);
-    values[i] * (1.0 - f) + values[i + 1] * f
-}
+    // Half the width of the window about the point, which narrows at the ends of the part.
+    #[tactic(auto, unfolding(crate::specs::Window::reach))]
+    fn reach(self) -> f64
+        ensures { result ≡ reach self.n self.k }
+    {
+        let x = self.place();
+        tonekit_float::lesser(
+            tonekit_float::lesser(half_width(self.n), x),
+            tonekit_float::f64_of(self.n - 1) - x,
+        )
+    }
 
-// The curve at time t.
-fn curve_at(values: &[f64], t: f64) -> f64
-    requires { (2 ≤ length values.now) × Frame t }
-    ensures { result ≡ curve_at values.now t }
-{
-    curve_from(values, t, tonekit_float::floor_index(t))
+    // The window about the point. It lies within the part.
+    pub fn span(self) -> Span
+        ensures { Spans self.n self.k result }
+    {
+        let x = self.place();
+        let w = self.reach();
+        Span {
+            low: x - w,
+            high: x + w,
+        }
+    }
+
+    // The frames inside the window about the point; the nearest where there is none.
+    pub fn frames(self) -> FrameRange
+        ensures { Framed self.n self.k result }
+    {
+        let span = self.span();
+        let from = tonekit_float::ceil_index(span.low - EDGE_EPS);
+        let to = tonekit_float::floor_index(span.high + EDGE_EPS).min(self.n - 1);
+        if from <= to {
+            return FrameRange { from, to };
+        }
+        let place = Time { at: self.place() };
+        let near = place.rounded().min(self.n - 1);
+        FrameRange {
+            from: near,
+            to: near,
+        }
+    }
 }
 
 // One trapezoid, to time t1 where the curve is at v1.
@@ -108,54 +158,73 @@ fn moved(s: Sweep, t1: f64, v1: f64) -> Sweep
     }
 }
 
-// The next trapezoid: to the next whole frame, which is `frame`, or to b where that comes first.
-fn step(values: &[f64], b: f64, s: Sweep, frame: usize) -> Sweep
-    requires { (2 ≤ length values.now) × Frame b × (s.next ≡ whole64 frame) × (frame ≤ 4000) }
-    ensures { result ≡ step_of values.now b s }
-{
-    let next = s.next;
-    if b < next {
-        return moved(s, b, curve_at(values, b));
+impl Curve<'_> {
+    // The curve at time t, whose whole part is w, from a line between the two frames about it.
+    #[tactic(auto, unfolding(crate::specs::Window::curve_at))]
+    fn between(self, t: f64, w: usize) -> f64
+        requires { w ≡ whole_part t }
+        ensures { result ≡ curve_at self.entry.values.now t }
+    {
+        let i = w.min(self.values.len() - 2);
+        let f = t - tonekit_float::f64_of(i);
+        self.values[i] * (1.0 - f) + self.values[i + 1] * f
     }
-    moved(s, next, curve_from(values, next, frame))
-}
 
-// The trapezoids between a, every whole frame inside the window, and b; the next whole frame is
-// kept as an index too.
-fn swept(values: &[f64], a: f64, b: f64) -> Sweep
-    requires { (2 ≤ length values.now) × Frame a × Frame b }
-    ensures { Swept values.now a b result }
-{
-    let v0 = curve_at(values, a);
-    let from = tonekit_float::floor_index(a);
-    let next = tonekit_float::f64_of(from) + 1.0;
-    let mut frame = from + 1;
-    let mut s = Sweep {
-        t0: a,
-        v0,
-        next,
-        area: 0.0,
-    };
-    while s.t0 < b {
-        s = step(values, b, s, frame);
-        frame += 1;
+    // The curve at a time.
+    fn at(self, t: Time) -> f64
+        ensures { result ≡ curve_at self.entry.values.now t.at }
+    {
+        self.between(t.at, t.whole())
     }
-    s
-}
 
-// The mean of the curve through the values over a window; its value there where the window is a
-// point. The window lies within 0 to 1,023.
-fn window_mean(values: &[f64], span: Span) -> f64
-    requires { (2 ≤ length values.now) × Frame span.low × Frame span.high }
-    ensures { result ≡ mean_over values.now span }
-{
-    let a = span.low;
-    let b = span.high;
-    if b - a < EDGE_EPS {
-        return curve_at(values, a);
+    // The next trapezoid: to the next whole frame, which is `frame`, or to b where that comes first.
+    #[tactic(auto, using(crate::proofs::Walk::step_short))]
+    fn step(self, b: Time, s: Sweep, frame: usize) -> Sweep
+        requires { (s.next ≡ whole64 frame) × (frame ≤ 4000) }
+        ensures { result ≡ step_of self.entry.values.now b.at s }
+    {
+        let next = s.next;
+        if b.at < next {
+            return moved(s, b.at, self.at(b));
+        }
+        moved(s, next, self.between(next, frame))
     }
-    let s = swept(values, a, b);
-    s.area / (b - a)
+
+    // The trapezoids between a, every whole frame inside the window, and b; the next whole frame is
+    // kept as an index too.
+    fn swept(self, a: Time, b: Time) -> Sweep
+        ensures { Swept self.entry.values.now a.at b.at result }
+    {
+        let v0 = self.at(a);
+        let from = a.whole();
+        let next = tonekit_float::f64_of(from) + 1.0;
+        let mut frame = from + 1;
+        let mut s = Sweep {
+            t0: a.at,
+            v0,
+            next,
+            area: 0.0,
+        };
+        // Stays: the times decide where the sweep ends, and frame is the next of them as an index.
+        while s.t0 < b.at {
+            s = self.step(b, s, frame);
+            frame += 1;
+        }
+        s
+    }
+
+    // The mean of the curve over the window from a to b; its value there where the window is a
+    // point.
+    #[tactic(auto, unfolding(crate::specs::Window::mean_over))]
+    fn mean(self, a: Time, b: Time) -> f64
+        ensures { result ≡ mean_over self.entry.values.now (record { low = a.at; high = b.at }) }
+    {
+        if b.at - a.at < EDGE_EPS {
+            return self.at(a);
+        }
+        let s = self.swept(a, b);
+        s.area / (b.at - a.at)
+    }
 }
 
 // Contour point k of a part's curve.
@@ -163,62 +232,37 @@ pub fn contour_at(values: &[f64], k: usize) -> f32
     requires { (2 ≤ length values.now) × (length values.now ≤ 1024) × (k ≤ 9) }
     ensures { result ≡ contour_at values.now k }
 {
-    tonekit_float::narrow(window_mean(values, span_at(values.len(), k)))
+    let point = Point { n: values.len(), k };
+    let span = point.span();
+    let curve = Curve { values };
+    let low = Time { at: span.low };
+    let high = Time { at: span.high };
+    tonekit_float::narrow(curve.mean(low, high))
 }
 
-// x to the nearest whole number, a half up.
-fn round_index(x: f64) -> usize
-    requires { Frame x }
-    ensures { result ≡ rounded x }
-{
-    let w = tonekit_float::floor_index(x);
-    if x - tonekit_float::f64_of(w) < 0.5 {
-        w
-    } else {
-        w + 1
-    }
-}
-
-// The frames inside the window about point k; the nearest where there is none.
-pub fn frames_at(n: usize, k: usize) -> FrameRange
-    requires { (1 ≤ n) × (n ≤ 1024) × (k ≤ 9) }
-    ensures { Framed n k result }
-{
-    let span = span_at(n, k);
-    let from = tonekit_float::ceil_index(span.low - EDGE_EPS);
-    let to = at_most(tonekit_float::floor_index(span.high + EDGE_EPS), n - 1);
-    if from <= to {
-        return FrameRange { from, to };
-    }
-    let near = at_most(round_index(tonekit_contour::position(k, n - 1)), n - 1);
-    FrameRange {
-        from: near,
-        to: near,
-    }
-}
-
-// How many of the part's frames lo to hi are voiced.
-fn voiced_in(frames: &[u8], first: usize, lo: usize, hi: usize) -> usize
-    requires { (first ≤ 1024) × (hi < 1024) }
-    ensures { result ≡ voiced_in frames.now first lo hi }
+// How many of the part's frames in a range are voiced.
+#[tactic(auto, using(tonekit_core::specs::Loop::again, tonekit_core::specs::Loop::ended))]
+fn voiced_in(frames: Frames<'_>, within: FrameRange) -> usize
+    requires { within.to < 1024 }
+    ensures { result ≡ voiced_in frames.entry.bytes.now frames.entry.first within.from within.to }
 {
     let mut count = 0;
-    for j in lo..hi + 1 {
-        if tonekit_fit::voiced(frames, first + j) {
+    for j in within.from..within.to + 1 {
+        if frames.voiced(j) {
             count += 1;
         }
     }
     count
 }
 
-// Voiced weight k of a part of n frames whose first is frame `first`: the share of the frames in
-// the window that are truly voiced.
-pub fn weight_at(frames: &[u8], first: usize, n: usize, k: usize) -> f32
-    requires { (first ≤ 1024) × (1 ≤ n) × (n ≤ 1024) × (k ≤ 9) }
-    ensures { result ≡ weight_at frames.now first n k }
+// Voiced weight k of a part of n frames: the share of the frames in the window that are truly
+// voiced.
+pub fn weight_at(frames: Frames<'_>, n: usize, k: usize) -> f32
+    requires { (1 ≤ n) × (n ≤ 1024) × (k ≤ 9) }
+    ensures { result ≡ weight_at frames.entry.bytes.now frames.entry.first n k }
 {
-    let within = frames_at(n, k);
-    let count = voiced_in(frames, first, within.from, within.to);
+    let within = Point { n, k }.frames();
+    let count = voiced_in(frames, within);
     tonekit_float::narrow(
         tonekit_float::f64_of(count) / tonekit_float::f64_of(within.to - within.from + 1),
     )

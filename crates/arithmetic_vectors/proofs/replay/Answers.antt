@@ -1,17 +1,21 @@
--- `arithmetic_vectors::replay` meets its contract: what is left of the loop, from here, gives what the whole loop gives.
--- Assumes nothing.
-use mathlib.Core.Path.{refl, sym}
-use borrow.Author.Rules.{rules}
-use Rattle.tonekit_core.specs.Loop.{again, ended}
-use Rattle.arithmetic_vectors.specs.Replay.{replayed}
+-- `replay` meets its contract: what is left of the vectors, from here, gives what all give.
+use Rattle.std.proofs.Common.{◌+◌, drop, sym, ap, ◌∙◌, arith, rules}
+use Rattle.tonekit_core.specs.Loop.{fold, fold_step, fold_done}
+use Rattle.arithmetic_vectors.specs.declared.Count.{Count}
+use Rattle.arithmetic_vectors.specs.Replay.{tally, replayed}
 use Rattle.arithmetic_vectors.proofs.replay.Goals as goal
 
-pub loop-i-init : goal.loop-i-init
+pub loop-vector-init : goal.loop-vector-init
 unfolding replayed
-loop-i-init c = (search rules, search rules, search rules, search rules, refl)
+loop-vector-init c = (omega arith, omega arith, ap (fold (tally c.args.op) (record { run = 0; differ = 0 })) c.as_chunks.ensures.front)
 
-pub loop-i-preserved : goal.loop-i-preserved
-loop-i-preserved c = (search rules, search rules, search rules, search rules, again _ c.loop-i.invariant.4 (search rules) (sym c.tally-c.ensures.0))
+pub loop-vector-preserved : goal.loop-vector-preserved
+loop-vector-preserved c =
+    let at = c.loop-vector in
+    let more = c.tally-c.ensures.more in
+    let all = c.as_chunks.result.0.now in
+    let f = tally c.args.op in
+    (omega arith, omega arith, ap (λ (s : Count). fold f s (drop (at.vector-index + 1) all)) c.tally-c.ensures.value ∙ sym (fold_step f at.c all at.vector-index _ c.loop-vector-test.true) ∙ at.invariant.2)
 
 pub returns : goal.returns
-returns c = ended _ c.loop-i.invariant.4 (search rules)
+returns c = let at = c.loop-vector in sym (fold_done (tally c.args.op) at.c c.as_chunks.result.0.now at.vector-index (search rules)) ∙ at.invariant.2

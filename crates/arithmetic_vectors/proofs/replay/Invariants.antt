@@ -1,10 +1,8 @@
-use Prim.Native.Nat.{◌/◌, ◌≤◌}
-use mathlib.Core.Path.{◌≡◌}
-use lib.ListN.{length}
-use Rattle.tonekit_core.specs.Loop.{range}
+use Rattle.std.proofs.Common.{◌≡◌, ◌≤◌, drop}
+use Rattle.tonekit_core.specs.Loop.{fold}
 use Rattle.arithmetic_vectors.specs.Replay.{tally, replayed}
 use Rattle.arithmetic_vectors.proofs.replay.Given as goal
 
-abbrev pub invariant-loop-i : goal.invariant-loop-i
-invariant-loop-i l =
-    (l.n ≡ length l.s / 17) × (l.i ≤ l.n) × (l.c.run ≤ l.i) × (l.c.differ ≤ l.i) × (range (tally l.s l.op) l.i l.n l.c ≡ replayed l.s l.op)
+abbrev pub invariant-loop-vector : goal.invariant-loop-vector
+invariant-loop-vector l =
+    (l.c.run ≤ l.vector-index) × (l.c.differ ≤ l.vector-index) × (fold (tally l.op) l.c (drop l.vector-index l.vectors) ≡ replayed l.s l.op)

@@ -1,25 +1,16 @@
-use mathlib.Core.Path.{refl, ap, ◌∙◌}
-use mathlib.Core.List.{List}
-use lib.Ieee.{Float, nan}
-use Rattle.tonekit_bytes.proofs.Write.{f32s_step}
-use borrow.Author.Rules.{rules}
-use lib.Seq.{sets, take_all}
+use Rattle.std.proofs.Common.{◌∙◌, arith, rules}
+use Rattle.std.specs.Float.{nan}
 use Rattle.tonekit_bytes.specs.Fields.{f32s_bytes}
+use Rattle.tonekit_bytes.proofs.Write.{f32s_step}
 use Rattle.tonekit_bytes.proofs.put_f32s.Goals as goal
 
-pub loop-i-init : goal.loop-i-init
+pub loop-x-init : goal.loop-x-init
 unfolding f32s_bytes
-loop-i-init c = (search rules, search rules, refl)
+loop-x-init c = search rules
 
-pub loop-i-preserved : goal.loop-i-preserved
-loop-i-preserved c =
-    let a = c.args in (
-      search rules,
-      search rules,
-      c.put_f32.ensures ∙ f32s_step a.out.now c.loop-i.out a.at c.loop-i.i a.xs.now nan (search rules) c.loop-i.invariant.2,
-    )
-
-pub returns : goal.returns
-returns c =
-    let a = c.args in
-    c.loop-i.invariant.2 ∙ ap (λ (xs : List Float). sets a.out.now a.at (f32s_bytes xs)) (take_all c.loop-i.i a.xs.now (search rules))
+pub loop-x-preserved : goal.loop-x-preserved
+loop-x-preserved c = let a = c.args in let l = c.loop-x in record {
+  place = omega arith;
+  size = search rules;
+  written = c.put_f32.ensures ∙ f32s_step a.out.now l.out a.at l.x-index l.place a.xs.now nan (search rules) l.invariant.place l.invariant.written;
+}

@@ -1,13 +1,11 @@
-use mathlib.Core.Path.{refl}
-use borrow.Author.Rules.{rules}
-use lib.ListN.{length}
+use Rattle.std.proofs.Common.{refl, rules, length}
 use Rattle.tonekit_bytes.proofs.Write.{wrote, refused_short}
 use Rattle.tonekit_bytes.proofs.write_record.Goals as goal
 
 pub returns-then-out-bytes : goal.returns-then-out-bytes
 returns-then-out-bytes c =
     let a = c.args in
-    refused_short a.bytes.now a.out.now (length a.bytes.now) refl (search rules)
+    rw c.at.ensures (refused_short a.bytes.now a.out.now (length a.bytes.now) refl (search rules))
 
 pub returns : goal.returns
 returns c =

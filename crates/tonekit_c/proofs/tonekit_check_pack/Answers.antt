@@ -1,5 +1,6 @@
 -- `tonekit_check_pack` meets its contract, call by call.
+use Rattle.tonekit_c.proofs.Handed.{handed}
 use Rattle.tonekit_c.proofs.tonekit_check_pack.Goals as goal
 
 pub returns : goal.returns
-returns c = rw (← c.check_pack.ensures) c.hand_checked.ensures
+returns c = rw (← c.check_pack.ensures) (handed _ _ _ (rw c.and.ensures at c.hand.ensures))

@@ -2,4 +2,4 @@
 use Rattle.tonekit_c.proofs.tonekit_exp.Goals as goal
 
 pub returns : goal.returns
-returns c = rw (← c.f64_of_bits.ensures, ← c.exp.ensures) c.bits_of_f64.ensures
+returns c = rw (← c.of_bits.ensures, ← c.exp.ensures) c.bits.ensures

@@ -4,4 +4,4 @@ use Rattle.tonekit_c.proofs.tonekit_write_sheet.Goals as goal
 pub returns : goal.returns
 returns c =
     let w = c.write_sheet.ensures in
-    record { number = rw (← w.answer) c.hand_answer.ensures.0; at = rw (← w.answer) c.hand_answer.ensures.1; buffer = w.buffer }
+    record { number = rw (← w.answer) c.hand.ensures.0; at = rw (← w.answer) c.hand.ensures.1; buffer = w.buffer }

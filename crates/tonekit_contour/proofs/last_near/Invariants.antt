@@ -1,10 +1,8 @@
-use mathlib.Core.Path.{◌≡◌}
-use Prim.Native.Nat.{◌≤◌}
-use lib.ListN.{length}
+use Rattle.std.proofs.Common.{◌≡◌, ◌≤◌, length}
 use Rattle.tonekit_core.specs.Loop.{range}
 use Rattle.tonekit_contour.specs.Turning.{last_turn, last_near}
 use Rattle.tonekit_contour.proofs.last_near.Given as goal
 
 abbrev pub invariant-loop-j : goal.invariant-loop-j
 invariant-loop-j l =
-    (l.j-end ≡ length l.curve) × (l.j ≤ l.j-end) × (l.found ≤ length l.curve) × (range (last_turn l.curve l.sign l.best) l.j l.j-end l.found ≡ last_near l.curve l.sign l.best l.d)
+    (l.found ≤ length l.curve) × (range (last_turn l.curve l.sign l.best) l.j (length l.curve) l.found ≡ last_near l.curve l.sign l.best l.d)

@@ -1,4 +1,4 @@
-use mathlib.Core.Path.{refl, sym}
+use Rattle.std.proofs.Common.{refl, sym}
 use Rattle.tonekit_core.specs.Loop.{again, ended}
 use Rattle.tonekit_expect.proofs.best_among.Goals as goal
 

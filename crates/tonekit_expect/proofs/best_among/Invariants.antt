@@ -1,9 +1,9 @@
-use mathlib.Core.Path.{◌≡◌}
+use Rattle.std.proofs.Common.{◌≡◌}
 use Rattle.tonekit_core.specs.Loop.{range}
 use Rattle.tonekit_pack.specs.Held.{in_order}
-use Rattle.tonekit_expect.specs.declared.Found.TheVariants as found
+use Rattle.std.specs.Prelude.{None}
 use Rattle.tonekit_expect.specs.Lookup.{best_turn}
 use Rattle.tonekit_expect.proofs.best_among.Given as goal
 
 abbrev pub invariant-loop-k : goal.invariant-loop-k
-invariant-loop-k l = range (best_turn l.s (in_order l.at l.n) l.c) l.k l.to l.best ≡ range (best_turn l.s (in_order l.at l.n) l.c) l.from l.to found.Nothing
+invariant-loop-k l = range (best_turn l.s l.at l.c) l.k l.to l.best ≡ range (best_turn l.s l.at l.c) l.from l.to None

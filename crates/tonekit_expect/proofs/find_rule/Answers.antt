@@ -1,6 +1,4 @@
-use borrow.Author.Rules.{rules}
-use native.Mathlib.Omega.{arith}
-use mathlib.Core.Path.{sym, ◌∙◌}
+use Rattle.std.proofs.Common.{rules, arith, sym, ◌∙◌}
 use Rattle.tonekit_core.specs.Loop.{loop_again as onward, loop_stop}
 use Rattle.tonekit_expect.specs.Lookup.{find_rule}
 use Rattle.tonekit_pack.proofs.InOrder.{order_length}
@@ -15,7 +13,7 @@ loop-left-init c =
 
 pub loop-left-preserved : goal.loop-left-preserved
 loop-left-preserved c =
-    let up = c.in-At-parent_index.is in
+    let up = c.in-Some-parent_index.is in
     let p = c.args.p in
     let e = sym c.parent_index.ensures ∙ up in
     let none = sym c.best_rule.ensures ∙ c.in_default.is in
@@ -25,9 +23,9 @@ loop-left-preserved c =
 pub returns-then-left-eq0 : goal.returns-then-left-eq0
 returns-then-left-eq0 c = loop_out _ _ _ _ _ c.loop-left.invariant.1 c.if-left-eq0.true
 
-pub returns-in-At : goal.returns-in-At
-returns-in-At c =
-    loop_stop _ _ c.loop-left.invariant.1 (omega arith) (climb_hit _ _ _ _ _ (sym c.best_rule.ensures ∙ c.in-At.is))
+pub returns-in-Some : goal.returns-in-Some
+returns-in-Some c =
+    loop_stop _ _ c.loop-left.invariant.1 (omega arith) (climb_hit _ _ _ _ _ (sym c.best_rule.ensures ∙ c.in-Some.is))
 
 pub returns-in_default-parent_index : goal.returns-in_default-parent_index
 returns-in_default-parent_index c =

@@ -1,10 +1,6 @@
-use Prim.Native.Nat.{◌+◌, ◌-◌, ◌*◌, ◌≤◌}
-use mathlib.Core.Path.{◌≡◌}
+use Rattle.std.proofs.Common.{◌+◌, ◌-◌, ◌*◌, ◌≤◌, ◌≡◌}
 use Rattle.tonekit_pack.specs.Pack.{parts_from}
 use Rattle.tonekit_expect.proofs.parts_from.Given as goal
 
 abbrev pub invariant-loop-n : goal.invariant-loop-n
 invariant-loop-n l = (l.n ≤ 4) × (l.n + parts_from (4 - l.n) l.s (l.o + 46 * l.n) ≡ parts_from 4 l.s l.o)
-
-abbrev pub decreases-loop-n : goal.decreases-loop-n
-decreases-loop-n l = 4 - l.n

@@ -1,4 +1,4 @@
-use mathlib.Core.Path.{◌≡◌}
+use Rattle.std.proofs.Common.{◌≡◌}
 use Rattle.tonekit_core.specs.Loop.{range_to}
 use Rattle.tonekit_fit.specs.Fit.{column_turn, first_unknown, lead_of}
 use Rattle.tonekit_fit.proofs.lead.Given as goal

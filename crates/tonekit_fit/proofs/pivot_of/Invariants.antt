@@ -1,5 +1,4 @@
-use mathlib.Core.Path.{◌≡◌}
-use Prim.Native.Nat.{◌<◌}
+use Rattle.std.proofs.Common.{◌≡◌, ◌<◌}
 use Rattle.tonekit_core.specs.Loop.{range}
 use Rattle.tonekit_fit.specs.Fit.{pivot_turn, pivot_of}
 use Rattle.tonekit_fit.proofs.pivot_of.Given as goal

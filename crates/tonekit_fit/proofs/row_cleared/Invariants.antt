@@ -1,4 +1,4 @@
-use mathlib.Core.Path.{◌≡◌}
+use Rattle.std.proofs.Common.{◌≡◌}
 use Rattle.tonekit_core.specs.Loop.{range}
 use Rattle.tonekit_fit.specs.Fit.{cell_cleared}
 use Rattle.tonekit_fit.proofs.row_cleared.Given as goal

@@ -3,16 +3,13 @@ use Rattle.std.proofs.Common.{◌≡◌, ℕ, ◌+◌, ◌^◌, ◌<◌, true, f
 use lib.Ieee.{binary64, lt}
 use Rattle.tonekit_float.specs.Whole.{whole_part}
 use Rattle.tonekit_float.proofs.Exact.{whole}
-use Rattle.tonekit_float.proofs.Whole.{from_0, up_lt, more_up, no_more_up, none_up, exact_index}
+use Rattle.tonekit_float.proofs.Whole.{up_lt, more_up, no_more_up, none_up, exact_index}
 use Rattle.tonekit_float.proofs.ceil_index.Goals as goal
 use Rattle.tonekit_float.proofs.ceil_index.Goals.{Then-x}
 
 -- the whole part is below 2 ^ 53
 small : (c : Then-x) → whole_part c.args.x < 2 ^ 53
 small c = up_lt c.args.x c.if-x.true c.requires
-
-pub floor_index-n-requires : goal.floor_index-n-requires
-floor_index-n-requires c = record { low = from_0 c.args.x c.if-x.true c.requires; high = c.requires }
 
 pub int_to_float-n : goal.int_to_float-n
 int_to_float-n c = exact_index c.floor_index-n.result (omega (arith, small (goal.at.int_to_float-n c).Then-x, c.floor_index-n.ensures))

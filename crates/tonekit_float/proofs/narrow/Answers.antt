@@ -1,25 +1,19 @@
 -- `narrow`: above 0, below 0, at a zero and at a NaN.
-use Rattle.std.proofs.Common.{T, ap, ◌∙◌, rules}
+use Rattle.std.proofs.Common.{T, ap, ◌∙◌}
 use lib.Ieee.{binary64, fits, of_bits, div, neg}
 use Rattle.tonekit_float.proofs.Order.{yes}
-use Rattle.tonekit_float.proofs.Narrowing.{positive, turned, negated, at_zero, at_nan}
+use Rattle.tonekit_float.proofs.Narrowing.{turned, negated, at_zero, at_nan}
 use Rattle.tonekit_float.proofs.narrow.Goals as goal
 use Rattle.tonekit_float.proofs.narrow.Goals.{Start}
 
 held : (c : Start) → T (fits binary64 c.args.x)
 held c = yes c.well_formed.0.1
 
-pub narrow_above-requires : goal.narrow_above-requires
-narrow_above-requires c = positive c.args.x c.if-x.true
-
 pub narrow_above-requires-then-x-2 : goal.narrow_above-requires-then-x-2
 narrow_above-requires-then-x-2 c = turned c.args.x c.if-x-2.true
 
 pub float_to_float-result : goal.float_to_float-result
 float_to_float-result c = (at_zero c.args.x (held (goal.at.float_to_float-result c).Start) c.if-x-3.true).0
-
-pub returns-then-x : goal.returns-then-x
-returns-then-x c = search rules
 
 pub returns-then-x-2 : goal.returns-then-x-2
 returns-then-x-2 c = ap neg c.narrow_above-then-x-2.ensures ∙ negated c.args.x

@@ -1,18 +1,16 @@
 -- `gather` meets its contract: each field is what the definition gathers.
-use Rattle.tonekit_expect.specs.Source.{source_of_pack}
+use Rattle.std.proofs.Common.{◌≡◌, ◌∙◌, ◌||◌, eqb, eq-eqb, ne_eqb}
+use Rattle.tonekit_expect.specs.Source.{tone_in}
 use Rattle.tonekit_inventory.specs.Gather.{gathered}
 use Rattle.tonekit_inventory.proofs.gather.Goals as goal
-
-pub accent_held-g-requires : goal.accent_held-g-requires
-accent_held-g-requires c = c.requires.0.roomy
-
-pub prev_held-requires : goal.prev_held-requires
-prev_held-requires c = c.requires.0.roomy
+use Rattle.tonekit_inventory.proofs.gather.Goals.{then-c-eq0, else-c-eq0}
 
 pub returns : goal.returns
-unfolding gathered source_of_pack
-returns c =
-    record {
-      is = rw (c.f32_at-2.ensures, c.f32_at.ensures, c.prev_held.ensures, c.listings-inventory.ensures.is, c.accent_held-g.ensures);
-      sound = c.listings-inventory.ensures.sound;
-    }
+unfolding gathered
+returns g c =
+    let a = c.args in
+    let prev : c.if-c-eq0.result ≡ (eqb a.c.prev 0 || tone_in (g.H.Held.source a.bytes.now a.held.now).tones a.c.prev) = elim c.if-c-eq0.branch [
+      | then-c-eq0 w ↦ w.result-is ∙ rw (eq-eqb _ _ w.if-c-eq0.true)
+      | else-c-eq0 w ↦ rw (ne_eqb _ _ w.if-c-eq0.false, ← w.holds_tone.ensures) w.result-is
+    ] in
+    record { is = rw (prev, c.settings-settings.ensures, c.tolerance.ensures, c.listings.ensures.is); counted = c.listings.ensures.counted }

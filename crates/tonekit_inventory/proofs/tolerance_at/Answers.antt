@@ -1,5 +1,5 @@
 -- `tolerance_at` meets its contract: a field for each call.
-use native.Mathlib.Nat.{add-zero}
+use Rattle.std.proofs.Common.{add-zero}
 use Rattle.tonekit_inventory.specs.Fields.{tolerance_at}
 use Rattle.tonekit_inventory.proofs.tolerance_at.Goals as goal
 

@@ -1,34 +1,35 @@
 -- `mixed_terms` meets its contract: a turn of the loop is a turn of the mixture, whether its term counts or not.
-use Rattle.std.proofs.Common.{◌+◌, ◌*◌, Bool, cond, refl, sym, ap, ◌∙◌, arith}
+use Rattle.std.proofs.Common.{rules, ◌+◌, ◌*◌, Option, refl, sym, ap, ◌∙◌}
 use Rattle.tonekit_core.specs.Loop.{again, ended}
 use Rattle.tonekit_score.specs.Score.{mixed}
-use Rattle.tonekit_score.specs.Terms.{mixing_with}
+use Rattle.tonekit_score.specs.declared.Term.{Term}
 use Rattle.tonekit_judge.specs.Judge.{cell}
 use Rattle.tonekit_judge.specs.Terms.{either_turn, mixed_terms}
-use Rattle.tonekit_judge.proofs.Terms.{one_term}
+use Rattle.tonekit_judge.proofs.Terms.{mix_in, one_term}
 use Rattle.tonekit_judge.proofs.mixed_terms.Goals as goal
-use Rattle.tonekit_judge.proofs.mixed_terms.Goals.{then-c, else-c}
+use Rattle.tonekit_judge.proofs.mixed_terms.Goals.{in-Some, in_default}
 
 pub loop-j-init : goal.loop-j-init
 unfolding mixed_terms
-loop-j-init c = rw c.lead_of-best.ensures refl
+loop-j-init c = refl
 
 pub loop-j-preserved : goal.loop-j-preserved
 unfolding mixed
 loop-j-preserved c =
     let a = c.args in
     let l = c.loop-j in
-    let turn = either_turn a.s a.weights.now (cell a.d.now) a.t a.whole a.share in
-    let m = mixing_with l.total l.best in
-    let x = c.term_at-c in
-    let one = λ (b : Bool). cond b (mixed m (4 * a.t + l.j) x.result.score x.result.distance) m in
-    let is = rw (← x.ensures) at (sym (one_term a.s a.weights.now (cell a.d.now) a.t a.whole a.share l.j m)) in
-    elim c.if-c.branch [
-      | then-c w ↦ rw (w.total-is, w.best-is, w.add_to.ensures, w.led_by-best.ensures) (again turn l.invariant c.loop-j-test.true (is ∙ ap one w.if-c.true))
-      | else-c w ↦ rw (w.total-is, w.best-is) (again turn l.invariant c.loop-j-test.true (is ∙ ap one w.if-c.false))
+    let s = a.c.now.scoring in
+    let weights = a.c.now.weights in
+    let d = cell a.c.now.distances in
+    let turn = either_turn s weights d a.t a.share in
+    let mix = λ (term : Option Term). mix_in l.m (4 * a.t + l.j) term in
+    let is = sym (one_term s weights d a.t l.j l.m a.share) ∙ ap mix (sym c.term_at.ensures) in
+    elim c.match-term_at.branch [
+      | in-Some w ↦ rw (w.m-is, w.add_to.ensures, w.led.ensures) (again turn l.invariant c.loop-j-test.true (is ∙ ap mix w.in-Some.is))
+      | in_default w ↦ rw w.m-is (again turn l.invariant c.loop-j-test.true (is ∙ ap mix w.in_default.is))
     ]
 
 pub returns : goal.returns
 returns c =
     let a = c.args in
-    c.mixing_with.ensures ∙ ended (either_turn a.s a.weights.now (cell a.d.now) a.t a.whole a.share) c.loop-j.invariant (omega arith)
+    ended (either_turn a.c.now.scoring a.c.now.weights (cell a.c.now.distances) a.t a.share) c.loop-j.invariant (search rules)

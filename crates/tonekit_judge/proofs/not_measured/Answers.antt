@@ -1,12 +1,27 @@
--- `not_measured` meets its contract: what is left of the loop, from here, gives what the whole gives.
-use borrow.Author.Rules.{rules}
-use Rattle.tonekit_core.specs.Loop.{again, ended}
-use Rattle.tonekit_judge.specs.Judge.{not_measured}
+-- `not_measured` meets its contract: as many log-likelihoods as there are tones are filled, which is what the definition's turns come to.
+use Rattle.std.proofs.Common.{ℕ, zero, suc, ◌≡◌, refl, ◌≤◌, ◌++◌, drop, replicate, arith, length-take-le}
+use Rattle.std.specs.Float.Ieee.{neg}
+use Rattle.tonekit_core.specs.Loop.{range, turns}
+use Rattle.tonekit_float.specs.Narrow.{narrowed}
+use Rattle.tonekit_score.specs.Score.{zero32, million}
+use Rattle.tonekit_judge.specs.Judge.{lowest_turn, not_measured}
 use Rattle.tonekit_judge.proofs.not_measured.Goals as goal
 
-pub loop-t-preserved : goal.loop-t-preserved
-loop-t-preserved c = (search rules, again _ c.loop-t.invariant.1 (search rules) (rw (← c.narrow.ensures)))
+filled : (tones : ℕ) → tones ≤ 8 → range lowest_turn 0 tones (replicate 8 zero32) ≡ replicate tones (narrowed (neg million)) ++ drop tones (replicate 8 zero32)
+unfolding range turns
+filled zero h = refl
+filled (suc zero) h = refl
+filled (suc (suc zero)) h = refl
+filled (suc (suc (suc zero))) h = refl
+filled (suc (suc (suc (suc zero)))) h = refl
+filled (suc (suc (suc (suc (suc zero))))) h = refl
+filled (suc (suc (suc (suc (suc (suc zero)))))) h = refl
+filled (suc (suc (suc (suc (suc (suc (suc zero))))))) h = refl
+filled (suc (suc (suc (suc (suc (suc (suc (suc zero)))))))) h = refl
+filled (suc (suc (suc (suc (suc (suc (suc (suc (suc n))))))))) h = absurd (omega arith)
 
 pub returns : goal.returns
 unfolding not_measured
-returns c = rw (← ended _ c.loop-t.invariant.1 (search rules), c.no_deltas-deltas.ensures, c.measured_number.ensures, c.issue_bit.ensures)
+returns c =
+    let n = length-take-le c.args.tones (replicate 8 zero32) c.requires in
+    rw (filled c.args.tones c.requires, c.fill.ensures.after (λ y e. e), n, c.narrow.ensures, c.no_deltas.ensures, c.from.ensures)

@@ -1,10 +1,11 @@
--- What is left of the loop, from here, gives what the whole gives, and the index is a tone's.
-use Rattle.std.proofs.Common.{◌≡◌, ◌<◌}
+-- What is left of the loop, from here, gives what the whole gives, and the top is one of the tones.
+use Rattle.std.proofs.Common.{◌≡◌, ◌<◌, IfSome}
 use Rattle.tonekit_core.specs.Loop.{range}
 use Rattle.tonekit_judge.specs.Judge.{rank_turn, ranking_of}
-use Rattle.tonekit_judge.specs.Terms.{ranking_with}
 use Rattle.tonekit_judge.proofs.ranking_of.Given as goal
 
 abbrev pub invariant-loop-t : goal.invariant-loop-t
-invariant-loop-t l =
-    (range (rank_turn l.priors l.ll) l.t l.tones (ranking_with l.background l.top) ≡ ranking_of l.tones l.priors l.ll) × (l.top.index < 8)
+invariant-loop-t l = record {
+  left : range (rank_turn l.inventory l.ll) l.t l.inventory.tones l.r ≡ ranking_of l.inventory l.ll;
+  below : IfSome l.r.top (λ top. top.index < 8);
+}

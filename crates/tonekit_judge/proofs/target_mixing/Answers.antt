@@ -1,31 +1,25 @@
--- `target_mixing` meets its contract: what is left of the loop, from here, gives what the whole gives.
-use mathlib.Core.Path.{sym}
-use borrow.Author.Rules.{rules}
-use Prim.Native.Nat.{◌<◌}
-use native.Mathlib.Omega.{arith}
+-- `target_mixing` meets its contract: a turn of the loop is a turn of the mixture.
+use Rattle.std.proofs.Common.{rules, arith, length, ◌≡◌, ◌<◌, sym}
+use Rattle.std.proofs.lemmas.List.{length-take, get_or-take}
 use Rattle.tonekit_core.specs.Loop.{again, ended}
-use Rattle.tonekit_judge.specs.Judge.{target_mixing}
+use Rattle.tonekit_judge.specs.Judge.{no_target, target_mixing}
 use Rattle.tonekit_judge.proofs.target_mixing.Goals as goal
+use Rattle.tonekit_judge.proofs.target_mixing.Goals.{Start}
 
-pub loop-k-preserved : goal.loop-k-preserved
-loop-k-preserved c = (
-  search rules,
-  c.part_mixing-m.ensures.1,
-  again _ c.loop-k.invariant.2 (search rules) (rw (← c.wide-t.ensures) (sym c.part_mixing-m.ensures.0)),
-)
+-- the array's length
+five : (c : Start) → length c.args.g.now.list ≡ 5
+five c = search rules
+
+pub loop-target-preserved : goal.loop-target-preserved
+loop-target-preserved c =
+    let g = c.args.g.now in
+    let l = c.loop-target in
+    let h : l.target-index < g.count = omega (arith, simp length-take at c.loop-target-test.true) in
+    let e = get_or-take g.count g.list l.target-index no_target h in
+    again _ l.invariant h (rw (← e, ← c.from-t.ensures) (sym c.part_mixing-m.ensures))
 
 pub returns : goal.returns
 unfolding target_mixing
-returns c = (ended _ c.loop-k.invariant.2 (search rules), search rules)
-
-pub loop-k-init : goal.loop-k-init
-loop-k-init c = (search rules, rw c.no_mixing-m.ensures (search rules), rw c.no_mixing-m.ensures)
-
-pub bounds-counts-t : goal.bounds-counts-t
-bounds-counts-t c =
-    omega (arith, c.requires.0.few, c.requires.2.each _ c.loop-k-test.true)
-
-pub part_mixing-m-requires : goal.part_mixing-m-requires
-part_mixing-m-requires c =
-    let t : c.wide-t.result < c.args.tones = omega (arith, c.requires.2.each _ c.loop-k-test.true) in
-    (omega (arith, c.requires.0.few), c.requires.0.each _ t, c.requires.1, c.loop-k.invariant.1)
+returns c =
+    let n = five (goal.at.returns c).Start in
+    ended _ c.loop-target.invariant (omega (arith, n, c.requires.1.few, simp length-take at c.loop-target-test.false))

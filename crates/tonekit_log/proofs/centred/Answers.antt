@@ -1,4 +1,4 @@
--- `tonekit_log::centred` meets its contract. Assumes nothing.
+-- `centred` meets its contract.
 use Rattle.tonekit_log.specs.Log.{centred}
 use Rattle.tonekit_log.proofs.centred.Goals as goal
 

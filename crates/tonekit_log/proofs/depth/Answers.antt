@@ -1,5 +1,5 @@
--- `tonekit_log::depth` meets its contract. Assumes nothing.
-use Rattle.std.proofs.Common.{arith, rules}
+-- `depth` meets its contract.
+use Rattle.std.proofs.Common.{arith}
 use Rattle.tonekit_log.proofs.Floor.{Deep, deep, asks, cut_le, answer_up, answer_same}
 use Rattle.tonekit_log.proofs.depth.Goals as goal
 use Rattle.tonekit_log.proofs.depth.Goals.{Start}
@@ -11,9 +11,6 @@ pub truncating_f64_to_u64-u-requires : goal.truncating_f64_to_u64-u-requires
 truncating_f64_to_u64-u-requires c =
     let both = asks c.args.t (known (goal.at.truncating_f64_to_u64-u-requires c).Start) in
     record { lower_bound = both.0; upper_bound = both.1 }
-
-pub nearest_u64_to_f64-requires : goal.nearest_u64_to_f64-requires
-nearest_u64_to_f64-requires c = search rules
 
 pub overflow_add-result : goal.overflow_add-result
 overflow_add-result c =

@@ -1,4 +1,4 @@
--- `tonekit_log::exp_series` meets its contract: its thirteen lines are the definition's thirteen steps. Assumes nothing.
+-- `exp_series` meets its contract: its thirteen lines are the definition's thirteen steps.
 use Rattle.std.proofs.Common.{refl}
 use lib.Ieee.{of_bits, of_int}
 use Rattle.tonekit_log.specs.Exp.{exp_series, steps}

@@ -1,4 +1,4 @@
--- `tonekit_log::log_series` meets its contract: its eleven lines are the definition's eleven steps. Assumes nothing.
+-- `log_series` meets its contract: its eleven lines are the definition's eleven steps.
 use Rattle.std.proofs.Common.{refl}
 use lib.Ieee.{of_bits, of_int}
 use Rattle.tonekit_log.specs.Log.{series, steps}

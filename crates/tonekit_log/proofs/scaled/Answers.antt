@@ -1,4 +1,4 @@
--- `tonekit_log::scaled` meets its contract. Assumes nothing.
+-- `scaled` meets its contract.
 use lib.Ieee.{of_bits, of_int}
 use Rattle.tonekit_log.specs.Log.{scaled}
 use Rattle.tonekit_log.proofs.LogCases.{scaled_number}
@@ -7,9 +7,6 @@ use Rattle.tonekit_log.proofs.scaled.Goals as goal
 pub fields-p-requires : goal.fields-p-requires
 unfolding of_bits
 fields-p-requires c = (scaled_number c.args.x c.requires.low c.requires.high).1
-
-pub fields-requires : goal.fields-requires
-fields-requires c = (scaled_number c.args.x c.requires.low c.requires.high).0
 
 pub returns-then-x : goal.returns-then-x
 unfolding scaled of_int of_bits

@@ -1,6 +1,5 @@
 -- `check_output` meets its contract, word by word. Assumes nothing.
-use mathlib.Core.Path.{◌∙◌, sym}
-use borrow.Author.Rules.{rules}
+use Rattle.std.proofs.Common.{◌∙◌, sym, rules}
 use Rattle.tonekit_core.proofs.Split.{absurd_bool}
 use Rattle.tonekit_output.proofs.Words.{said, by_pack, by_query, by_sheet, by_none}
 use Rattle.tonekit_output.proofs.check_output.Goals as goal

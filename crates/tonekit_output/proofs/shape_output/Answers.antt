@@ -1,7 +1,5 @@
 -- `shape_output` meets its contract. Assumes nothing.
-use mathlib.Core.Path.{◌≡◌}
-use lib.ListN.{length}
-use borrow.Author.Rules.{rules}
+use Rattle.std.proofs.Common.{◌≡◌, length, rules}
 use Rattle.tonekit_core.specs.Layout.{shape_size}
 use Rattle.tonekit_report.proofs.Told.{tells}
 use Rattle.tonekit_output.proofs.Fits.{shape_fits}

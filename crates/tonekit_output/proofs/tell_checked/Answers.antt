@@ -1,7 +1,5 @@
 -- `tell_checked` meets its contract. Assumes nothing.
-use mathlib.Core.Path.{◌≡◌, refl}
-use lib.ListN.{length}
-use borrow.Author.Rules.{rules}
+use Rattle.std.proofs.Common.{◌≡◌, refl, length, rules}
 use Rattle.tonekit_core.specs.Calls.{refused}
 use Rattle.tonekit_core.specs.Layout.{refusal_size}
 use Rattle.tonekit_core.proofs.Calls.{delivers_refused}
@@ -9,15 +7,15 @@ use Rattle.tonekit_report.proofs.Told.{tells}
 use Rattle.tonekit_output.specs.Check.{check_outcome}
 use Rattle.tonekit_output.proofs.tell_checked.Goals as goal
 
-pub returns-in-Loads : goal.returns-in-Loads
+pub returns-in-Ok : goal.returns-in-Ok
 unfolding check_outcome
-returns-in-Loads c = rw c.in-Loads.is (record { count = refl; buffer = refl; same = refl })
+returns-in-Ok c = rw c.in-Ok.is (record { count = refl; buffer = refl; same = refl })
 
-pub returns-in-Refused : goal.returns-in-Refused
+pub returns-in-Err : goal.returns-in-Err
 unfolding check_outcome
-returns-in-Refused c =
+returns-in-Err c =
     let held = c.args.out.now in
     let room : length held ≡ refusal_size = search rules in
-    rw c.in-Refused.is
+    rw c.in-Err.is
     (tells refusal_size (refused _ _) held held _ _ _ room (search rules) tt (delivers_refused held _ _ (refused _ _) refl) c.tell.ensures.0
     c.tell.ensures.1)

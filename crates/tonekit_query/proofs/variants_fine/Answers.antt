@@ -1,8 +1,4 @@
-use Prim.Native.Nat.{ℕ, zero, suc, ◌+◌, ◌-◌}
-use mathlib.Core.Path.{◌≡◌, refl, sym, ◌∙◌}
-use mathlib.Core.Bool.{false}
-use mathlib.Core.List.{List}
-use borrow.Author.Rules.{rules}
+use Rattle.std.proofs.Common.{ℕ, zero, suc, ◌+◌, ◌-◌, ◌≡◌, refl, sym, ◌∙◌, false, List, rules}
 use Rattle.tonekit_core.specs.Loop.{range, turns, again, ended}
 use Rattle.tonekit_query.specs.Query.{variant_turn, variants_fine}
 use Rattle.tonekit_query.proofs.variants_fine.Goals as goal
@@ -19,17 +15,17 @@ lost s i hi = lost_on s (hi - i) i
 
 pub loop-i-init : goal.loop-i-init
 unfolding variants_fine
-loop-i-init c = (search rules, refl)
+loop-i-init c = refl
 
 pub returns-then-not-variant_fine : goal.returns-then-not-variant_fine
 returns-then-not-variant_fine c =
     let s = c.args.query.now in
-    sym (lost s (c.loop-i.i + 1) 4) ∙ again (variant_turn s) {t = false} c.loop-i.invariant.1 (search rules) (sym c.variant_fine.ensures ∙ c.if-not-variant_fine.true)
+    sym (lost s (c.loop-i.i + 1) 4) ∙ again (variant_turn s) {t = false} c.loop-i.invariant (search rules) (sym c.variant_fine.ensures ∙ c.if-not-variant_fine.true)
 
 pub loop-i-preserved : goal.loop-i-preserved
 loop-i-preserved c =
     let s = c.args.query.now in
-    (search rules, again (variant_turn s) c.loop-i.invariant.1 (search rules) (sym c.variant_fine.ensures ∙ c.if-not-variant_fine.false))
+    again (variant_turn s) c.loop-i.invariant (search rules) (sym c.variant_fine.ensures ∙ c.if-not-variant_fine.false)
 
 pub returns : goal.returns
-returns c = ended (variant_turn c.args.query.now) c.loop-i.invariant.1 (search rules)
+returns c = ended (variant_turn c.args.query.now) c.loop-i.invariant (search rules)

@@ -1,12 +1,7 @@
-use Prim.Native.Nat.{◌-◌, ◌≤◌}
-use mathlib.Core.Path.{◌≡◌}
-use mathlib.Core.Bool.{true}
+use Rattle.std.proofs.Common.{◌≡◌, true}
 use Rattle.tonekit_core.specs.Loop.{range}
 use Rattle.tonekit_query.specs.Query.{variant_turn, variants_fine}
 use Rattle.tonekit_query.proofs.variants_fine.Given as goal
 
 abbrev pub invariant-loop-i : goal.invariant-loop-i
-invariant-loop-i l = (l.i ≤ 4) × (range (variant_turn l.query) l.i 4 true ≡ variants_fine l.query)
-
-abbrev pub decreases-loop-i : goal.decreases-loop-i
-decreases-loop-i l = 4 - l.i
+invariant-loop-i l = range (variant_turn l.query) l.i 4 true ≡ variants_fine l.query

@@ -1,11 +1,6 @@
--- `tonekit_root::root_above` meets its contract. Assumes nothing.
-use Prim.Native.Nat.{ℕ, suc, ◌+◌, ◌-◌, ◌*◌, ◌/◌, ◌%◌, ◌^◌, ◌<◌}
-use mathlib.Core.Path.{◌≡◌, sym, ◌∙◌, ap, subst}
-use native.Mathlib.Omega.{arith}
-use native.Mathlib.Nat.{add_comm}
-use borrow.Author.Rules.{rules}
-use lib.Dec.{T}
-use lib.Ieee.{binary64, fits, to_bits}
+-- `root_above` meets its contract.
+use Rattle.std.proofs.Common.{ℕ, suc, ◌+◌, ◌-◌, ◌*◌, ◌/◌, ◌%◌, ◌^◌, ◌<◌, ◌≡◌, sym, ◌∙◌, ap, subst, arith, add_comm, T, to_bits}
+use lib.Ieee.{binary64, fits}
 use Rattle.tonekit_root.proofs.Exact.{root_normal, root_subnormal, even_power, odd_power}
 use Rattle.tonekit_root.proofs.Cases.{Above, above, at_subnormal, at_normal, near_pos}
 use Rattle.tonekit_float.proofs.Patterns.{units_in}
@@ -26,35 +21,10 @@ normal c h =
     next : (n : ℕ) → (n ≡ 0 → ⊥) → n ≡ suc (n - 1)
     next n h = omega arith
 
-pub float_to_bits-b : goal.float_to_bits-b
-float_to_bits-b c = (known (goal.at.float_to_bits-b c).Start).number
-
 pub raised-s-requires : goal.raised-s-requires
 raised-s-requires c =
     let k = known (goal.at.raised-s-requires c).Start in
     (subst (λ (n : ℕ). 0 < n) (at_subnormal c.args.x k c.if-field-eq0.true) k.some, omega arith)
-
-pub digits_root-requires : goal.digits_root-requires
-digits_root-requires c = search rules
-
-pub overflow_sub-s : goal.overflow_sub-s
-overflow_sub-s c = search rules
-
-pub times-requires : goal.times-requires
-times-requires c =
-    let d = c.digits_root in
-    let r = c.raised-s in
-    let e = r.ensures in
-    (near_pos (r.result.a * 2 ^ 52) d.result (omega arith) d.ensures.0, d.ensures.1, omega arith, omega arith)
-
-pub overflow_sub-g : goal.overflow_sub-g
-overflow_sub-g c = search rules
-
-pub overflow_add-d : goal.overflow_add-d
-overflow_add-d c = search rules
-
-pub digits_root-requires-then-g-eq0 : goal.digits_root-requires-then-g-eq0
-digits_root-requires-then-g-eq0 c = search rules
 
 pub overflow_add-g : goal.overflow_add-g
 overflow_add-g c = let k = known (goal.at.overflow_add-g c).Start in omega (arith, k.field)
@@ -66,12 +36,6 @@ times-requires-then-g-eq0 c =
     let k = known (goal.at.times-requires-then-g-eq0 c).Start in
     let f = k.field in
     (near_pos ((to_bits binary64 x % 2 ^ 52 + 2 ^ 52) * 2 ^ 52) d.result (omega arith) d.ensures.0, d.ensures.1, omega arith, omega arith)
-
-pub overflow_mul-d : goal.overflow_mul-d
-overflow_mul-d c = search rules
-
-pub digits_root-requires-else-g-eq0 : goal.digits_root-requires-else-g-eq0
-digits_root-requires-else-g-eq0 c = search rules
 
 pub overflow_add-g-else-g-eq0 : goal.overflow_add-g-else-g-eq0
 overflow_add-g-else-g-eq0 c = let k = known (goal.at.overflow_add-g-else-g-eq0 c).Start in omega (arith, k.field)

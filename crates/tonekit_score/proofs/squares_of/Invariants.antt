@@ -1,8 +1,9 @@
-use mathlib.Core.Path.{◌≡◌}
+-- What is left of the loop, from here, gives what the whole gives.
+use Rattle.std.proofs.Common.{◌≡◌}
 use Rattle.tonekit_core.specs.Loop.{range}
 use Rattle.tonekit_score.specs.Score.{zero64, square_turn}
 use Rattle.tonekit_score.proofs.squares_of.Given as goal
 
 abbrev pub invariant-loop-k : goal.invariant-loop-k
 invariant-loop-k l =
-    range (square_turn l.contour l.weights l.r l.points l.slot) l.k 10 l.q ≡ range (square_turn l.contour l.weights l.r l.points l.slot) 0 10 (record { weighted = zero64; total = zero64 })
+    range (square_turn l.contour l.weights l.region l.points l.slot) l.k 10 l.q ≡ range (square_turn l.contour l.weights l.region l.points l.slot) 0 10 (record { weighted = zero64; total = zero64 })

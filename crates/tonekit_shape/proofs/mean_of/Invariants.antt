@@ -1,7 +1,7 @@
-use mathlib.Core.Path.{◌≡◌}
+use Rattle.std.proofs.Common.{◌≡◌}
 use Rattle.tonekit_core.specs.Loop.{range}
 use Rattle.tonekit_shape.specs.Extract.{zero32, add_turn}
 use Rattle.tonekit_shape.proofs.mean_of.Given as goal
 
-abbrev pub invariant-loop-k : goal.invariant-loop-k
-invariant-loop-k l = range (add_turn l.contour) l.k 10 l.sum ≡ range (add_turn l.contour) 0 10 zero32
+abbrev pub invariant-loop-x : goal.invariant-loop-x
+invariant-loop-x l = range (add_turn l.contour) l.x-index 10 l.sum ≡ range (add_turn l.contour) 0 10 zero32

@@ -1,3 +1,4 @@
+use Rattle.std.proofs.Common.{rules}
 use Rattle.tonekit_shape.proofs.Built.{built}
 use Rattle.tonekit_shape.proofs.measured.Goals as goal
 
@@ -14,8 +15,7 @@ returns c =
     c.quadratic_coefficient-curvature.ensures
     c.narrow-2.ensures
     c.turn_of-turn.ensures.0
-    c.turns_of.ensures
-    c.turning_of.ensures
+    (search rules)
     c.range_of.ensures
     c.span_frames-span.ensures
     c.f32_of.ensures

@@ -1,5 +1,4 @@
-use mathlib.Core.Path.{◌≡◌}
-use Prim.Native.Nat.{◌≤◌, ◌<◌}
+use Rattle.std.proofs.Common.{◌≡◌, min}
 use Rattle.tonekit_core.specs.Loop.{range}
 use Rattle.tonekit_shape.specs.Extract.{extent_turn, extent_of}
 use Rattle.tonekit_shape.proofs.Found.{Found}
@@ -7,4 +6,4 @@ use Rattle.tonekit_shape.proofs.voiced_frames.Given as goal
 
 abbrev pub invariant-loop-i : goal.invariant-loop-i
 invariant-loop-i l =
-    (l.i-end ≤ l.count) × (l.i-end < 65536) × Found l.count l.i l.e × (range (extent_turn l.frames) l.i l.i-end l.e ≡ extent_of l.frames l.count l.start l.end)
+    Found l.fn.q.count l.i l.e × (range (extent_turn l.frames) l.i (min l.fn.q.end l.fn.q.count) l.e ≡ extent_of l.frames l.fn.q.count l.fn.q.start l.fn.q.end)

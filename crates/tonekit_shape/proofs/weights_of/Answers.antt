@@ -1,13 +1,6 @@
-use mathlib.Core.Path.{refl}
-use borrow.Author.Rules.{rules}
-use Rattle.tonekit_shape.proofs.Fill.{listed_none, listed_more, listed_all}
+use Rattle.std.proofs.Common.{rules}
+use Rattle.tonekit_window.specs.Window.{weight_at}
 use Rattle.tonekit_shape.proofs.weights_of.Goals as goal
 
-pub loop-k-init : goal.loop-k-init
-loop-k-init c = (search rules, refl, refl, listed_none _ _)
-
-pub loop-k-preserved : goal.loop-k-preserved
-loop-k-preserved c = let l = c.loop-k in (search rules, l.invariant.1, search rules, listed_more _ _ _ _ _ (search rules) l.invariant.3 c.weight_at.ensures)
-
 pub returns : goal.returns
-returns c = let l = c.loop-k in listed_all _ _ _ _ _ (search rules) (search rules) l.invariant.3
+returns c = let v = c.args.frames in c.ten.ensures (weight_at v.bytes.now v.first c.args.n) (λ k x h p. search rules)

@@ -1,6 +1,5 @@
 -- `accent_index` meets its contract: the accents stand behind the tones.
-use mathlib.Core.Path.{◌∙◌, ap}
-use Prim.Native.Nat.{ℕ}
+use Rattle.std.proofs.Common.{◌∙◌, ap, ℕ}
 use Rattle.tonekit_core.specs.Layout.{sheet_accent_size}
 use Rattle.tonekit_expect.specs.Lookup.{index_of}
 use Rattle.tonekit_sheet_read.specs.Held.{stepped}

@@ -1,9 +1,5 @@
 -- `index_from` meets its contract: from each record on, the search gives what it gives of all. Assumes nothing.
-use mathlib.Core.Path.{◌≡◌, refl}
-use native.Mathlib.Omega.{arith}
-use Prim.Native.Nat.{◌+◌, ◌*◌}
-use borrow.Author.Tests.{eq-eqb, ne_eqb}
-use lib.ListN.{get_or}
+use Rattle.std.proofs.Common.{◌≡◌, refl, arith, ◌+◌, ◌*◌, eq-eqb, ne_eqb, get_or}
 use Rattle.tonekit_core.specs.Loop.{to_again, to_stop, to_ended}
 use Rattle.tonekit_expect.specs.Lookup.{index_of}
 use Rattle.tonekit_sheet_read.specs.Held.{stepped}

@@ -1,13 +1,11 @@
-use mathlib.Core.Path.{◌≡◌}
-use Prim.Native.Nat.{◌≤◌}
-use lib.ListN.{length}
+use Rattle.std.proofs.Common.{◌≡◌, ◌≤◌, length}
 use Rattle.tonekit_core.specs.Loop.{range_to}
 use Rattle.tonekit_expect.specs.Lookup.{index_turn, index_of}
-use Rattle.tonekit_expect.specs.declared.Found.TheVariants as found
+use Rattle.std.specs.Prelude.{None}
 use Rattle.tonekit_sheet_read.specs.Held.{stepped}
 use Rattle.tonekit_sheet_inventory.proofs.index_from.Given as goal
 
 abbrev pub invariant-loop-i : goal.invariant-loop-i
 invariant-loop-i l =
     let os = stepped l.o l.step l.count in
-    (l.i ≤ l.count) × (range_to (index_turn l.s os l.n) (λ u. found.Nothing) l.i (length os) 0 ≡ index_of l.s os l.n)
+    (l.i ≤ l.count) × (range_to (index_turn l.s os l.n) (λ u. None) l.i (length os) 0 ≡ index_of l.s os l.n)

@@ -1,6 +1,5 @@
 -- `list_number` meets its contract, at a phrase's end and not.
-use mathlib.Core.Path.{◌∙◌}
-use borrow.Author.Tests.{eq-eqb, ne_eqb}
+use Rattle.std.proofs.Common.{◌∙◌, eq-eqb, ne_eqb}
 use Rattle.tonekit_sheet_read.proofs.Stepped.{stepped_length}
 use Rattle.tonekit_sheet_inventory.proofs.list_number.Goals as goal
 

@@ -1,11 +1,5 @@
 -- `list_place` meets its contract: no list, or the one at that place, whose offset is held as a u16.
-use mathlib.Core.Path.{◌≡◌}
-use borrow.Author.Rules.{rules}
-use native.Mathlib.Omega.{arith}
-use Prim.Native.Nat.{◌-◌}
-use mir.Syntax.{w16}
-use mir.Val.{Fits}
-use lib.ListN.{get_or}
+use Rattle.std.proofs.Common.{◌≡◌, rules, arith, ◌-◌, w16, Fits, get_or}
 use Rattle.tonekit_sheet_inventory.proofs.Lookup.{not_there, place_is}
 use Rattle.tonekit_sheet_inventory.proofs.list_place.Goals as goal
 use Rattle.tonekit_sheet_inventory.proofs.list_place.Goals.{Else-number-eq0}
@@ -19,6 +13,6 @@ near c = search rules
 pub returns : goal.returns
 returns c =
     record {
-      is = place_is c.args.st c.args.number c.if-number-eq0.false c.requires.1;
-      near = λ o q. let e : get_or c.args.st.listat (c.args.number - 1) 0 ≡ o = cc in omega (arith, (near c).fits);
+      is = rw (c.from-2.ensures, c.from.ensures) (place_is c.args.st c.args.number c.if-number-eq0.false c.requires);
+      near = λ o q. let e : get_or c.args.st.listat (c.args.number - 1) 0 ≡ o = cc in omega (arith, (near (goal.at.returns c).Else-number-eq0).fits);
     }

@@ -1,5 +1,5 @@
 -- `row_place` meets its contract: the sum, and its bound.
-use native.Mathlib.Omega.{arith}
+use Rattle.std.proofs.Common.{arith}
 use Rattle.tonekit_sheet_read.proofs.Stepped.{stepped_length}
 use Rattle.tonekit_sheet_inventory.proofs.Rows.{row_few, tones_few}
 use Rattle.tonekit_sheet_inventory.proofs.row_place.Goals as goal

@@ -1,10 +1,4 @@
-use borrow.Author.Rules.{rules}
-use Prim.Native.Nat.{ℕ, ◌<◌}
-use mathlib.Core.Path.{sym, ◌∙◌, ap}
-use lib.Dec.{lit<}
-use lib.ListN.{get_or}
-use mir.Syntax.{w16}
-use mir.Val.{Fits}
+use Rattle.std.proofs.Common.{rules, ℕ, ◌<◌, sym, ◌∙◌, ap, lit<, get_or, w16, Fits}
 use Rattle.tonekit_pack.specs.Held.{shown}
 use Rattle.tonekit_expect.specs.Lookup.{look_up}
 use Rattle.tonekit_expect.specs.Source.{given}
@@ -16,7 +10,7 @@ use Rattle.tonekit_sheet_plan.proofs.look_row.Goals.{Start}
 
 pub row_context-requires : goal.row_context-requires
 row_context-requires c =
-    (c.requires.roomy, some_tone c.args.s.now c.args.p c.requires.reads, c.requires.ordered.slots)
+    some_tone c.args.s.now c.args.p c.requires.reads
 
 -- an offset is held as a u16
 near-rule : (c : Start) (k : ℕ) → Fits w16 (get_or c.args.p.ruleat k 0)

@@ -1,20 +1,16 @@
-use mathlib.Core.Path.{sym}
+use Rattle.std.proofs.Common.{sym}
+use Rattle.std.proofs.lemmas.Result.{err_from_is_err_and}
 use Rattle.tonekit_core.proofs.Calls.{delivers_refused}
 use Rattle.tonekit_sheet_write.proofs.Answers.{reads, is-written, is_refused}
 use Rattle.tonekit_sheet_write.proofs.write_sheet.Goals as goal
 
 pub write_loaded-requires : goal.write_loaded-requires
-write_loaded-requires c =
-    let s = c.args.pack.now in
-    let g = c.in-Good.is in
-    (c.load_pack-l.ensures.1, reads s c.load_pack-l.result c.load_pack-l.ensures.0 _ g)
+write_loaded-requires c = reads c.args.pack.now c.load_pack.result c.load_pack.ensures _ c.in_ok-loaded.was
 
-pub returns-in-Good : goal.returns-in-Good
-returns-in-Good c =
-    let s = c.args.pack.now in
-    rw (← (is-written s c.load_pack-l.result c.load_pack-l.ensures.0 _ c.in-Good.is)) c.write_loaded.ensures
+pub returns : goal.returns
+returns c = rw (← (is-written c.args.pack.now c.load_pack.result c.load_pack.ensures _ c.in_ok-loaded.was)) c.write_loaded.ensures
 
-pub returns-in-Refused : goal.returns-in-Refused
-returns-in-Refused c =
-    let s = c.args.pack.now in
-    delivers_refused _ _ _ _ (sym (is_refused s c.load_pack-l.result c.load_pack-l.ensures.0 _ _ c.in-Refused.is))
+pub returns-in_err-loaded : goal.returns-in_err-loaded
+returns-in_err-loaded c =
+    let p = err_from_is_err_and c.from_residual.result c.from_residual.ensures.1 in
+    rw (p.1, p.2) (delivers_refused _ _ _ _ (sym (is_refused c.args.pack.now c.load_pack.result c.load_pack.ensures _ c.in_err-loaded.was)))

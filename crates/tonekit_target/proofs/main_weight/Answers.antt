@@ -1,8 +1,8 @@
 -- `main_weight` meets its contract: what is left of the loop, from here, gives what the whole gives.
-use mathlib.Core.Path.{refl, sym, ap}
-use borrow.Author.Rules.{rules}
+use Rattle.std.proofs.Common.{sym, ap, rules}
 use Rattle.tonekit_core.specs.Loop.{again, ended}
-use lib.Ieee.{binary32, sub, add}
+use Rattle.std.specs.Float.{binary32}
+use Rattle.std.specs.Float.Ieee.{sub, add}
 use Rattle.tonekit_target.specs.Target.{one32, main_weight}
 use Rattle.tonekit_target.proofs.main_weight.Goals as goal
 
@@ -16,4 +16,4 @@ unfolding main_weight
 returns c = ap (sub binary32 one32) (ended _ c.loop-i.invariant.2 (search rules))
 
 pub loop-i-init : goal.loop-i-init
-loop-i-init c = (refl, search rules, refl)
+loop-i-init c = (c.from-i-end.ensures, search rules, rw c.from-i-end.ensures)

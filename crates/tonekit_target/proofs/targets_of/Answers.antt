@@ -1,41 +1,30 @@
--- `targets_of` meets its contract: what is left of the loop, from here, gives what the whole gives.
-use mathlib.Core.Path.{◌≡◌, sym, ◌∙◌, ap}
-use borrow.Author.Rules.{rules}
-use Prim.Native.Nat.{ℕ, ◌<◌}
-use native.Mathlib.Omega.{arith}
-use Rattle.tonekit_core.specs.Loop.{next, to_again, to_stop, to_ended}
-use Rattle.tonekit_target.specs.Target.{targets_of}
-use Rattle.tonekit_target.proofs.Places.{place_found, partly_none, partly_more, partly_all}
+-- `targets_of` meets its contract: a turn of the loop is a turn of the search.
+use Rattle.std.proofs.Common.{rules, refl}
+use Rattle.tonekit_core.specs.Loop.{to_again, to_stop, to_ended}
+use Rattle.tonekit_target.specs.Target.{with_target, targets_of}
+use Rattle.tonekit_target.proofs.Places.{partly_none, partly_more, partly_all}
 use Rattle.tonekit_target.proofs.targets_of.Goals as goal
-use Rattle.tonekit_target.proofs.targets_of.Goals.{In-At}
-
-pub returns-in-Nothing : goal.returns-in-Nothing
-returns-in-Nothing c =
-    let l = c.loop-k in
-    (to_stop _ _ l.invariant.2 (search rules) (rw (← c.target_tone.ensures, ← c.place_of.ensures, c.in-Nothing.is)), λ q. let z : ◌≡◌ {A = ℕ} 0 1 = cc in absurd (omega arith))
-
--- a place that was found is one of the inventory's
-inside : (c : In-At) → c.in-At.t < c.args.tones
-inside c = place_found _ _ _ _ (sym c.place_of.ensures ∙ c.in-At.is)
-
-pub with_target-next-requires : goal.with_target-next-requires
-with_target-next-requires c = (search rules, omega (arith, inside (goal.at.with_target-next-requires c).In-At))
 
 pub loop-k-init : goal.loop-k-init
 unfolding targets_of
-loop-k-init c = (search rules, partly_none _ _, rw c.main_weight-main.ensures)
+loop-k-init c = rw (c.main_weight-main.ensures, c.from-count.ensures) (record { few = search rules; placed = partly_none _ _; left = refl })
+
+pub returns-in_err-place : goal.returns-in_err-place
+returns-in_err-place c =
+    rw c.from_residual.ensures
+    (to_stop _ _ c.loop-k.invariant.left (search rules) (rw (← c.target_tone.ensures, ← c.place_of.ensures.0, c.in_err-place.was)), tt)
 
 pub loop-k-preserved : goal.loop-k-preserved
+unfolding with_target
 loop-k-preserved c =
     let l = c.loop-k in
-    let h = c.loop-k-test.true in (
-      search rules,
-      rw c.with_target-next.ensures (partly_more _ _ _ _ _ _ l.invariant.1 (search rules) (inside (goal.at.loop-k-preserved c).In-At)),
-      to_again _ _ l.invariant.2 (search rules)
-          (rw (← c.target_tone.ensures, ← c.place_of.ensures, c.in-At.is) (ap next (rw (← c.target_weight.ensures) (sym c.with_target-next.ensures)))),
-    )
+    record {
+      few = search rules;
+      placed = partly_more _ _ _ _ _ _ l.invariant.placed (search rules) (rw c.in_ok-place.was at c.place_of.ensures.1);
+      left = to_again _ _ l.invariant.left (search rules) (rw (← c.target_tone.ensures, ← c.place_of.ensures.0, c.in_ok-place.was, ← c.target_weight.ensures));
+    }
 
 pub returns : goal.returns
 returns c =
     let l = c.loop-k.invariant in
-    (to_ended _ _ l.2 (search rules), λ q. partly_all _ _ _ _ (search rules) (search rules) l.1)
+    (to_ended _ _ l.left (search rules), partly_all _ _ _ _ (search rules) (search rules) l.placed)

@@ -1,6 +1,5 @@
 -- `weights_fine` meets its contract: what is left of the loop, from here, gives what the whole gives.
-use mathlib.Core.Path.{refl}
-use borrow.Author.Rules.{rules}
+use Rattle.std.proofs.Common.{rules}
 use Rattle.tonekit_core.specs.Loop.{again, ended}
 use Rattle.tonekit_target.specs.Target.{weights_fine}
 use Rattle.tonekit_target.proofs.weights_fine.Goals as goal
@@ -15,4 +14,4 @@ returns c = ended _ c.loop-i.invariant.2 (search rules)
 
 pub loop-i-init : goal.loop-i-init
 unfolding weights_fine
-loop-i-init c = (refl, search rules, refl)
+loop-i-init c = (c.from-i-end.ensures, search rules, rw c.from-i-end.ensures)

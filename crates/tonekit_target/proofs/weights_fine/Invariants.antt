@@ -1,5 +1,4 @@
-use mathlib.Core.Path.{◌≡◌}
-use Prim.Native.Nat.{◌≤◌}
+use Rattle.std.proofs.Common.{◌≡◌, ◌≤◌}
 use Rattle.tonekit_core.specs.Loop.{range}
 use Rattle.tonekit_target.specs.Target.{weight_turn, weights_fine}
 use Rattle.tonekit_target.proofs.weights_fine.Given as goal

@@ -4,4 +4,4 @@ use Rattle.tonekit_judge.proofs.record.put_delta.Goals as goal
 
 pub returns : goal.returns
 returns c =
-    delta_parts c.args.out.now c.args.at c.args.d c.kind_of.ensures c.put_u8.ensures c.put_f32.ensures
+    delta_parts c.args.out.now c.args.at c.args.d c.kind_of.ensures c.amount_of.ensures c.put_u8.ensures c.put_f32.ensures

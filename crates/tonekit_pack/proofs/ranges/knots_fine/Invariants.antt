@@ -1,8 +1,7 @@
-use mathlib.Core.Path.{◌≡◌}
-use Prim.Native.Nat.{◌≤◌}
+use Rattle.std.proofs.Common.{◌≡◌}
 use Rattle.tonekit_core.specs.Loop.{range}
 use Rattle.tonekit_pack.specs.Ranges.{slot_turn, knots_fine}
 use Rattle.tonekit_pack.proofs.ranges.knots_fine.Given as goal
 
 abbrev pub invariant-loop-k : goal.invariant-loop-k
-invariant-loop-k l = (l.k ≤ 10) × (range (slot_turn l.s l.o l.n) l.k 10 l.ok ≡ knots_fine l.s l.o l.n)
+invariant-loop-k l = range (slot_turn l.s l.o l.n) l.k 10 l.ok ≡ knots_fine l.s l.o l.n

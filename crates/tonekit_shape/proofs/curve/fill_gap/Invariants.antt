@@ -1,9 +1,7 @@
-use mathlib.Core.Path.{◌≡◌}
-use Prim.Native.Nat.{◌≤◌, ◌<◌}
-use lib.ListN.{length}
+use Rattle.std.proofs.Common.{◌≡◌}
 use Rattle.tonekit_core.specs.Loop.{range}
 use Rattle.tonekit_shape.specs.Extract.{fill_turn, gap_filled}
 use Rattle.tonekit_shape.proofs.curve.fill_gap.Given as goal
 
 abbrev pub invariant-loop-g : goal.invariant-loop-g
-invariant-loop-g l = (length l.curve ≡ length l.initial.curve) × (l.prev < l.g) × (l.g ≤ l.j) × (range (fill_turn l.prev l.j) l.g l.j l.curve ≡ gap_filled l.prev l.j l.initial.curve)
+invariant-loop-g l = range (fill_turn l.prev l.j) l.g l.j l.curve ≡ gap_filled l.prev l.j l.initial.curve

@@ -1,4 +1,4 @@
-use borrow.Author.Tests.{eq-eqb, ne_eqb}
+use Rattle.std.proofs.Common.{eq-eqb, ne_eqb}
 use lib.Ieee.{of_int, of_bits}
 use Rattle.tonekit_shape.specs.Extract.{mean_with}
 use Rattle.tonekit_shape.proofs.curve.mean_with.Goals as goal

@@ -1,6 +1,4 @@
-use mathlib.Core.Path.{◌≡◌}
-use Prim.Native.Nat.{◌-◌, ◌≤◌}
-use lib.ListN.{length, get_or}
+use Rattle.std.proofs.Common.{◌≡◌, ◌-◌, ◌≤◌, length, get_or}
 use lib.Ieee.{nan}
 use Rattle.tonekit_shape.specs.Extract.{smoothed_at}
 use Rattle.tonekit_shape.proofs.Fill.{Listed}

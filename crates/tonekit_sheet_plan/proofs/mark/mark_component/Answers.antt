@@ -1,8 +1,6 @@
 -- `mark_component` meets its contract: the weight, then the points, of the component read. Assumes nothing.
-use Prim.Native.Nat.{ℕ}
-use mathlib.Core.Path.{◌∙◌, ap}
-use mathlib.Core.List.{map}
-use lib.Ieee.{binary32, to_bits}
+use Rattle.std.proofs.Common.{ℕ, ◌∙◌, ap, map, to_bits}
+use lib.Ieee.{binary32}
 use Rattle.tonekit_core.specs.Loop.{fold}
 use Rattle.tonekit_sheet.specs.Marks.{mixed}
 use Rattle.tonekit_sheet_plan.proofs.Alike.{points_ten}
@@ -17,7 +15,7 @@ mark_points-requires c =
 pub returns : goal.returns
 returns c =
     let a = c.args in
-    let weighed = c.mix-weighed.ensures ∙ ap (mixed a.m) c.bits_of_f32.ensures in
+    let weighed = c.mix-weighed.ensures ∙ ap (mixed a.m) c.bits.ensures in
     c.mark_points.ensures
     ∙ ap (λ (x : ℕ). fold mixed x (map (to_bits binary32) c.component_at-c.result.points)) weighed
     ∙ component_is a.s.now a.l a.j a.m c.component_at-c.ensures.0

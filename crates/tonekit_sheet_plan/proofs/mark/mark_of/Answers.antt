@@ -1,6 +1,5 @@
 -- `mark_of` meets its contract: after j components, the mark is that of the first j. Assumes nothing.
-use borrow.Author.Rules.{rules}
-use native.Mathlib.Omega.{arith}
+use Rattle.std.proofs.Common.{rules, arith}
 use Rattle.tonekit_sheet_plan.proofs.Marks.{none_yet, one_more, mark_is}
 use Rattle.tonekit_sheet_plan.proofs.mark.mark_of.Goals as goal
 
@@ -19,4 +18,4 @@ loop-j-preserved c =
 pub returns : goal.returns
 returns c =
     let a = c.args in
-    (mark_is a.s.now a.l c.loop-j.j (omega arith) c.loop-j.invariant.2, omega arith)
+    mark_is a.s.now a.l c.loop-j.j (omega arith) c.loop-j.invariant.2

@@ -1,5 +1,4 @@
-use Prim.Native.Nat.{◌≤◌}
-use mathlib.Core.Path.{◌≡◌}
+use Rattle.std.proofs.Common.{◌≤◌, ◌≡◌}
 use Rattle.tonekit_sheet_plan.proofs.Marks.{after}
 use Rattle.tonekit_sheet_plan.proofs.mark.mark_of.Given as goal
 

@@ -1,4 +1,4 @@
-use mathlib.Core.Path.{sym, ◌∙◌}
+use Rattle.std.proofs.Common.{sym, ◌∙◌}
 use Rattle.tonekit_sheet_plan.proofs.Alike.{names_differ, weights_differ, weights_agree, points_ten}
 use Rattle.tonekit_sheet_plan.proofs.same.same_component.Goals as goal
 
@@ -7,11 +7,11 @@ returns-then-not-same_name c =
     let a = c.args in
     names_differ a.s.now a.a a.b a.j (sym c.same_name.ensures ∙ c.if-not-same_name.true)
 
-pub returns-then-bits_of_f32 : goal.returns-then-bits_of_f32
-returns-then-bits_of_f32 c =
+pub returns-then-bits : goal.returns-then-bits
+returns-then-bits c =
     let a = c.args in
     weights_differ a.s.now a.a a.b a.j c.component_at-x.ensures.0 c.component_at-y.ensures.0 (sym c.same_name.ensures ∙ c.if-not-same_name.false)
-    (λ e. c.if-bits_of_f32.true (c.bits_of_f32.ensures ∙ e ∙ sym c.bits_of_f32-2.ensures))
+    (λ e. c.if-bits.true (c.bits.ensures ∙ e ∙ sym c.bits-2.ensures))
 
 pub same_points-requires : goal.same_points-requires
 same_points-requires c =
@@ -23,4 +23,4 @@ returns c =
     let a = c.args in
     c.same_points.ensures
     ∙ weights_agree a.s.now a.a a.b a.j c.component_at-x.ensures.0 c.component_at-y.ensures.0 (sym c.same_name.ensures ∙ c.if-not-same_name.false)
-    (sym c.bits_of_f32.ensures ∙ c.if-bits_of_f32.false ∙ c.bits_of_f32-2.ensures)
+    (sym c.bits.ensures ∙ c.if-bits.false ∙ c.bits-2.ensures)

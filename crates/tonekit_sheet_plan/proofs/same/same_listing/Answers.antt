@@ -1,7 +1,4 @@
-use borrow.Author.Rules.{rules}
-use Prim.Native.Nat.{ℕ}
-use native.Mathlib.Omega.{arith}
-use mathlib.Core.Path.{◌≡◌, sym, ◌∙◌, ap}
+use Rattle.std.proofs.Common.{rules, ℕ, arith, ◌≡◌, sym, ◌∙◌, ap}
 use Rattle.tonekit_expect.specs.Source.{components}
 use Rattle.tonekit_sheet.specs.Number.{same}
 use Rattle.tonekit_sheet_plan.proofs.Alike.{same_first, counts_differ, first_none, first_on, first_off}

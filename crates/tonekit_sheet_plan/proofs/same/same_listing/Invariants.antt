@@ -1,6 +1,4 @@
-use Prim.Native.Nat.{◌≤◌}
-use mathlib.Core.Path.{◌≡◌}
-use mathlib.Core.Bool.{true}
+use Rattle.std.proofs.Common.{◌≤◌, ◌≡◌, true}
 use Rattle.tonekit_sheet_plan.proofs.Alike.{same_first}
 use Rattle.tonekit_sheet_plan.proofs.same.same_listing.Given as goal
 

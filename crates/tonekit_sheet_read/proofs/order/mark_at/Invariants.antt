@@ -1,5 +1,4 @@
-use mathlib.Core.Path.{◌≡◌}
-use Prim.Native.Nat.{◌≤◌}
+use Rattle.std.proofs.Common.{◌≡◌, ◌≤◌}
 use Rattle.tonekit_core.specs.Loop.{range}
 use Rattle.tonekit_sheet_read.specs.Marks.{mark_turn, mark_at}
 use Rattle.tonekit_sheet_read.proofs.order.mark_at.Given as goal

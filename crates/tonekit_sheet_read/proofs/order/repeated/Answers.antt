@@ -1,26 +1,11 @@
--- `repeated` meets its contract: from each list on, those left give what all give, and one that is equal decides. Assumes nothing.
-use mathlib.Core.Path.{refl}
-use native.Mathlib.Omega.{arith}
-use Rattle.tonekit_core.specs.Loop.{again, ended}
-use Rattle.tonekit_sheet.specs.Reader.{repeated}
+-- A list that is equal to an earlier one decides. Assumes nothing.
+use Rattle.std.proofs.Common.{refl, rules}
+use Rattle.std.proofs.lemmas.Slice.Zip.{zip_turn}
 use Rattle.tonekit_sheet_read.proofs.Loops.{settled}
 use Rattle.tonekit_sheet_read.proofs.order.repeated.Goals as goal
 
-pub loop-i-init : goal.loop-i-init
-unfolding repeated
-loop-i-init c = (omega arith, refl)
-
-pub same_marked-requires : goal.same_marked-requires
-same_marked-requires c =
-    (c.requires.2, rw c.wide.ensures (c.requires.1 c.loop-i.i c.loop-i-test.true))
-
-pub returns-then-same_marked : goal.returns-then-same_marked
-returns-then-same_marked c =
-    settled _ c.loop-i.invariant.1 c.loop-i-test.true (rw (← c.wide.ensures, ← c.same_marked.ensures) c.if-same_marked.true) (λ i. refl)
-
-pub loop-i-preserved : goal.loop-i-preserved
-loop-i-preserved c =
-    (omega arith, again _ c.loop-i.invariant.1 c.loop-i-test.true (rw (← c.wide.ensures, ← c.same_marked.ensures) c.if-same_marked.false))
-
-pub returns : goal.returns
-returns c = ended _ c.loop-i.invariant.1 c.loop-i-test.false
+pub returns-then-same_lists : goal.returns-then-same_lists
+returns-then-same_lists c =
+    let l = c.loop-other in
+    let t = zip_turn c.args.lists.now c.args.marks.now l.yielded c.into_iter-other-iterator.result l.other-iterator c.next.new.self _ (search rules) (search rules) l.yielded_by _ c.in-Some.is c.next.ensures.steps in
+    settled _ l.invariant t.0 (rw (← t.2 0, ← c.from.ensures, ← c.same_lists.ensures) c.if-same_lists.true) (λ i. refl)

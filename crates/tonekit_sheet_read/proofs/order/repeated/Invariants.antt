@@ -1,9 +1,7 @@
-use mathlib.Core.Path.{◌≡◌}
-use mathlib.Core.Bool.{false}
-use Prim.Native.Nat.{◌≤◌}
+use Rattle.std.proofs.Common.{◌≡◌, false, length}
 use Rattle.tonekit_core.specs.Loop.{range}
 use Rattle.tonekit_sheet.specs.Reader.{equal_turn, repeated}
 use Rattle.tonekit_sheet_read.proofs.order.repeated.Given as goal
 
-abbrev pub invariant-loop-i : goal.invariant-loop-i
-invariant-loop-i l = (l.i ≤ l.n) × (range (equal_turn l.s l.at l.o) l.i l.n false ≡ repeated l.s l.at l.n l.o)
+abbrev pub invariant-loop-other : goal.invariant-loop-other
+invariant-loop-other l = range (equal_turn l.s l.lists l.o) (length l.yielded) (length l.lists) false ≡ repeated l.s l.lists (length l.lists) l.o

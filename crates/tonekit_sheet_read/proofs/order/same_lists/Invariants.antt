@@ -1,5 +1,4 @@
-use mathlib.Core.Path.{◌≡◌}
-use mathlib.Core.Bool.{true}
+use Rattle.std.proofs.Common.{◌≡◌, true}
 use Rattle.tonekit_core.specs.Loop.{range}
 use Rattle.tonekit_sheet.specs.Reader.{same_turn, same_lists}
 use Rattle.tonekit_sheet_read.proofs.order.same_lists.Given as goal

@@ -1,6 +1,4 @@
-use mathlib.Core.Path.{◌≡◌}
-use mathlib.Core.Bool.{false}
-use Prim.Native.Nat.{◌≤◌}
+use Rattle.std.proofs.Common.{◌≡◌, false, ◌≤◌}
 use Rattle.tonekit_core.specs.Loop.{range}
 use Rattle.tonekit_sheet.specs.Reader.{names_turn}
 use Rattle.tonekit_sheet_read.specs.Held.{shown}

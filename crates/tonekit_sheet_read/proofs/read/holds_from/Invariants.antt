@@ -1,6 +1,4 @@
-use mathlib.Core.Path.{◌≡◌}
-use Prim.Native.Nat.{◌≤◌}
-use lib.ListN.{drop}
+use Rattle.std.proofs.Common.{◌≡◌, ◌≤◌, drop}
 use Rattle.tonekit_pack.specs.Pack.{holds}
 use Rattle.tonekit_sheet_read.specs.Held.{stepped}
 use Rattle.tonekit_sheet_read.proofs.read.holds_from.Given as goal

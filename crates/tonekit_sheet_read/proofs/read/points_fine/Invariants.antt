@@ -1,5 +1,4 @@
-use mathlib.Core.Path.{◌≡◌}
-use Prim.Native.Nat.{◌≤◌}
+use Rattle.std.proofs.Common.{◌≡◌, ◌≤◌}
 use Rattle.tonekit_core.specs.Loop.{range}
 use Rattle.tonekit_sheet.specs.Reader.{point_turn, points_fine}
 use Rattle.tonekit_sheet_read.proofs.read.points_fine.Given as goal

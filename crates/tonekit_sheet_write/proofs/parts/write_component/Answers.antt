@@ -1,4 +1,4 @@
-use native.Mathlib.Omega.{arith}
+use Rattle.std.proofs.Common.{arith}
 use Rattle.tonekit_sheet_write.proofs.Bytes.{wrote_part, wrote_as, component_is, component_size}
 use Rattle.tonekit_sheet_write.proofs.parts.write_component.Goals as goal
 

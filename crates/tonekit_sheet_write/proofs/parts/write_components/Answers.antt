@@ -1,6 +1,4 @@
-use borrow.Author.Rules.{rules}
-use Prim.Native.Nat.{◌<◌}
-use native.Mathlib.Omega.{arith}
+use Rattle.std.proofs.Common.{rules, ◌<◌, arith}
 use Rattle.tonekit_sheet.specs.Gather.{write_begun, write_room, write_next, write_ended}
 use Rattle.tonekit_sheet_write.proofs.Bytes.{component_length}
 use Rattle.tonekit_sheet_write.proofs.parts.write_components.Goals as goal

@@ -1,12 +1,11 @@
-use Prim.Native.Nat.{◌<◌}
-use native.Mathlib.Omega.{arith}
+use Rattle.std.proofs.Common.{◌<◌, arith}
 use Rattle.tonekit_sheet.specs.Gather.{write_begun, write_room, write_next, write_ended}
 use Rattle.tonekit_sheet.specs.Sheet.{row_count}
 use Rattle.tonekit_sheet_write.proofs.parts.write_rows.Goals as goal
 use Rattle.tonekit_sheet_write.proofs.parts.write_rows.Goals.{In-loop-i}
 
 pub row_count-i-end-requires : goal.row_count-i-end-requires
-row_count-i-end-requires c = let g = c.requires.0.pack in (g.ordered.slots.few, g.roomy.few_tones)
+row_count-i-end-requires c = (c.args.a.few, c.args.p.few_tones)
 
 pub loop-i-init : goal.loop-i-init
 loop-i-init c = (c.row_count-i-end.ensures.0, write_begun _ _ _ _ _ (omega arith))

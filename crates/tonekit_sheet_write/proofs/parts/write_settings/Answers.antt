@@ -1,4 +1,4 @@
-use mathlib.Core.Path.{refl}
+use Rattle.std.proofs.Common.{refl}
 use Rattle.tonekit_sheet_write.proofs.Bytes.{wrote_part}
 use Rattle.tonekit_sheet_write.proofs.parts.write_settings.Goals as goal
 

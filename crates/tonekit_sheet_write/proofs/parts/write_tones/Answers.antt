@@ -1,30 +1,40 @@
-use borrow.Author.Rules.{rules}
-use Prim.Native.Nat.{◌<◌}
-use native.Mathlib.Omega.{arith}
-use mathlib.Core.Path.{sym}
+use Rattle.std.proofs.Common.{arith, ◌<◌, ◌≤◌, sym, ◌∙◌, ap, length}
+use Rattle.std.proofs.lemmas.List.{length-take-le, get_or-take}
 use Rattle.tonekit_sheet.specs.Gather.{write_begun, write_room, write_next, write_ended}
+use Rattle.tonekit_expect.specs.Source.{tone_at}
+use Rattle.tonekit_sheet.specs.Sheet.{tone_bytes}
 use Rattle.tonekit_sheet_write.proofs.Bytes.{tone_piece_lem, wrote_as}
 use Rattle.tonekit_sheet_write.proofs.parts.write_tones.Goals as goal
-use Rattle.tonekit_sheet_write.proofs.parts.write_tones.Goals.{In-loop-i}
+use Rattle.tonekit_sheet_write.proofs.parts.write_tones.Goals.{In-loop-tone}
 
-pub loop-i-init : goal.loop-i-init
-loop-i-init c = (search rules, write_begun _ _ _ _ _ (omega arith))
+pub loop-tone-init : goal.loop-tone-init
+loop-tone-init c = write_begun _ _ _ _ _ (omega arith)
 
 -- one of the pack's tones
-inside : (c : In-loop-i) → c.loop-i.i < c.args.p.tones
-inside c = omega (arith, c.loop-i.invariant.0, c.loop-i-test.true)
+inside : (c : In-loop-tone) → c.loop-tone.tone-index < c.args.p.tones
+inside c =
+    let p = c.args.p in
+    let few : p.tones ≤ length p.toneat = omega (arith, p.few_tones, p.tone_slots) in
+    omega (arith, length-take-le p.tones p.toneat few)
 
 pub write_tone-o-requires : goal.write_tone-o-requires
 write_tone-o-requires c =
-    omega (arith, write_room _ c.loop-i.invariant.1 (inside (goal.at.write_tone-o-requires c).In-loop-i) c.requires.1)
+    omega (arith, write_room _ c.loop-tone.invariant (inside (goal.at.write_tone-o-requires c).In-loop-tone) c.requires)
 
-pub loop-i-preserved : goal.loop-i-preserved
-loop-i-preserved c =
-    let a = c.args in
-    (c.loop-i.invariant.0, write_next _ c.loop-i.invariant.1 (inside (goal.at.loop-i-preserved c).In-loop-i) (wrote_as (sym (tone_piece_lem a.s.now a.p c.loop-i.i (inside (goal.at.loop-i-preserved c).In-loop-i))) c.write_tone-o.ensures))
+pub loop-tone-preserved : goal.loop-tone-preserved
+loop-tone-preserved c =
+    let s = c.args.s.now in
+    let p = c.args.p in
+    let i = c.loop-tone.tone-index in
+    let h = inside (goal.at.loop-tone-preserved c).In-loop-tone in
+    let piece = ap (λ o. tone_bytes (tone_at s o)) (c.from.ensures ∙ get_or-take p.tones p.toneat i 0 h) ∙ sym (tone_piece_lem s p i h) in
+    write_next _ c.loop-tone.invariant h (wrote_as piece c.write_tone-o.ensures)
 
 pub shape_of-out : goal.shape_of-out
-shape_of-out c = c.loop-i.invariant.1.size
+shape_of-out c = c.loop-tone.invariant.size
 
 pub returns : goal.returns
-returns c = write_ended _ c.loop-i.invariant.1 (omega (arith, c.loop-i.invariant.0, c.loop-i-test.false))
+returns c =
+    let p = c.args.p in
+    let few : p.tones ≤ length p.toneat = omega (arith, p.few_tones, p.tone_slots) in
+    write_ended _ c.loop-tone.invariant (omega (arith, c.loop-tone-test.false, length-take-le p.tones p.toneat few))

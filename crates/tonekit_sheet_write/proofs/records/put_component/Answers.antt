@@ -1,7 +1,4 @@
-use borrow.Author.Rules.{rules}
-use native.Mathlib.Omega.{arith}
-use mathlib.Core.Path.{◌≡◌}
-use lib.ListN.{length}
+use Rattle.std.proofs.Common.{rules, arith, ◌≡◌, length}
 use Rattle.tonekit_expect.specs.Source.{carried}
 use Rattle.tonekit_sheet_write.proofs.Bytes.{bits_floats}
 use Rattle.tonekit_sheet_write.proofs.records.put_component.Goals as goal

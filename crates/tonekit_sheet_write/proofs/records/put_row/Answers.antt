@@ -1,6 +1,4 @@
-use native.Mathlib.Omega.{arith}
-use mathlib.Core.Path.{refl}
-use lib.ListN.{length-set}
+use Rattle.std.proofs.Common.{arith, refl, length-set}
 use Rattle.tonekit_sheet_write.proofs.records.put_row.Goals as goal
 
 pub returns : goal.returns

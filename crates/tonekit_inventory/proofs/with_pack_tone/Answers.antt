@@ -1,6 +1,0 @@
--- `with_pack_tone` meets its contract: the values that were read are those of the record at o.
-use mathlib.Core.Path.{◌∙◌}
-use Rattle.tonekit_inventory.proofs.with_pack_tone.Goals as goal
-
-pub returns : goal.returns
-returns c = c.with_tone.ensures ∙ simp (c.region_at.ensures, c.f32_at.ensures, c.byte_at.ensures)

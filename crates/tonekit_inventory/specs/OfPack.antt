@@ -1,0 +1,36 @@
+-- A pack, as what a station holds: the source that it stands for, and what a lookup in it lists.
+use Rattle.std.specs.Prelude.{ℕ, ◌≤◌, ◌<◌, ◌≡◌, List, Some, Result, Ok, Err}
+use Rattle.tonekit_core.specs.declared.Rejection.{Rejection}
+use Rattle.tonekit_pack.specs.Pack.{Out, loaded, refused, load_pack}
+use Rattle.tonekit_pack.specs.Held.{shown}
+use Rattle.tonekit_pack.specs.declared.Pack.{Pack}
+use Rattle.tonekit_expect.specs.Lookup as lookup
+use Rattle.tonekit_expect.specs.Lookup.{Look}
+use Rattle.tonekit_expect.specs.Source.{Source, source_of_pack}
+use Rattle.tonekit_expect.specs.declared.Listing.{Listing}
+use Rattle.tonekit_inventory.specs.declared.Named.{Named}
+
+-- what a pack that was read from these bytes stands for
+abbrev pub source_in : List ℕ → Pack → Source
+source_in s p = source_of_pack s (shown p)
+
+-- what the bytes of a pack hold, or why they are none
+abbrev pub source_or : List ℕ → Out → Result Source Rejection
+source_or s (loaded st end) = Ok (source_of_pack s st)
+source_or s (refused r place) = Err (record { why = r; place = place })
+
+abbrev pub load_source : List ℕ → Result Source Rejection
+load_source s = source_or s (load_pack s)
+
+-- a listing of one to four components that can be read
+pub record Short (s : List ℕ) (l : Listing) : Type 0 where
+  pub some : 1 ≤ l.count
+  pub few : l.count ≤ 4
+  pub each : (j : ℕ) → j < l.count → lookup.Listed s l j
+
+-- what a lookup in a pack that loads finds
+abbrev pub Looked : List ℕ → Look → Type 0
+Looked s k = (l : Listing) → k ≡ Some l → Short s l
+
+abbrev pub name_of : Listing → Named
+name_of l = record { owner = l.owner; form = l.form; label = l.label; count = l.count }

@@ -1,5 +1,0 @@
--- `turned_back` meets its contract. Assumes nothing.
-use Rattle.tonekit_pack.proofs.turned_back.Goals as goal
-
-pub returns : goal.returns
-returns c = rw c.nothing.ensures

@@ -1,0 +1,12 @@
+-- A search finds a tone that is held.
+use Rattle.std.proofs.Common.{refl, sym}
+use Rattle.tonekit_sheet_read.specs.Held.{shown}
+use Rattle.tonekit_sheet.specs.FromSheet.{tone_at, source_of_sheet}
+use Rattle.tonekit_inventory.proofs.Search.{tone_held}
+use Rattle.tonekit_sheet_inventory.proofs.HeldSheetHeld.holds_tone.Goals as goal
+
+pub returns : goal.returns
+unfolding source_of_sheet
+returns c =
+    let a = c.args in
+    rw (c.is_some.ensures, c.tone_index.ensures) (sym (tone_held a.bytes.now (shown a.self.now.sheet).tones a.number (tone_at a.bytes.now) (λ o. refl)))

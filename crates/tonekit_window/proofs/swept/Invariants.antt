@@ -1,9 +1,0 @@
-use Prim.Native.Nat.{◌-◌, ◌≤◌}
-use Rattle.tonekit_window.proofs.Walk.{Going}
-use Rattle.tonekit_window.proofs.swept.Given as goal
-
-abbrev pub invariant-loop-s : goal.invariant-loop-s
-invariant-loop-s l = (l.frame ≤ 3000) × Going l.values l.a l.b l.frame l.s
-
-abbrev pub decreases-loop-s : goal.decreases-loop-s
-decreases-loop-s l = 4000 - l.frame
