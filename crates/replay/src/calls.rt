@@ -1,8 +1,8 @@
 // The library's calls, each with exactly the room that a sample lends.
 ghost use Rattle.std.specs.Prelude.{◌≤◌};
 
-use crate::functions;
 use crate::recorded::{FILL, Recorded};
+use crate::{Sample, functions};
 use tonekit_core::{Rejection, layout};
 
 // The room that can be lent, and all that is looked at, with what lies behind it.
@@ -13,58 +13,51 @@ const ALL: usize = 16016;
 // A call, by its number in a sample.
 #[derive(Clone, Copy)]
 pub enum Call {
-    CheckPack,
-    CheckQuery,
-    CheckSheet,
-    Shape,
-    Sheet,
-    Judge,
-    JudgeSheet,
-    Ln,
-    Log2,
-    Exp,
-    Root,
-    Narrow,
-    Expand,
-    Pick,
-    Solve,
+    CheckPack = 1,
+    CheckQuery = 2,
+    CheckSheet = 3,
+    Shape = 4,
+    Sheet = 5,
+    Judge = 6,
+    JudgeSheet = 7,
+    Ln = 10,
+    Log2 = 11,
+    Exp = 12,
+    Root = 13,
+    Narrow = 14,
+    Expand = 15,
+    Pick = 16,
+    Solve = 17,
 }
+
+const CALLS: [Call; 15] = [
+    Call::CheckPack,
+    Call::CheckQuery,
+    Call::CheckSheet,
+    Call::Shape,
+    Call::Sheet,
+    Call::Judge,
+    Call::JudgeSheet,
+    Call::Ln,
+    Call::Log2,
+    Call::Exp,
+    Call::Root,
+    Call::Narrow,
+    Call::Expand,
+    Call::Pick,
+    Call::Solve,
+];
 
 impl TryFrom<u8> for Call {
     type Error = u8;
 
     // The call with a number, or the number of none.
     fn try_from(number: u8) -> Result<Call, u8> {
-        match number {
-            1 => Ok(Call::CheckPack),
-            2 => Ok(Call::CheckQuery),
-            3 => Ok(Call::CheckSheet),
-            4 => Ok(Call::Shape),
-            5 => Ok(Call::Sheet),
-            6 => Ok(Call::Judge),
-            7 => Ok(Call::JudgeSheet),
-            10 => Ok(Call::Ln),
-            11 => Ok(Call::Log2),
-            12 => Ok(Call::Exp),
-            13 => Ok(Call::Root),
-            14 => Ok(Call::Narrow),
-            15 => Ok(Call::Expand),
-            16 => Ok(Call::Pick),
-            17 => Ok(Call::Solve),
-            _ => Err(number),
-        }
-    }
-}
-
-impl Call {
-    // The longest that the call writes.
-    pub fn longest(self) -> usize {
-        match self {
-            Call::Shape => layout::SHAPE_SIZE,
-            Call::Sheet => layout::SHEET_MOST,
-            Call::Judge | Call::JudgeSheet => layout::JUDGEMENT_SIZE,
-            _ => 0,
-        }
+        CALLS
+            .iter()
+            .copied()
+            .find(|call| *call as u8 == number)
+            .ok_or(number)
     }
 }
 
@@ -82,34 +75,52 @@ fn written<F: FnOnce(&mut [u8]) -> Result<usize, Rejection>>(
     recorded.answers(answer, &space[..room + (ALL - MOST)])
 }
 
-// Whether a call answers as recorded: the recorded number, place or length, and bytes. None does with more room
-// than can be lent.
-// Stays: a sample names its call, so one place has to choose it.
-pub fn so(call: Call, room: usize, first: &[u8], second: &[u8], recorded: Recorded) -> bool {
-    if MOST < room {
-        return false;
+impl Call {
+    // The longest that the call writes.
+    pub fn longest(self) -> usize {
+        match self {
+            Call::Shape => layout::SHAPE_SIZE,
+            Call::Sheet => layout::SHEET_MOST,
+            Call::Judge | Call::JudgeSheet => layout::JUDGEMENT_SIZE,
+            _ => 0,
+        }
     }
-    match call {
-        Call::CheckPack => recorded.checks(tonekit_pack::check_pack(first)),
-        Call::CheckQuery => recorded.checks(tonekit_query::check_query(first)),
-        Call::CheckSheet => recorded.checks(tonekit_sheet_read::check_sheet(first)),
-        Call::Shape => written(recorded, room, |out| tonekit_shape::write_shape(first, out)),
-        Call::Sheet => written(recorded, room, |out| {
-            tonekit_sheet_write::write_sheet(first, out)
-        }),
-        Call::Judge => written(recorded, room, |out| {
-            tonekit_station::judge(first, second, out)
-        }),
-        Call::JudgeSheet => written(recorded, room, |out| {
-            tonekit_station::judge_sheet(first, second, out)
-        }),
-        Call::Ln => functions::f64s(first, recorded, tonekit_log::ln),
-        Call::Log2 => functions::f64s(first, recorded, tonekit_log::log2),
-        Call::Exp => functions::f64s(first, recorded, tonekit_log::exp),
-        Call::Root => functions::f64s(first, recorded, tonekit_root::sqrt),
-        Call::Narrow => functions::narrowed(first, recorded),
-        Call::Expand => functions::expanded(first, recorded),
-        Call::Pick => functions::picked(first, recorded),
-        Call::Solve => functions::solved(first, recorded),
+
+    // Whether the call answers as recorded: the recorded number, place or length, and bytes. None does with
+    // more room than can be lent.
+    pub fn agrees(self, sample: Sample) -> bool {
+        let room = sample.room.unwrap_or(self.longest());
+        if MOST < room {
+            return false;
+        }
+        let Sample {
+            first,
+            second,
+            recorded,
+            ..
+        } = sample;
+        match self {
+            Call::CheckPack => recorded.checks(tonekit_pack::check_pack(first)),
+            Call::CheckQuery => recorded.checks(tonekit_query::check_query(first)),
+            Call::CheckSheet => recorded.checks(tonekit_sheet_read::check_sheet(first)),
+            Call::Shape => written(recorded, room, |out| tonekit_shape::write_shape(first, out)),
+            Call::Sheet => written(recorded, room, |out| {
+                tonekit_sheet_write::write_sheet(first, out)
+            }),
+            Call::Judge => written(recorded, room, |out| {
+                tonekit_station::judge(first, second, out)
+            }),
+            Call::JudgeSheet => written(recorded, room, |out| {
+                tonekit_station::judge_sheet(first, second, out)
+            }),
+            Call::Ln => functions::f64s(first, recorded, tonekit_log::ln),
+            Call::Log2 => functions::f64s(first, recorded, tonekit_log::log2),
+            Call::Exp => functions::f64s(first, recorded, tonekit_log::exp),
+            Call::Root => functions::f64s(first, recorded, tonekit_root::sqrt),
+            Call::Narrow => functions::narrowed(first, recorded),
+            Call::Expand => functions::expanded(first, recorded),
+            Call::Pick => functions::picked(first, recorded),
+            Call::Solve => functions::solved(first, recorded),
+        }
     }
 }

@@ -7,44 +7,30 @@ use crate::recorded::Recorded;
 use tonekit_bytes::{f32_at, u32_at};
 use tonekit_float::AnyFloat;
 
-// The number of eight bytes from an index on, the least significant first.
-// Stays: arithmetic_vectors proves what it reads, and this only reads; neither is a library.
-fn u64_at(s: &[u8], at: usize) -> u64 {
-    u64::from(u32_at(s, at, 0)) + 4294967296 * u64::from(u32_at(s, at, 4))
-}
-
-// The f64 of eight bytes from an index on.
-// Stays: no record of the format has an f64, so tonekit_bytes reads none.
-fn f64_at(s: &[u8], at: usize) -> f64 {
-    f64::of_bits(u64_at(s, at))
+// The f64 that eight bytes hold.
+fn f64_of(bytes: &[u8; 8]) -> f64 {
+    f64::of_bits(u64::from_le_bytes(*bytes))
 }
 
 // Whether a function answers f64s as recorded.
 pub fn f64s<F: Fn(f64) -> f64>(input: &[u8], recorded: Recorded, function: F) -> bool
     requires { F.IsAlwaysCallable function }
 {
-    if !recorded.has(input.len()) {
-        return false;
-    }
-    for (x, y) in input.chunks_exact(8).zip(recorded.bytes.chunks_exact(8)) {
-        if function(f64_at(x, 0)).bits() != u64_at(y, 0) {
-            return false;
-        }
-    }
-    input.len() % 8 == 0
+    let (xs, rest) = input.as_chunks::<8>();
+    let (ys, _) = recorded.bytes.as_chunks::<8>();
+    recorded.has(input.len())
+        && rest.is_empty()
+        && xs.iter().zip(ys).all(|(x, y)| function(f64_of(x)).bits() == u64::from_le_bytes(*y))
 }
 
 // Whether narrowing answers as recorded.
 pub fn narrowed(input: &[u8], recorded: Recorded) -> bool {
-    if !recorded.has(input.len() / 2) {
-        return false;
-    }
-    for (x, y) in input.chunks_exact(8).zip(recorded.bytes.chunks_exact(4)) {
-        if tonekit_float::narrow(f64_at(x, 0)).bits() != u32_at(y, 0, 0) {
-            return false;
-        }
-    }
-    input.len() % 8 == 0
+    let (xs, rest) = input.as_chunks::<8>();
+    let (ys, _) = recorded.bytes.as_chunks::<4>();
+    recorded.has(input.len() / 2)
+        && rest.is_empty()
+        && xs.iter().zip(ys).all(|(x, y)| tonekit_float::narrow(f64_of(x)).bits()
+            == u32::from_le_bytes(*y))
 }
 
 // A knot, or 0 where a number is none: of size above 100.
@@ -77,45 +63,57 @@ pub fn expanded(input: &[u8], recorded: Recorded) -> bool {
         return false;
     }
     let points = tonekit_expect::expand_knots(&knots(input)[..n]);
-    for (point, y) in points.iter().zip(recorded.bytes.chunks_exact(4)) {
-        if point.bits() != u32_at(y, 0, 0) {
-            return false;
-        }
-    }
+    let (ys, _) = recorded.bytes.as_chunks::<4>();
     input.len() % 4 == 0
+        && points
+            .iter()
+            .zip(ys)
+            .all(|(point, y)| point.bits() == u32::from_le_bytes(*y))
 }
 
 // Whether minimum and maximum of two f64s, and of the two narrowed, are as recorded in 24 bytes.
 fn pair_so(x: f64, y: f64, bytes: &[u8]) -> bool {
+    let (numbers, _) = bytes.as_chunks::<8>();
+    let [least, most, _] = numbers else {
+        return false;
+    };
     let a = tonekit_float::narrow(x);
     let b = tonekit_float::narrow(y);
-    tonekit_float::lesser(x, y).bits() == u64_at(bytes, 0)
-        && tonekit_float::greater(x, y).bits() == u64_at(bytes, 8)
+    tonekit_float::lesser(x, y).bits() == u64::from_le_bytes(*least)
+        && tonekit_float::greater(x, y).bits() == u64::from_le_bytes(*most)
         && tonekit_float::lesser(a, b).bits() == u32_at(bytes, 16, 0)
         && tonekit_float::greater(a, b).bits() == u32_at(bytes, 20, 0)
 }
 
 // Whether minimum and maximum of a pair are as recorded.
 pub fn picked(input: &[u8], recorded: Recorded) -> bool {
-    recorded.has(24)
-        && input.len() == 16
-        && pair_so(f64_at(input, 0), f64_at(input, 8), recorded.bytes)
+    let (pair, rest) = input.as_chunks::<8>();
+    let [x, y] = pair else {
+        return false;
+    };
+    recorded.has(24) && rest.is_empty() && pair_so(f64_of(x), f64_of(y), recorded.bytes)
 }
 
-// A row of the fit's grid, from an index on.
-fn row_at(s: &[u8], at: usize) -> [f64; 4]
-    requires { at ≤ 64 }
-{
-    [
-        f64_at(s, at),
-        f64_at(s, at + 8),
-        f64_at(s, at + 16),
-        f64_at(s, at + 24),
-    ]
+// A row of the fit's grid.
+fn row_of(row: &[[u8; 8]; 4]) -> [f64; 4] {
+    let [a, b, c, d] = row;
+    [f64_of(a), f64_of(b), f64_of(c), f64_of(d)]
 }
 
 // Whether the first unknown of three equations is as recorded.
 pub fn solved(input: &[u8], recorded: Recorded) -> bool {
-    let m = [row_at(input, 0), row_at(input, 32), row_at(input, 64)];
-    recorded.has(8) && input.len() == 96 && tonekit_fit::lead(m).bits() == u64_at(recorded.bytes, 0)
+    let (numbers, rest) = input.as_chunks::<8>();
+    let (rows, more) = numbers.as_chunks::<4>();
+    let [a, b, c] = rows else {
+        return false;
+    };
+    let (answer, _) = recorded.bytes.as_chunks::<8>();
+    let [answer] = answer else {
+        return false;
+    };
+    let m = [row_of(a), row_of(b), row_of(c)];
+    recorded.has(8)
+        && rest.is_empty()
+        && more.is_empty()
+        && tonekit_fit::lead(m).bits() == u64::from_le_bytes(*answer)
 }

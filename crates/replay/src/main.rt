@@ -8,6 +8,7 @@ mod programs;
 mod recorded;
 
 ghost use Rattle.std.specs.Prelude.{◌≡◌, ◌-◌, ◌<◌, ◌≤◌, length};
+ghost use Rattle.std.specs.Iterator.{at_most};
 
 use crate::calls::Call;
 use crate::recorded::Recorded;
@@ -119,38 +120,41 @@ fn replay_sample(sample: Sample, tally: &mut Tally) {
         tally.add(false, true);
         return;
     };
-    let Sample {
-        room,
-        first,
-        second,
-        recorded,
-        ..
-    } = sample;
-    let agrees = calls::so(
-        call,
-        room.unwrap_or(call.longest()),
-        first,
-        second,
-        recorded,
-    );
-    let told = match room {
+    let told = match sample.room {
         Some(_) => None,
-        None => programs::so(call, first, second, recorded),
+        None => call.told(sample),
     };
-    tally.add(told.is_some(), !agrees || told == Some(false));
+    tally.add(told.is_some(), !call.agrees(sample) || told == Some(false));
+}
+
+// The samples of a file, one behind the other to its end.
+#[derive(Drop)]
+struct Samples<'a> {
+    rest: &'a [u8],
+}
+
+impl<'a> Iterator for Samples<'a> {
+    type Item = Sample<'a>;
+
+    ghost remaining = { λ s. at_most (length s.rest.now) };
+
+    fn next(&mut self) -> Option<Sample<'a>> {
+        if self.rest.is_empty() {
+            return None;
+        }
+        Some(take_sample(&mut self.rest))
+    }
 }
 
 // Replays the samples that a file holds.
-// Stays: how long a sample is stands in it, so no chunks of std go over them.
 fn replay(s: &[u8]) -> Tally {
     let mut tally = Tally {
         run: 0,
         told: 0,
         differ: 0,
     };
-    let mut rest = s;
-    while !rest.is_empty() {
-        replay_sample(take_sample(&mut rest), &mut tally);
+    for sample in (Samples { rest: s }) {
+        replay_sample(sample, &mut tally);
     }
     tally
 }

@@ -1,4 +1,5 @@
 // The functions behind the programs: what each writes of a sample.
+use crate::Sample;
 use crate::calls::Call;
 use crate::recorded::{FILL, Recorded, untouched};
 use std::convert::AsSlice;
@@ -61,52 +62,49 @@ fn put_input(space: &mut [u8; INPUT], held: &[u8], query: &[u8]) -> Option<usize
 
 // Whether a station, on a pack or on a sheet, tells as recorded.
 fn judged<F: FnOnce(&[u8], &mut [u8; layout::JUDGEMENT_SIZE]) -> usize>(
-    held: &[u8],
-    query: &[u8],
-    recorded: Recorded,
+    sample: Sample,
     station: F,
 ) -> bool
     requires { F.IsAlwaysCallable station }
 {
     let mut space = [0u8; INPUT];
-    let Some(n) = put_input(&mut space, held, query) else {
+    let Some(n) = put_input(&mut space, sample.first, sample.second) else {
         return false;
     };
     let input = tonekit_report::front(&space, n);
-    told(recorded, &mut [FILL; layout::JUDGEMENT_SIZE], |out| {
-        station(input, out)
-    })
+    told(
+        sample.recorded,
+        &mut [FILL; layout::JUDGEMENT_SIZE],
+        |out| { station(input, out) },
+    )
 }
 
-// Whether a call is a program's work, lent what the program lends, and then whether the program tells as recorded.
-// Stays: a sample names its call, so one place has to choose it.
-pub fn so(call: Call, first: &[u8], second: &[u8], recorded: Recorded) -> Option<bool> {
-    match call {
-        Call::CheckPack => Some(checked(b"pack", first, recorded)),
-        Call::CheckQuery => Some(checked(b"query", first, recorded)),
-        Call::CheckSheet => Some(checked(b"sheet", first, recorded)),
-        Call::Shape => Some(told(
-            recorded,
-            &mut [FILL; layout::SHAPE_SIZE],
-            |out| tonekit_output::shape_output(first, out),
-        )),
-        Call::Sheet => Some(told(
-            recorded,
-            &mut [FILL; layout::SHEET_MOST],
-            |out| tonekit_output::sheet_output(first, out),
-        )),
-        Call::Judge => Some(judged(
+impl Call {
+    // Whether the call is a program's work, lent what the program lends, and then whether the program tells
+    // as recorded.
+    pub fn told(self, sample: Sample) -> Option<bool> {
+        let Sample {
             first,
-            second,
             recorded,
-            tonekit_station_output::station_output,
-        )),
-        Call::JudgeSheet => Some(judged(
-            first,
-            second,
-            recorded,
-            tonekit_station_output::station_sheet_output,
-        )),
-        _ => None,
+            ..
+        } = sample;
+        match self {
+            Call::CheckPack => Some(checked(b"pack", first, recorded)),
+            Call::CheckQuery => Some(checked(b"query", first, recorded)),
+            Call::CheckSheet => Some(checked(b"sheet", first, recorded)),
+            Call::Shape => Some(told(
+                recorded,
+                &mut [FILL; layout::SHAPE_SIZE],
+                |out| tonekit_output::shape_output(first, out),
+            )),
+            Call::Sheet => Some(told(
+                recorded,
+                &mut [FILL; layout::SHEET_MOST],
+                |out| tonekit_output::sheet_output(first, out),
+            )),
+            Call::Judge => Some(judged(sample, tonekit_station_output::station_output)),
+            Call::JudgeSheet => Some(judged(sample, tonekit_station_output::station_sheet_output)),
+            _ => None,
+        }
     }
 }

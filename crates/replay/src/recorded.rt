@@ -5,6 +5,7 @@ use tonekit_core::{Rejection, layout};
 pub const FILL: u8 = 0xA5;
 
 // The number of a call's answer, 0 or a refusal's; its place, or how many bytes it wrote; and these bytes.
+// Stays: the file records all three of every call, and each is compared; in a Result the count beside the bytes of an Ok would be lost.
 #[derive(Clone, Copy)]
 pub struct Recorded<'a> {
     pub number: u8,

@@ -13,7 +13,7 @@ use std::io::Read;
 use std::rt::Files;
 use std::{fmt, fs, io, str};
 use tonekit_core::layout;
-use tonekit_sheet_read::Sheet;
+use tonekit_sheet_read::SheetView;
 
 // The title and the settings.
 fn add_settings(out: &mut impl Write, sheet: Record) -> fmt::Result {
@@ -26,7 +26,7 @@ fn add_settings(out: &mut impl Write, sheet: Record) -> fmt::Result {
 }
 
 // A tone.
-// Stays: a tone and an accent have other fields, and share no words.
+// Stays: a tone and an accent share no words and no fields but their number, so one function for both would be these two behind a switch.
 fn add_tone(out: &mut impl Write, tone: Record) -> fmt::Result {
     write!(
         out,
@@ -54,7 +54,7 @@ fn add_tones(out: &mut impl Write, first: Record, tones: usize) -> fmt::Result {
 }
 
 // An accent.
-// Stays: as for a tone.
+// Stays: beside `add_tone`, with which it shares the number alone.
 fn add_accent(out: &mut impl Write, accent: Record) -> fmt::Result {
     writeln!(
         out,
@@ -97,11 +97,11 @@ fn add_components(out: &mut impl Write, first: Record, count: u8) -> fmt::Result
 }
 
 // The word for a list's form.
-// Stays: the format numbers a list's form in a byte.
+// Stays: a form is the format's byte here as in `tonekit_core::Name`, and this match is the only one on it.
 fn form_word(form: u8) -> &'static str {
     match form {
-        1 => "citation",
-        2 => "single",
+        layout::CITATION_FORM => "citation",
+        layout::SINGLE_FORM => "single",
         _ => "mixture",
     }
 }
@@ -133,8 +133,9 @@ fn add_lists(out: &mut impl Write, sheet: Record, offsets: &[u16]) -> fmt::Resul
 }
 
 // The text of a sheet that loads.
-fn add_sheet(out: &mut impl Write, bytes: &[u8], held: &Sheet) -> fmt::Result {
-    let sheet = Record::new(bytes, 0);
+fn add_sheet(out: &mut impl Write, view: &SheetView) -> fmt::Result {
+    let held = &view.sheet;
+    let sheet = Record::new(view.bytes, 0);
     let rows = layout::sheet_accent_at(held.tones, held.accents);
     add_settings(out, sheet)?;
     add_tones(out, sheet.part(layout::sheet_tone_at(0)), held.tones)?;
@@ -144,7 +145,7 @@ fn add_sheet(out: &mut impl Write, bytes: &[u8], held: &Sheet) -> fmt::Result {
         held.accents,
     )?;
     tables::add_tables(out, sheet.part(rows), held.rows, held.tones + 1)?;
-    add_lists(out, sheet, &held.listat[..held.lists])?;
+    add_lists(out, sheet, held.lists.offsets())?;
     writeln!(out, "\nend")
 }
 
@@ -153,7 +154,8 @@ fn print_sheet<R: Print + Eprint>(rt: &R, bytes: &[u8]) {
     match tonekit_sheet_read::load_sheet(bytes) {
         Ok(loaded) => {
             let mut page = Page::new(rt);
-            let _ = add_sheet(&mut page, bytes, &loaded.sheet);
+            let sheet = loaded.held;
+            let _ = add_sheet(&mut page, &SheetView { bytes, sheet });
             page.flush();
         }
         Err(rejection) => {

@@ -26,6 +26,7 @@ fn takes(row: Record, x: u8) -> Taken {
 }
 
 // The rows of one accent and tone, one for each preceding tone, none first.
+// Stays: tonekit_sheet_plan's `Rows` are a pack's, and have no field in common with it.
 #[derive(Clone, Copy)]
 struct Rows<'a> {
     first: Record<'a>,

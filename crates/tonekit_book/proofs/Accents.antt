@@ -4,7 +4,8 @@ use borrow.Author.Tests.{eqb-false}
 use lib.ListN.{get_or-append}
 use Rattle.std.specs.Prelude.{Ok}
 use Rattle.tonekit_bytes.specs.Fields.{byte_at}
-use Rattle.tonekit_pack.specs.Pack.{Pst, size_of, number_at, rule_fine, part_fine, added, start}
+use Rattle.tonekit_bytes.specs.Places.{number_at}
+use Rattle.tonekit_pack.specs.Pack.{Pst, size_of, rule_fine, part_fine, added, start}
 use Rattle.tonekit_core.proofs.Split.{split, both, either, neither}
 use Rattle.tonekit_pack.proofs.Records.{passed, size_pos}
 use Rattle.tonekit_expect.specs.Lookup.{to_rule}

@@ -108,7 +108,7 @@ module _ (s : List ℕ) (at owner : ℕ) (r : List ℕ) (ps : List (List ℕ)) (
       let not-here = ne_eqb (byte_at s (at + 6)) 1 (λ e. form (sym form_own ∙ sym form_here ∙ e)) in
       let not_own = ne_eqb (byte_at whole 6) 1 (λ e. form (sym form_own ∙ e)) in
       rw (not-here, not_own)
-      (λ i. record { owner = owner; form = form_here i; label = label_here i; part = cond (eqb (form_here i) 3) j 0; weight = w i; points = expanded (k i) })
+      (λ i. record { name = record { owner = owner; form = form_here i; label = label_here i }; part = cond (eqb (form_here i) 3) j 0; weight = w i; points = expanded (k i) })
 
   components_same : (n : ℕ) → n ≤ length ps → components s there n ≡ components whole own n
   unfolding components

@@ -1,5 +1,5 @@
 -- Worked examples, computed: the book of a small pack, by its bytes and by its records, and lookups in it.
-use Rattle.std.specs.Prelude.{ℕ, ◌≡◌, refl, List, [], ◌∷◌, ◌++◌, replicate}
+use Rattle.std.specs.Prelude.{ℕ, ◌≡◌, refl, List, [], ◌∷◌, ◌++◌, replicate, Bool, true, false}
 use Rattle.std.proofs.Math.Option.{none, some}
 use Rattle.std.specs.Float.Ieee.{lt, le, to_bits, of_bits, of_int, add, sub, mul, div}
 use Rattle.tonekit_core.specs.Loop.{fold, range, turns, loop_to, loop_on}
@@ -87,49 +87,49 @@ unfolding book_of_records grouped tone_records records_bytes components componen
 by_records = refl
 
 -- ---- lookups
-context : ℕ → ℕ → ℕ → ℕ → Context
+context : ℕ → ℕ → ℕ → Bool → Context
 context a t p final = record { accent = a; tone = t; prev = p; last = final }
 
 -- accent 7 at the end of a phrase: its first rule
-takes_rule : look_in book (context 7 4 0 1) ≡ some mixture
+takes_rule : look_in book (context 7 4 0 true) ≡ some mixture
 unfolding context look_in climb first_with best_of better_rule rule_matches conditions meets fold
 takes_rule = refl
 
 -- elsewhere, and after no tone: the citation
-takes_citation : look_in book (context 7 4 0 0) ≡ some (cited_under 7)
+takes_citation : look_in book (context 7 4 0 false) ≡ some (cited_under 7)
 unfolding context look_in climb first_with best_of better_rule rule_matches conditions meets fold
 takes_citation = refl
 
 -- at the end and after tone 4: both rules match and state as much, and the first is taken
-takes_first : look_in book (context 7 4 4 1) ≡ some mixture
+takes_first : look_in book (context 7 4 4 true) ≡ some mixture
 unfolding context look_in climb first_with best_of better_rule rule_matches conditions meets fold
 takes_first = refl
 
 -- accent 8 after tone 4: its own rule
-takes_own : look_in book (context 8 4 4 1) ≡ some (level 8 9)
+takes_own : look_in book (context 8 4 4 true) ≡ some (level 8 9)
 unfolding context look_in climb first_with best_of better_rule rule_matches conditions meets fold
 takes_own = refl
 
 -- at the end of a phrase, after no tone: its parent's, under the parent's number
-takes_parents : look_in book (context 8 4 0 1) ≡ some mixture
+takes_parents : look_in book (context 8 4 0 true) ≡ some mixture
 unfolding context look_in climb first_with best_of better_rule rule_matches conditions meets fold
 takes_parents = refl
 
 -- elsewhere: the citation, under accent 8
-takes_own_citation : look_in book (context 8 4 0 0) ≡ some (cited_under 8)
+takes_own_citation : look_in book (context 8 4 0 false) ≡ some (cited_under 8)
 unfolding context look_in climb first_with best_of better_rule rule_matches conditions meets fold
 takes_own_citation = refl
 
 -- an accent and a tone that the book has not
-no_accent : look_in book (context 9 4 0 1) ≡ none
+no_accent : look_in book (context 9 4 0 true) ≡ none
 unfolding context look_in climb first_with best_of better_rule rule_matches conditions meets fold
 no_accent = refl
 
-no_tone : look_in book (context 7 5 0 1) ≡ none
+no_tone : look_in book (context 7 5 0 true) ≡ none
 unfolding context look_in climb first_with best_of better_rule rule_matches conditions meets fold
 no_tone = refl
 
 -- of rules that match, the one that states most
-most_stated : best_of (context 7 4 4 1) (rule_for 0 0 [] ∷ rule_for 4 2 mixture ∷ rule_for 4 0 [] ∷ []) ≡ some (rule_for 4 2 mixture)
+most_stated : best_of (context 7 4 4 true) (rule_for 0 0 [] ∷ rule_for 4 2 mixture ∷ rule_for 4 0 [] ∷ []) ≡ some (rule_for 4 2 mixture)
 unfolding context best_of better_rule rule_matches conditions meets fold
 most_stated = refl

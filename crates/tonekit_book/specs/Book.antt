@@ -5,7 +5,8 @@ use Rattle.std.proofs.Math.Option.{Option, none, some}
 use Rattle.tonekit_core.specs.Layout.{tone_knot_count, accent_parent, rule_size, rule_tone, rule_prev, rule_final}
 use Rattle.tonekit_core.specs.Loop.{fold}
 use Rattle.tonekit_bytes.specs.Fields.{byte_at}
-use Rattle.tonekit_pack.specs.Pack.{Pst, number_at, parts_from}
+use Rattle.tonekit_bytes.specs.Places.{number_at}
+use Rattle.tonekit_pack.specs.Pack.{Pst, parts_from}
 use Rattle.tonekit_expect.specs.declared.Context.{Context}
 use Rattle.tonekit_expect.specs.Lookup.{final_of, meets, one_if, from_rule, to_rule, rule_listing, citation}
 use Rattle.tonekit_expect.specs.Source.{Settings, Tone, Accent, Carried, Source, components, settings_at, tone_at, accent_at}

@@ -2,7 +2,7 @@
 use Rattle.std.specs.Prelude.{ℕ, cond, List, [], ◌∷◌, ◌++◌, map, eqb}
 use Rattle.tonekit_core.specs.Layout.{tone_kind, accent_kind, accent_parent, rule_kind, part_kind}
 use Rattle.tonekit_bytes.specs.Fields.{byte_at}
-use Rattle.tonekit_pack.specs.Pack.{number_at}
+use Rattle.tonekit_bytes.specs.Places.{number_at}
 use Rattle.tonekit_expect.specs.Source.{settings_at, accent_at}
 use Rattle.tonekit_records.specs.Records.{kind, records_bytes}
 use Rattle.tonekit_book.specs.Book.{BookAccent, BookTone, Book, book_tone_at, rule_at}

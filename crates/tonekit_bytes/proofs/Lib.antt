@@ -4,3 +4,6 @@ pub mod Write
 pub mod Examples
 pub mod Agreeing
 pub mod Stands
+pub mod InOrder
+pub mod Stepped
+pub mod Searched

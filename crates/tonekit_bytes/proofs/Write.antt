@@ -53,14 +53,6 @@ sets_append l i (x ∷ a) b n e = sets_append (set l i x) (suc i) a b n (e ∙ a
 pub more : {A : Type 0} (l a b : List A) {o o' : List A} (i n : ℕ) → o ≡ sets l i a → n ≡ i + length a → o' ≡ sets o n b → o' ≡ sets l i (a ++ b)
 more {A} l a b i n e k e' = e' ∙ ap (λ (x : List A). sets x n b) e ∙ sets_append l i a b n k
 
--- a turn of the loop that copies a list
-pub copy_step : {A : Type 0} (l out : List A) (at i : ℕ) (bs : List A) (d : A) → i < length bs → out ≡ sets l at (take i bs)
-    → set out (at + i) (get_or bs i d) ≡ sets l at (take (i + 1) bs)
-copy_step l out at i bs d h e =
-    let k : length (take i bs) ≡ i = length-take-le i bs (omega arith) in
-    more l (take i bs) (get_or bs i d ∷ []) at (at + i) e (omega arith) refl
-    ∙ ap (sets l at) (sym (ap (λ (m : ℕ). take m bs) (add-one i) ∙ take-suc bs i d h))
-
 f32s_append : (xs ys : List Float) → f32s_bytes (xs ++ ys) ≡ f32s_bytes xs ++ f32s_bytes ys
 unfolding f32s_bytes
 f32s_append [] ys = refl

@@ -10,6 +10,8 @@ ghost use Rattle.tonekit_bytes.specs.Fields.{byte_at, u16_at, u32_at, f32_at, le
 use tonekit_core::{Refusal, Rejection};
 use tonekit_float::AnyFloat;
 
+pub mod places;
+
 // How many of len bytes stand from index o + k on, 0 past the end. No sum is formed that could wrap.
 fn bytes_from(len: usize, o: usize, k: usize) -> usize
     ensures { result ≡ len - (o + k) }
@@ -17,8 +19,8 @@ fn bytes_from(len: usize, o: usize, k: usize) -> usize
     len.saturating_sub(o).saturating_sub(k)
 }
 
-// Stays: a record's place and a field's come apart, so that their sum is formed here, where it cannot wrap.
-// The byte at index o + k, 0 past the end.
+// The byte at index o + k, 0 past the end. The sum is formed here, where it cannot wrap.
+// Stays: sheet_text holds bytes and a place in one struct, `Record`, since it asks many fields of each record; callers here step the place alone, so they would build the struct anew at each call.
 pub fn byte_at(s: &[u8], o: usize, k: usize) -> u8
     ensures { result ≡ byte_at s.now (o + k) }
 {
@@ -30,12 +32,13 @@ pub fn byte_at(s: &[u8], o: usize, k: usize) -> u8
 }
 
 // The u16 at index o + k, bytes past the end read as 0.
+// Stays: this, u32_in and u32_at share no reader of N bytes: past the end it has to give 0, so it would be a loop over N with an invariant, longer than the three bodies.
 pub fn u16_at(s: &[u8], o: usize, k: usize) -> u16
     ensures { result ≡ u16_at s.now (o + k) }
 {
     if 2 <= bytes_from(s.len(), o, k) {
         let at = o + k;
-        u16::from(s[at]) + 256 * u16::from(s[at + 1])
+        u16::from_le_bytes([s[at], s[at + 1]])
     } else {
         u16::from(byte_at(s, o, k))
     }
@@ -46,26 +49,20 @@ pub fn u32_in(s: &[u8], at: usize) -> u32
     requires { at + 4 ≤ length s.now }
     ensures { result ≡ u32_at s.now at }
 {
-    let low = u16::from(s[at]) + 256 * u16::from(s[at + 1]);
-    let high = u16::from(s[at + 2]) + 256 * u16::from(s[at + 3]);
-    u32::from(low) + 65536 * u32::from(high)
+    u32::from_le_bytes([s[at], s[at + 1], s[at + 2], s[at + 3]])
 }
 
 // The u32 at index o + k, bytes past the end read as 0.
 pub fn u32_at(s: &[u8], o: usize, k: usize) -> u32
     ensures { result ≡ u32_at s.now (o + k) }
 {
-    let n = bytes_from(s.len(), o, k);
-    if 4 <= n {
-        return u32_in(s, o + k);
+    match bytes_from(s.len(), o, k) {
+        n if 4 <= n => u32_in(s, o + k),
+        0 => 0,
+        _ => u32::from_le_bytes([s[o + k], byte_at(s, o + k, 1), byte_at(s, o + k, 2), 0]),
     }
-    if n < 3 {
-        return u32::from(u16_at(s, o, k));
-    }
-    u32::from(u16_at(s, o, k)) + 65536 * u32::from(byte_at(s, o + k, 2))
 }
 
-// Stays: the formats have no f64; replay alone reads one.
 // The float at index o + k, bytes past the end read as 0.
 pub fn f32_at(s: &[u8], o: usize, k: usize) -> f32
     ensures { result ≡ f32_at s.now (o + k) }
@@ -81,31 +78,27 @@ pub fn put_u8(out: &mut [u8], at: usize, v: u8)
     out[at] = v;
 }
 
-// Stays: a trait over the two widths would be longer than the two functions.
 // Writes a u16 at an index.
+// Stays: this and put_u32 are one line each over `put_bytes`, put_f32 one over put_u32; std has no trait of `to_le_bytes` by which one function could take
+// either width.
 pub fn put_u16(out: &mut [u8], at: usize, v: u16)
     requires { at + 2 ≤ length out.old }
     ensures { out.new ≡ sets out.old at (le16 v) }
 {
-    let [low, high] = v.to_le_bytes();
-    out[at] = low;
-    out[at + 1] = high;
+    put_bytes(out, at, &u16::to_le_bytes(v));
 }
 
-// Stays: as put_u16.
 // Writes a u32 at an index.
+// Stays: as put_u16.
 pub fn put_u32(out: &mut [u8], at: usize, v: u32)
     requires { at + 4 ≤ length out.old }
     ensures { out.new ≡ sets out.old at (le32 v) }
 {
-    let [first, second, third, fourth] = v.to_le_bytes();
-    out[at] = first;
-    out[at + 1] = second;
-    out[at + 2] = third;
-    out[at + 3] = fourth;
+    put_bytes(out, at, &u32::to_le_bytes(v));
 }
 
 // Writes a float's bits at an index; a NaN is written 0x7FC00000.
+// Stays: as put_u16.
 pub fn put_f32(out: &mut [u8], at: usize, x: f32)
     requires { at + 4 ≤ length out.old }
     ensures { out.new ≡ sets out.old at (f32_bytes x) }
@@ -114,14 +107,13 @@ pub fn put_f32(out: &mut [u8], at: usize, x: f32)
 }
 
 // Writes floats one after the other from an index on.
+#[tactic(auto, using(crate::proofs::Write::f32s_step), unfolding(crate::specs::Fields::f32s_bytes))]
 pub fn put_f32s(out: &mut [u8], at: usize, xs: &[f32])
     requires { at + 4 * length xs.now ≤ length out.old }
     ensures { out.new ≡ sets out.old at (f32s_bytes xs.now) }
 {
-    let mut place = at;
-    for x in xs {
-        put_f32(out, place, *x);
-        place += 4;
+    for (i, x) in xs.iter().enumerate() {
+        put_f32(out, at + 4 * i, *x);
     }
 }
 

@@ -1,3 +1,4 @@
+pub mod Range
 pub mod Position
 pub mod Turning
 pub mod Bench

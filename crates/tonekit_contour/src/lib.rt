@@ -2,9 +2,12 @@
 // deltas share).
 #![tactic(auto)]
 
-ghost use Rattle.std.specs.Prelude.{◌≡◌, ◌<◌, ◌≤◌, length};
+ghost use Rattle.std.specs.Prelude.{◌≡◌, ◌<◌, ◌≤◌, length, map};
+ghost use Rattle.tonekit_contour.specs.Range.{range_in};
 ghost use Rattle.tonekit_contour.specs.Position.{position};
 ghost use Rattle.tonekit_contour.specs.Turning.{greatest, near, first_near, last_near, extremum, stands, chosen, turning_point};
+
+use tonekit_float::AnyFloat;
 
 // An extreme value of a curve, and the middle of the frames that reach it.
 #[derive(Clone, Copy)]
@@ -27,6 +30,20 @@ pub fn position(k: usize, last: usize) -> f64
     ensures { result ≡ position k last }
 {
     tonekit_float::f64_of(k) / 9.0 * tonekit_float::f64_of(last)
+}
+
+// The greatest of ten points less the least, from the infinities on.
+#[tactic(auto, using(tonekit_core::specs::Loop::again, tonekit_core::specs::Loop::ended))]
+pub fn range_of<F: AnyFloat>(ten: &[F; 10]) -> F
+    ensures { F.float result ≡ range_in F.format (map F.float ten.now) }
+{
+    let mut low = F::INFINITY;
+    let mut high = F::MINUS_INFINITY;
+    for x in ten {
+        low = tonekit_float::lesser(low, *x);
+        high = tonekit_float::greater(high, *x);
+    }
+    high - low
 }
 
 // The greatest of sign * v over the curve, from minus infinity.

@@ -29,6 +29,16 @@ tolerance_offset = 8
 abbrev pub tolerance_turning : ℕ
 tolerance_turning = 12
 
+-- "form u8": 1 is a tone's citation, "2 is single, 3 mixture"
+abbrev pub citation_form : ℕ
+citation_form = 1
+
+abbrev pub single_form : ℕ
+single_form = 2
+
+abbrev pub mixture_form : ℕ
+mixture_form = 3
+
 -- ---- Pack
 
 -- "1 Settings: temperature f32, heard threshold f32"

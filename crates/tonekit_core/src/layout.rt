@@ -23,6 +23,13 @@ pub const TOLERANCE_OFFSET: usize = 8;
 
 pub const TOLERANCE_TURNING: usize = 12;
 
+// "form u8": 1 is a tone's citation, "2 is single, 3 mixture"
+pub const CITATION_FORM: u8 = 1;
+
+pub const SINGLE_FORM: u8 = 2;
+
+pub const MIXTURE_FORM: u8 = 3;
+
 // ---- Pack
 
 // "1 Settings: temperature f32, heard threshold f32"
@@ -275,8 +282,8 @@ pub fn sheet_tone_at(i: usize) -> usize
     SETTINGS_SIZE + SHEET_TONE_SIZE * i
 }
 
-// Stays: as sheet_tone_at.
 // Where accent i stands, behind so many tones.
+// Stays: as sheet_tone_at. `tones ≤ 8` is asked here, of rows and in `row_count`, of plain counts; a type of a count would be unwrapped in each product.
 pub fn sheet_accent_at(tones: usize, i: usize) -> usize
     requires { (tones ≤ 8) × (i ≤ 8) }
     ensures { result ≡ sheet_accent_at tones i }

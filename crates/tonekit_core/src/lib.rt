@@ -7,24 +7,24 @@ ghost use Rattle.tonekit_core.specs.Words.{refusal_number, issue_bit, has_issue,
 pub mod layout;
 pub mod limits;
 
-// Why an input or a query is turned back, in the order of the format's table.
+// Why an input or a query is turned back, by the numbers of the format's table.
 #[derive(Clone, Copy, Debug, PartialEq, Eq)]
 pub enum Refusal {
-    Misplaced,
-    CutShort,
-    Overrun,
-    Crowded,
-    OffScale,
-    Doubled,
-    Loose,
-    Unordered,
-    ShortBuffer,
-    BadQuery,
-    Unvoiced,
-    UnknownAccent,
-    UnknownTone,
-    NoRealisation,
-    BadVariant,
+    Misplaced = 1,
+    CutShort = 2,
+    Overrun = 3,
+    Crowded = 4,
+    OffScale = 5,
+    Doubled = 6,
+    Loose = 7,
+    Unordered = 8,
+    ShortBuffer = 9,
+    BadQuery = 10,
+    Unvoiced = 11,
+    UnknownAccent = 12,
+    UnknownTone = 13,
+    NoRealisation = 14,
+    BadVariant = 15,
 }
 
 // Why an input or a query is turned back, and where.
@@ -32,6 +32,15 @@ pub enum Refusal {
 pub struct Rejection {
     pub why: Refusal,
     pub place: usize,
+}
+
+// Whose a list of curves is, and what it is called there: the owner's number, the form and the label.
+#[derive(Clone, Copy, Debug, PartialEq, Eq)]
+pub struct Name {
+    pub owner: u8,
+    // Stays: lookups and readers hand on the byte that stands in a record, whatever it is; an enum would need a case for each byte that is no form.
+    pub form: u8,
+    pub label: u16,
 }
 
 impl Refusal {
@@ -46,62 +55,45 @@ impl Refusal {
 // A caveat of a measurement, as in the Rust.
 #[derive(Clone, Copy, Debug, PartialEq, Eq)]
 pub enum MeasureIssue {
-    Unvoiced,
-    LowSnr,
-    Clipped,
-    TooShort,
-    ColdStartRegister,
-    InvalidRegister,
-    InvalidEvidence,
-    NoNucleus,
-    Unpitched,
-    CreakyTail,
+    Unvoiced = 1,
+    LowSnr = 2,
+    Clipped = 4,
+    TooShort = 8,
+    ColdStartRegister = 16,
+    InvalidRegister = 32,
+    InvalidEvidence = 64,
+    NoNucleus = 128,
+    Unpitched = 256,
+    CreakyTail = 512,
 }
 
 // Advice direction, as in the Rust.
 #[derive(Clone, Copy, Debug, PartialEq, Eq)]
 pub enum DeltaKind {
-    StartHigher,
-    StartLower,
-    EndHigher,
-    EndLower,
-    TurnEarlier,
-    TurnLater,
-    WiderRange,
-    NarrowerRange,
+    StartHigher = 1,
+    StartLower = 2,
+    EndHigher = 3,
+    EndLower = 4,
+    TurnEarlier = 5,
+    TurnLater = 6,
+    WiderRange = 7,
+    NarrowerRange = 8,
 }
 
 // How far a syllable was measured, as in the Rust.
 #[derive(Clone, Copy, Debug, PartialEq, Eq)]
 pub enum Measured {
-    Full,
-    Partial,
-    NotMeasured,
+    Full = 0,
+    Partial = 1,
+    NotMeasured = 2,
 }
 
 // The number of a refusal in the format's table.
 impl From<Refusal> for u8 {
     ghost from_gives = { λ r n. n ≡ refusal_number r };
 
-    // Stays: each word stands beside its number, as in the format's table.
     fn from(r: Refusal) -> u8 {
-        match r {
-            Refusal::Misplaced => 1,
-            Refusal::CutShort => 2,
-            Refusal::Overrun => 3,
-            Refusal::Crowded => 4,
-            Refusal::OffScale => 5,
-            Refusal::Doubled => 6,
-            Refusal::Loose => 7,
-            Refusal::Unordered => 8,
-            Refusal::ShortBuffer => 9,
-            Refusal::BadQuery => 10,
-            Refusal::Unvoiced => 11,
-            Refusal::UnknownAccent => 12,
-            Refusal::UnknownTone => 13,
-            Refusal::NoRealisation => 14,
-            Refusal::BadVariant => 15,
-        }
+        r as u8
     }
 }
 
@@ -109,20 +101,8 @@ impl From<Refusal> for u8 {
 impl From<MeasureIssue> for u16 {
     ghost from_gives = { λ i n. n ≡ issue_bit i };
 
-    // Stays: each word stands beside its number, as in the format's table.
     fn from(i: MeasureIssue) -> u16 {
-        match i {
-            MeasureIssue::Unvoiced => 1,
-            MeasureIssue::LowSnr => 2,
-            MeasureIssue::Clipped => 4,
-            MeasureIssue::TooShort => 8,
-            MeasureIssue::ColdStartRegister => 16,
-            MeasureIssue::InvalidRegister => 32,
-            MeasureIssue::InvalidEvidence => 64,
-            MeasureIssue::NoNucleus => 128,
-            MeasureIssue::Unpitched => 256,
-            MeasureIssue::CreakyTail => 512,
-        }
+        i as u16
     }
 }
 
@@ -130,18 +110,8 @@ impl From<MeasureIssue> for u16 {
 impl From<DeltaKind> for u8 {
     ghost from_gives = { λ k n. n ≡ delta_number k };
 
-    // Stays: each word stands beside its number, as in the format's table.
     fn from(k: DeltaKind) -> u8 {
-        match k {
-            DeltaKind::StartHigher => 1,
-            DeltaKind::StartLower => 2,
-            DeltaKind::EndHigher => 3,
-            DeltaKind::EndLower => 4,
-            DeltaKind::TurnEarlier => 5,
-            DeltaKind::TurnLater => 6,
-            DeltaKind::WiderRange => 7,
-            DeltaKind::NarrowerRange => 8,
-        }
+        k as u8
     }
 }
 
@@ -149,32 +119,24 @@ impl From<DeltaKind> for u8 {
 impl From<Measured> for u8 {
     ghost from_gives = { λ m n. n ≡ measured_number m };
 
-    // Stays: each word stands beside its number, as in the format's table.
     fn from(m: Measured) -> u8 {
-        match m {
-            Measured::Full => 0,
-            Measured::Partial => 1,
-            Measured::NotMeasured => 2,
-        }
+        m as u8
     }
 }
 
-// Stays: a set of issues is the format's u16 of bits, which every record holds and the C interface hands out.
 // Whether an issue is among the issues of a u16.
+// Stays: a set of issues is the format's u16 of bits, which a query's, a shape's and a judgement's record hold and the C interface hands out.
+#[tactic(auto, using(crate::proofs::Issues::set_bit))]
 pub fn has_issue(issues: u16, i: MeasureIssue) -> bool
     ensures { result ≡ has_issue issues i }
 {
-    issues / u16::from(i) % 2 == 1
+    issues & u16::from(i) != 0
 }
 
 // The issues with one more.
-#[tactic(auto, using(crate::proofs::Issues::bit_room), unfolding(crate::specs::Words::with_issue))]
+#[tactic(auto, using(crate::proofs::Issues::united))]
 pub fn with_issue(issues: u16, i: MeasureIssue) -> u16
     ensures { result ≡ with_issue issues i }
 {
-    if has_issue(issues, i) {
-        issues
-    } else {
-        issues + u16::from(i)
-    }
+    issues | u16::from(i)
 }

@@ -6,3 +6,4 @@ pub mod Rounds
 pub mod Reading
 pub mod TextBack
 pub mod NearestKept
+pub mod Order

@@ -1,10 +1,13 @@
 -- One turn of each loop, on the definitions of specs/Digits and specs/Text. Assumes nothing.
-use Rattle.std.proofs.Common.{refl, ◌≡◌, ℕ, zero, suc, ◌+◌, ◌-◌, ◌*◌, ◌/◌, ◌%◌, ◌<◌, ◌≤◌, Bool, not, ltb, List, [], ◌∷◌, ◌++◌, length, get_or, take, drop, set, replicate, length-take-le, length-drop, get_or-take, get_or-drop, take_at, drop_at, Option, Some, None, sym, ◌∙◌, ap, arith, add-one, sub-one, append-nil, append_assoc, ne_eqb, take_all, drop_of_length-le, drop-cons, take-suc-set, mul-le-mul}
+use Rattle.std.proofs.Common.{refl, ◌≡◌, ℕ, zero, suc, ◌+◌, ◌-◌, ◌*◌, ◌/◌, ◌%◌, ◌<◌, ◌≤◌, Bool, List, [], ◌∷◌, ◌++◌, length, get_or, take, drop, set, replicate, length-take-le, length-drop, get_or-take, get_or-drop, take_at, drop_at, Option, Some, None, sym, ◌∙◌, ap, arith, add-one, sub-one, append-nil, append_assoc, ne_eqb, take_all, drop_of_length-le, drop-cons, take-suc-set, mul-le-mul, zero-le, reverse, slice_range}
 use lib.Seq.{append_snoc}
 use lib.ListN.{length-replicate}
 use Rattle.std.proofs.Common.{drop-set-lt}
-use Rattle.std.specs.Int.{from_bool}
-use Rattle.tonekit_decimal.specs.Digits.{mul_add, scaled, times_all, at_most, choice_in, search_in}
+use Rattle.std.proofs.lemmas.Grind.{get_or_default_zero}
+use Rattle.std.proofs.lemmas.List.{get_or-reverse, length-reverse}
+use Rattle.std.specs.List.{AllWithin, HoldsAt}
+use Rattle.std.specs.Option.{MatchOption}
+use Rattle.tonekit_decimal.specs.Digits.{mul_add, scaled, times_all, choice_in, search_in}
 use Rattle.tonekit_decimal.specs.Text.{figures, whole_count, lowest, fraction, number_text}
 
 -- `multiply`: the digits below i are out, the others still to come
@@ -23,16 +26,6 @@ multiply_end k t ds i z h e = sym (append-nil ds) ∙ (rw (take_all i ds h, drop
 pub product_fits : {k d : ℕ} → k ≤ 134217728 → d < 256 → k * d ≤ 34225520640
 product_fits {k} {d} h l = mul-le-mul {n₁ = k} {m₁ = d} {n₂ = 134217728} {m₂ = 255} h (omega arith)
 
--- `at_most`
-pub most_turn : (b : Bool) (xs ys : List ℕ) (i : ℕ) (z : Bool) → i < length xs → i < length ys → at_most b (drop i xs) (drop i ys) ≡ z
-    → at_most (ltb (get_or ys i 0) (get_or xs i 0 + from_bool b)) (drop (i + 1) xs) (drop (i + 1) ys) ≡ z
-unfolding at_most
-most_turn b xs ys i z h l e = rw add-one (rw (drop-cons xs i 0 h, drop-cons ys i 0 l) at e)
-
-pub most_end : (b : Bool) (xs ys : List ℕ) (i : ℕ) (z : Bool) → length xs ≤ i → at_most b (drop i xs) (drop i ys) ≡ z → not b ≡ z
-unfolding at_most
-most_end b xs ys i z h e = rw (drop_of_length-le xs h) at e
-
 -- `times`
 pub times_turn : (k n i : ℕ) (a z : List ℕ) → i < n → times_all k (n - i) a ≡ z → times_all k (n - (i + 1)) (scaled k 0 0 a) ≡ z
 unfolding times_all
@@ -42,7 +35,7 @@ pub times_end : (k n i : ℕ) (a z : List ℕ) → n ≤ i → times_all k (n - 
 unfolding times_all
 times_end k n i a z h e = let s : n - i ≡ 0 = omega arith in rw s at e
 
--- `search`: p is above what is tried next
+-- `shortest`: p is above what is tried next
 module _ (lo v hi : List ℕ) (odd : Bool) where
   pub search_found : (p : ℕ) (z found : List ℕ) → 0 < p → choice_in lo v hi odd p ≡ Some found → search_in lo v hi odd p ≡ z → found ≡ z
   unfolding search_in
@@ -96,6 +89,22 @@ module _ (a : List ℕ) where
   low_end zero z h e = e
   low_end (suc k) z h e = absurd (omega arith)
 
+-- `lowest`: the first digit that is not 0, of those below 151
+module _ (ds : List ℕ) (size : length (take 151 ds) ≡ 151) where
+  low_past : (i : ℕ) → i ≤ 151 → AllWithin (λ x. x ≡ 0) (take 151 ds) 0 i → lowest ds (151 - i) ≡ lowest ds 151
+  low_past zero h all = refl
+  low_past (suc i) h all =
+      let e : 151 - i - 1 ≡ 151 - suc i = omega arith in
+      let here = sym (get_or-take 151 ds i 0 (omega arith)) ∙ all i 0 zero-le (omega arith) in
+      rw e at (low_on ds (151 - i) i _ (omega arith) (omega arith) here (low_past i (omega arith) (λ k d l m. all k d l (omega arith))))
+
+  pub low_first : (r : Option ℕ) → MatchOption r (AllWithin (λ x. x ≡ 0) (take 151 ds) 0 (length (take 151 ds))) (λ i. (i < length (take 151 ds)) × HoldsAt (λ x. x ≡ 0 → ⊥) (take 151 ds) i × AllWithin (λ x. x ≡ 0) (take 151 ds) 0 i)
+      → r ≡ lowest ds 151
+  low_first None h = low_end ds 0 _ (omega arith) (low_past 151 (omega arith) (λ k d l m. h k d l (omega (arith, size))))
+  low_first (Some i) h =
+      let b : i < 151 = omega (arith, size, h.0) in
+      low_found ds (151 - i) i _ (omega arith) (omega arith) (λ e. h.1 0 (get_or-take 151 ds i 0 b ∙ e)) (low_past i (omega arith) h.2)
+
 -- `add_figures`: what is left, added here, gives the whole
 pub figures_turn : (text ds : List ℕ) (low place : ℕ) (z : List ℕ) → low < place → text ++ figures ds low (place - low) ≡ z
     → (text ++ (48 + get_or ds (place - 1) 0 % 10) ∷ []) ++ figures ds low (place - 1 - low) ≡ z
@@ -108,6 +117,21 @@ figures_turn text ds low place z h e =
 pub figures_end : (text ds : List ℕ) (low place : ℕ) (z : List ℕ) → place ≤ low → text ++ figures ds low (place - low) ≡ z → text ≡ z
 unfolding figures
 figures_end text ds low place z h e = let s : place - low ≡ 0 = omega arith in sym (append-nil text) ∙ (rw s at e)
+
+-- the digits from low up and below end, the highest first
+pub part_length : (ds : List ℕ) (low end : ℕ) → low ≤ end → end ≤ length ds → length (reverse (slice_range ds low end)) ≡ end - low
+part_length ds low end h l =
+    let n : end - low ≤ length (drop low ds) = simp length-drop (omega arith) in
+    length-reverse (slice_range ds low end) ∙ length-take-le (end - low) (drop low ds) n
+
+pub digit_down : (ds : List ℕ) (low end k d : ℕ) → low ≤ end → end ≤ length ds → k < end - low → get_or (reverse (slice_range ds low end)) k d ≡ get_or ds (end - k - 1) 0
+digit_down ds low end k d h l m =
+    let n : length (slice_range ds low end) ≡ end - low = sym (length-reverse (slice_range ds low end)) ∙ part_length ds low end h l in
+    let t : low + (end - low - 1 - k) ≡ end - k - 1 = omega arith in
+    get_or-reverse (slice_range ds low end) k d (omega (arith, n))
+    ∙ rw n (get_or-take (end - low) (drop low ds) (end - low - 1 - k) d (omega arith))
+    ∙ get_or-drop low ds (end - low - 1 - k) d
+    ∙ rw t (get_or_default_zero ds (end - k - 1) d (omega arith))
 
 -- `scaled`: zeros, and what `multiply` makes of the digits behind them
 pub scaled_is : (k p c : ℕ) (ds zeros new : List ℕ) → length ds ≡ 190 → p ≤ 190 → zeros ≡ replicate (length (take p ds)) 0

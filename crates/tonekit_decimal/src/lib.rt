@@ -73,17 +73,14 @@ impl Digits {
         product
     }
 
-    // Whether the number is at most another, or less where it must be: the difference, from the ones
-    // up, leaves nothing to borrow.
-    // Stays: std compares lists from the front on, and here the highest digit stands last.
+    // Whether the number is at most another, or less where it must be: the highest digits that differ
+    // decide.
+    // Stays: the derived order would begin at the lowest digit, and an impl of PartialOrd by hand would be longer than this; `less` tells whether ends are left out.
     fn at_most(&self, other: &Digits, less: bool) -> bool
         ensures { result ≡ at_most less self.now.places other.now.places }
     {
-        let mut borrow = less;
-        for (x, y) in self.places.iter().zip(&other.places) {
-            borrow = u16::from(*y) < u16::from(*x) + u16::from(borrow);
-        }
-        !borrow
+        let order = self.places.iter().rev().cmp(other.places.iter().rev());
+        if less { order.is_lt() } else { order.is_le() }
     }
 
     // How many digits the whole part has: those above its highest that is not 0 are left out.
@@ -104,24 +101,18 @@ impl Digits {
         ensures value { result ≡ lowest self.now.places 151 }
         ensures within { IfSome result (λ place. place < 151) }
     {
-        for (place, digit) in self.places[..151].iter().enumerate() {
-            if *digit != 0 {
-                return Some(place);
-            }
-        }
-        None
+        self.places[..151].iter().position(|digit| *digit != 0)
     }
 
     // Adds the characters of the digits below place `end`, the highest first, down to place `low`.
-    // Stays: the places go down, and a range says from where to where.
     fn add_figures(&self, text: &mut ArrayString<192>, low: usize, end: usize)
         requires places { (low ≤ end) × (end ≤ 190) }
         requires room { array_string_len text.old + (end - low) ≤ 192 }
         ensures bytes { text.new.bytes ≡ text.old.bytes ++ figures self.now.places low (end - low) }
         ensures len { array_string_len text.new ≡ array_string_len text.old + (end - low) }
     {
-        for place in (low..end).rev() {
-            text.push(char::from(b'0' + self.places[place] % 10));
+        for digit in self.places[low..end].iter().rev() {
+            text.push(char::from(b'0' + *digit % 10));
         }
     }
 
@@ -221,6 +212,7 @@ fn digits_of(e: u32, f: u32) -> Digits
 }
 
 // The text of a number and its sign.
+// Stays: the sign is the f32's bit, as `sign_text` takes it; a bool would be made of it and turned back for the definition.
 #[tactic(auto, unfolding(crate::specs::Text::sign_text))]
 fn finite(sign: u32, number: &Digits) -> ArrayString<192>
     ensures { result.bytes ≡ sign_text sign ++ number_text number.now.places }
@@ -234,6 +226,7 @@ fn finite(sign: u32, number: &Digits) -> ArrayString<192>
 }
 
 // The text of an infinity or a NaN: f is its fraction field.
+// Stays: the sign is a bit, as in `finite`.
 #[tactic(auto, unfolding(crate::specs::Text::sign_text, crate::specs::Text::special_text))]
 fn not_finite(sign: u32, f: u32) -> ArrayString<192>
     ensures { result.bytes ≡ special_text sign f }

@@ -1,15 +1,14 @@
 -- deltas.rs: the advice for a shape against its best component: the two largest differences beyond one tolerance, in order.
-use Rattle.std.specs.Prelude.{ℕ, Bool, true, false, cond, ◌&&◌, Option, Some, None, List, get_or, Float}
-use Rattle.std.specs.Float.{nan, inf, binary64}
+use Rattle.std.specs.Prelude.{Bool, true, cond, ◌&&◌, Option, Some, None, List, get_or, Float}
+use Rattle.std.specs.Float.{nan, binary64}
 use Rattle.std.specs.Float.Ieee.{sub, mul, div, lt}
 use Rattle.std.specs.Float.Ieee.Scale.{finite}
-use Rattle.tonekit_core.specs.Loop.{range}
 use Rattle.tonekit_core.specs.declared.DeltaKind.{DeltaKind}
 use Rattle.tonekit_core.specs.declared.DeltaKind.TheVariants.{StartHigher, StartLower, EndHigher, EndLower, TurnEarlier, TurnLater, WiderRange, NarrowerRange}
-use Rattle.tonekit_float.specs.Pick.{lesser, greater}
 use Rattle.tonekit_float.specs.Narrow.{narrowed}
 use Rattle.tonekit_float.specs.Magnitude.{magnitude}
 use Rattle.tonekit_contour.specs.Turning.{turning_point}
+use Rattle.tonekit_contour.specs.Range.{range_in}
 use Rattle.tonekit_shape.specs.declared.ToneShape.{ToneShape}
 use Rattle.tonekit_score.specs.Score.{zero64, one64}
 use Rattle.tonekit_score.specs.declared.Tolerance.{Tolerance}
@@ -55,14 +54,8 @@ unfoldable pub offer_turn : Deltas → ToneShape → Option Float → Float → 
 offer_turn ds x turning s = turn_between ds x.turning turning x.duration s
 
 -- the component's range: max − min of its ten points
-abbrev pub lesser_turn : List Float → ℕ → Float → Float
-lesser_turn l k t = lesser t (get_or l k nan)
-
-abbrev pub greater_turn : List Float → ℕ → Float → Float
-greater_turn l k t = greater t (get_or l k nan)
-
-unfoldable pub range_of : List Float → Float
-range_of l = sub binary64 (range (greater_turn l) 0 10 (inf true)) (range (lesser_turn l) 0 10 (inf false))
+abbrev pub range_of : List Float → Float
+range_of l = range_in binary64 l
 
 -- the two ends, and the two that are read off the contour
 unfoldable pub end_deltas : ToneShape → List Float → Tolerance → Float → Deltas

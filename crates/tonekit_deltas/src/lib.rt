@@ -1,8 +1,8 @@
 // `deltas` of the Rust: the advice for a shape against its best component, at most two differences.
 #![tactic(auto)]
 
-ghost use Rattle.std.specs.Prelude.{◌≡◌, length};
-ghost use Rattle.tonekit_deltas.specs.Deltas.{no_deltas, above, kept, offer, offer_end, offer_turn, range_of, end_deltas, inner_deltas, deltas_of};
+ghost use Rattle.std.specs.Prelude.{◌≡◌};
+ghost use Rattle.tonekit_deltas.specs.Deltas.{no_deltas, above, kept, offer, offer_end, offer_turn, end_deltas, inner_deltas, deltas_of};
 
 use tonekit_core::DeltaKind;
 use tonekit_score::Tolerance;
@@ -112,9 +112,7 @@ fn offer_turn(ds: Deltas, x: ToneShape, turning: Option<f64>, s: f64) -> Deltas
 }
 
 // The points as f64, which holds every f32.
-// Stays: a component is a part of the slots' points, and no type says that a slice has ten.
-fn curve_of(points: &[f32]) -> [f64; 10]
-    requires { length points.now ≡ 10 }
+fn curve_of(points: &[f32; 10]) -> [f64; 10]
     ensures { result ≡ points.now }
 {
     let mut curve = [0.0; 10];
@@ -124,21 +122,9 @@ fn curve_of(points: &[f32]) -> [f64; 10]
     curve
 }
 
-// The greatest of the ten points less the least.
-// Stays: a shape's range is taken in f32, and one function of both would need a trait of its own.
-fn range_of(curve: &[f64; 10]) -> f64
-    ensures { result ≡ range_of curve.now }
-{
-    let mut low = f64::INFINITY;
-    let mut high = f64::NEG_INFINITY;
-    for v in curve {
-        low = tonekit_float::lesser(low, *v);
-        high = tonekit_float::greater(high, *v);
-    }
-    high - low
-}
-
 // The advice from the two ends.
+// Stays: the tolerances and how far they are widened go from `deltas_of` to here and to `inner_deltas`; a struct of both would be made by its one caller and
+// taken apart at each `widened`.
 #[tactic(auto, unfolding(crate::specs::Deltas::end_deltas))]
 fn end_deltas(x: ToneShape, curve: &[f64; 10], t: Tolerance, widen: f64) -> Deltas
     ensures { result ≡ end_deltas x curve.now t widen }
@@ -162,13 +148,13 @@ fn end_deltas(x: ToneShape, curve: &[f64; 10], t: Tolerance, widen: f64) -> Delt
 }
 
 // The advice from the ends, and from what is read off the contour.
-#[tactic(auto, unfolding(crate::specs::Deltas::inner_deltas))]
+#[tactic(auto, using(crate::proofs::Range::each_itself), unfolding(crate::specs::Deltas::inner_deltas))]
 fn inner_deltas(ends: Deltas, x: ToneShape, curve: &[f64; 10], t: Tolerance, widen: f64) -> Deltas
     ensures { result ≡ inner_deltas ends x curve.now t widen }
 {
     let turning = tonekit_contour::turning_point(curve);
     let turn = offer_turn(ends, x, turning, tonekit_score::widened(t.turning, widen));
-    let wide = f64::from(x.range) - range_of(curve);
+    let wide = f64::from(x.range) - tonekit_contour::range_of(curve);
     offer_end(
         turn,
         wide,
@@ -178,11 +164,16 @@ fn inner_deltas(ends: Deltas, x: ToneShape, curve: &[f64; 10], t: Tolerance, wid
     )
 }
 
-// The advice for a shape against a component of ten points, the tolerances widened so much; only
-// from the ends where `ends_only`. A component has ten points, which a caller has listed.
+// The advice for a shape against a component of these points, the tolerances widened so much; only
+// from the ends where `ends_only`.
 #[tactic(auto, unfolding(crate::specs::Deltas::deltas_of))]
-pub fn deltas_of(x: ToneShape, points: &[f32], t: Tolerance, widen: f64, ends_only: bool) -> Deltas
-    requires { length points.now ≡ 10 }
+pub fn deltas_of(
+    x: ToneShape,
+    points: &[f32; 10],
+    t: Tolerance,
+    widen: f64,
+    ends_only: bool,
+) -> Deltas
     ensures { result ≡ deltas_of x points.now t widen ends_only }
 {
     let curve = curve_of(points);

@@ -18,10 +18,10 @@ within b = record { low = b.low; high = b.high; number = bounded_number b }
 
 -- the record of every judgement
 records : Records BoundedRecord
-records x temperature threshold t l g issues expected tones = record {
-  size = judgement_length x temperature threshold t l g issues expected tones;
-  loglik = λ k h. within (loglik_read x temperature threshold t l g issues expected tones k h);
-  llr = within (llr_read x temperature threshold t l g issues expected tones);
+records x settings t l g issues expected tones = record {
+  size = judgement_length x settings t l g issues expected tones;
+  loglik = λ k h. within (loglik_read x settings t l g issues expected tones k h);
+  llr = within (llr_read x settings t l g issues expected tones);
 }
 
 judge_bounded : (p q : List ℕ) → Writes BoundedRecord (judge_outcome p q)

@@ -14,12 +14,14 @@ use Rattle.tonekit_sheet.proofs.Turns as sheet-single
 use Rattle.tonekit_expect.specs.Source.{Carried, Source, source_of_pack}
 use Rattle.tonekit_expect.specs.Source as source
 use Rattle.tonekit_expect.specs.declared.Context.{Context}
-use Rattle.tonekit_score.specs.Score.{scoring_of, point_at}
+use Rattle.tonekit_score.specs.Score.{scoring_of}
 use Rattle.std.specs.Prelude.{Some}
-use Rattle.tonekit_judge.specs.Judge.{Placed, entry_at, distance_at, part_of, nearest_at, judgement_of}
-use Rattle.tonekit_judge.specs.declared.Targets.{Targets}
+use Rattle.tonekit_judge.specs.Judge.{Targets, Placed, count_in, name_in, entry_at, slot_at, component_at, part_of, nearest_at, judgement_of}
+use Rattle.tonekit_judge.specs.declared.Slot.{Slot}
+use Rattle.tonekit_core.specs.declared.Name.{Name}
 use Rattle.tonekit_judge.proofs.Winner.{winner_among, winner_named}
-use Rattle.tonekit_inventory.specs.Gather.{given_of, listings}
+use Rattle.tonekit_inventory.specs.Gather.{f32, named_of, slot_of, given_of, listings}
+use Rattle.tonekit_inventory.proofs.Going.{map_at}
 use Rattle.tonekit_inventory.proofs.Listed.{Entered, components_at, listings_enter, listed_tones}
 use Rattle.tonekit_inventory.proofs.Alike.{Alike, named_count, pack_alike}
 use Rattle.tonekit_sheet_inventory.proofs.Few.{tones_few}
@@ -45,32 +47,36 @@ module _ (src : Source) (few : length src.tones ≤ 8) (alike : (c : Context) (c
     here t = given_alike _ (alike _)
 
     entered : (t : ℕ) → t < length src.tones → Entered no_carried (cs t) t (listings src c)
-    entered = listings_enter no_carried src c few (λ t h. (here t).few) (λ t h k l. ((here t).each k l).ten)
+    entered = listings_enter no_carried src c few (λ t h. (here t).few)
 
-    tones_are : (listings src c).inventory.tones ≡ length src.tones
+    tones_are : length (listings src c).inventory.items ≡ length src.tones
     tones_are = listed_tones src c
 
-    placed : (g : Targets) → Placed (length src.tones) g → Placed (listings src c).inventory.tones g
+    placed : (g : Targets) → Placed (length src.tones) g → Placed (length (listings src c).inventory.items) g
     placed g p = rw tones_are p
 
   pub source_names : NamesWinner src
   unfolding part_of nearest_at
-  source_names c x temperature threshold t g issues ok p ll d2 slot e =
+  source_names c x settings t g issues ok p ll d2 slot e =
       let l = listings src c in
-      let s = scoring_of temperature t issues in
-      let a = winner_among l.inventory s l.slots.weights (distance_at x s l.inventory l.slots) g (placed c g p) ll d2 slot e in
-      let n = winner_named x temperature threshold t l g issues ok ll d2 slot e in
+      let s = scoring_of settings.temperature t issues in
+      let a = winner_among l.inventory s (component_at x s l.inventory l.slots) g (placed c g p) ll d2 slot e in
+      let n = winner_named x settings t l g issues ok ll d2 slot e in
       let given = cs c a.tone in
       let listed : a.tone < length src.tones = rw (tones_are c) at a.listed in
       let en = entered c a.tone listed in
-      let has : a.component < length given = omega (arith, a.has, en.count, named_count given) in
+      let many : count_in (entry_at l.inventory a.tone).listing ≡ length given = ap count_in en.listing ∙ named_count given in
+      let has : a.component < length given = omega (arith, a.has, many) in
       let small : a.component < 4 = omega (arith, (here c a.tone).few) in
       let tone : slot / 4 ≡ a.tone = omega (arith, a.is) in
       let place : slot % 4 ≡ a.component = omega (arith, a.is) in
       let u = (here c a.tone).each a.component has in
       let nearest = nearest_at (entry_at l.inventory a.tone) slot d2 in
-      let is : (judgement_of x temperature threshold t l g issues).nearest ≡ Some nearest = rw tone at n in
-      let part : part_of (entry_at l.inventory a.tone).form slot ≡ (get_or given a.component no_carried).part = rw (en.form, place) (sym u.part) in (
+      let is : (judgement_of x settings t l g issues).nearest ≡ Some nearest = rw tone at n in
+      let named : name_in (entry_at l.inventory a.tone).listing ≡ name_in (named_of given) = ap name_in en.listing in
+      let won = get_or given a.component no_carried in
+      let its_slot : slot_at l.slots slot ≡ slot_of won = ap (slot_at l.slots) a.is ∙ en.slot a.component has in
+      let part : part_of (name_in (entry_at l.inventory a.tone).listing) slot ≡ won.part = rw (named, place) (sym u.part) in (
         get_or given a.component no_carried,
         record {
           tone = a.tone;
@@ -81,10 +87,10 @@ module _ (src : Source) (few : length src.tones ≤ 8) (alike : (c : Context) (c
           looked = given_some _ a.component has;
           has = has;
           is = refl;
-          weight = ap (λ (n : ℕ). get_or l.slots.weights n nan) a.is ∙ en.weight a.component has;
-          points = λ i h. ap (λ (n : ℕ). point_at l.slots.points n i) a.is ∙ en.point a.component i has h;
+          weight = ap (λ (y : Slot). y.weight) its_slot;
+          points = λ i h. ap (λ (y : Slot). get_or y.points i nan) its_slot ∙ map_at f32 won.points i 0 nan (omega (arith, u.ten));
         },
-        record { nearest = nearest; is = is; owner = en.owner ∙ sym u.owner; form = en.form ∙ sym u.form; label = en.label ∙ sym u.label; part = part },
+        record { nearest = nearest; is = is; owner = ap (λ (n : Name). n.owner) named ∙ sym u.owner; form = ap (λ (n : Name). n.form) named ∙ sym u.form; label = ap (λ (n : Name). n.label) named ∙ sym u.label; part = part },
       )
 
 -- a pack that loads, and a sheet

@@ -9,12 +9,12 @@ use Rattle.tonekit_sheet.specs.FromSheet.{source_of_sheet}
 use Rattle.tonekit_expect.specs.Source.{Carried, Source, source_of_pack}
 use Rattle.tonekit_expect.specs.declared.Context.{Context}
 use Rattle.tonekit_shape.specs.declared.ToneShape.{ToneShape}
-use Rattle.tonekit_score.specs.Score.{scoring_of, point_at, mixture_of}
+use Rattle.tonekit_score.specs.Score.{scoring_of, mixture_of}
+use Rattle.tonekit_score.specs.declared.Settings.{Settings}
 use Rattle.tonekit_score.specs.declared.Tolerance.{Tolerance}
 use Rattle.tonekit_score.specs.declared.Mixture.{Mixture}
 use Rattle.tonekit_score.specs.declared.Mixture.TheVariants.{Scored}
-use Rattle.tonekit_judge.specs.Judge.{Listed, Placed, usable, distance_at, target_mixing, judgement_of}
-use Rattle.tonekit_judge.specs.declared.Targets.{Targets}
+use Rattle.tonekit_judge.specs.Judge.{Targets, Listings, Placed, usable, slot_at, component_at, target_mixing, judgement_of}
 use Rattle.tonekit_judge.specs.declared.Nearest.{Nearest}
 use Rattle.tonekit_judge.specs.declared.ToneJudgement.{ToneJudgement}
 use Rattle.tonekit_inventory.specs.Gather.{f32, no_tone, in_context, listings}
@@ -29,31 +29,31 @@ pub record Carries (src : Source) (c : Context) (slot : ℕ) (won : Carried) : T
   pub looked : src.look (in_context c (get_or src.tones tone no_tone).number) ≡ some given
   pub has : component < length given
   pub is : get_or given component no_carried ≡ won
-  pub weight : get_or (listings src c).slots.weights slot nan ≡ f32 won.weight
-  pub points : (i : ℕ) → i < 10 → point_at (listings src c).slots.points slot i ≡ f32 (get_or won.points i 0)
+  pub weight : (slot_at (listings src c).slots slot).weight ≡ f32 won.weight
+  pub points : (i : ℕ) → i < 10 → get_or (slot_at (listings src c).slots slot).points i nan ≡ f32 (get_or won.points i 0)
 
 -- a judgement's owner, form, label and part are a component's
 pub record Names (won : Carried) (j : ToneJudgement) : Type 0 where
   pub nearest : Nearest
   pub is : j.nearest ≡ Some nearest
-  pub owner : nearest.owner ≡ won.owner
-  pub form : nearest.form ≡ won.form
-  pub label : nearest.label ≡ won.label
+  pub owner : nearest.name.owner ≡ won.owner
+  pub form : nearest.name.form ≡ won.form
+  pub label : nearest.name.label ≡ won.label
   pub part : nearest.part ≡ won.part
 
 -- the target's mixture, of which the best component is the one that won
-abbrev pub target_mixture : ToneShape → Float → Tolerance → Listed → Targets → ℕ → Mixture
-target_mixture x temperature t l g issues =
-    let s = scoring_of temperature t issues in
-    mixture_of (target_mixing s l.inventory l.slots.weights (distance_at x s l.inventory l.slots) g)
+abbrev pub target_mixture : ToneShape → Settings → Tolerance → Listings → Targets → ℕ → Mixture
+target_mixture x settings t l g issues =
+    let s = scoring_of settings.temperature t issues in
+    mixture_of (target_mixing s l.inventory (component_at x s l.inventory l.slots) g)
 
 -- whatever a source's listings are judged by, in any context: the judgement names what the lookup carried for the component that won
 abbrev pub NamesWinner : Source → Type 0
 NamesWinner src =
-    (c : Context) (x : ToneShape) (temperature threshold : Float) (t : Tolerance) (g : Targets) (issues : ℕ)
+    (c : Context) (x : ToneShape) (settings : Settings) (t : Tolerance) (g : Targets) (issues : ℕ)
     → usable x ≡ true → Placed (length src.tones) g
-    → (ll d2 : Float) (slot : ℕ) → target_mixture x temperature t (listings src c) g issues ≡ Scored ll slot d2
-    → (won : Carried) × Carries src c slot won × Names won (judgement_of x temperature threshold t (listings src c) g issues)
+    → (ll d2 : Float) (slot : ℕ) → target_mixture x settings t (listings src c) g issues ≡ Scored ll slot d2
+    → (won : Carried) × Carries src c slot won × Names won (judgement_of x settings t (listings src c) g issues)
 
 abbrev pub PacksName : Type 0
 PacksName = (p : List ℕ) (st : pack.Pst) (e : ℕ) → pack.load_pack p ≡ pack.loaded st e → NamesWinner (source_of_pack p st)

@@ -15,7 +15,7 @@ use std::io::Read;
 
 // Reads until the buffer is full or the input ends, and answers how many bytes it put at the buffer's front. So it
 // answers less than the buffer's length only where nothing is left of the input; a read that fails is the error.
-// Stays: how far it has come is what each read answers, and std's read_exact says little after an error.
+// Stays: there is no heap for the Vec of std's read_to_end, and its read_exact does not say how much of a short input came.
 pub fn read_full<R: Read>(reader: &mut R, buf: &mut [u8]) -> io::Result<usize>
     ensures bound { ReadsAtMost result buf.new }
     ensures bytes { IfOk result (λ n.

@@ -11,23 +11,23 @@ use Rattle.tonekit_core.proofs.Split.{split}
 module _ (s : List ℕ) (l : Listing) where
   -- under the listing's name
   pub record Named (j : ℕ) : Type 0 where
-    pub owner : (carried (component_of s l j)).owner ≡ l.owner
-    pub form : (carried (component_of s l j)).form ≡ l.form
-    pub label : (carried (component_of s l j)).label ≡ l.label
+    pub owner : (carried (component_of s l j)).owner ≡ l.name.owner
+    pub form : (carried (component_of s l j)).form ≡ l.name.form
+    pub label : (carried (component_of s l j)).label ≡ l.name.label
 
   pub named : (j : ℕ) → Named j
   unfolding carried component_of
-  named j = split (eqb l.form 1) (λ t. record { owner = rw t; form = rw t; label = rw t }) (λ t. record { owner = rw t; form = rw t; label = rw t })
+  named j = split (eqb l.name.form 1) (λ t. record { owner = rw t; form = rw t; label = rw t }) (λ t. record { owner = rw t; form = rw t; label = rw t })
 
   -- "part number": its place in the rule in form 3, from 0; else 0
-  pub part_number : (j : ℕ) → (carried (component_of s l j)).part ≡ cond (eqb l.form 3) j 0
+  pub part_number : (j : ℕ) → (carried (component_of s l j)).part ≡ cond (eqb l.name.form 3) j 0
   unfolding carried component_of
-  part_number j = split (eqb l.form 1) (λ t. rw (eqb-true l.form 1 t)) (λ t. rw t)
+  part_number j = split (eqb l.name.form 1) (λ t. rw (eqb-true l.name.form 1 t)) (λ t. rw t)
 
   -- "A citation has .. weight 1"
-  pub citation_weight : (j : ℕ) → l.form ≡ 1 → (carried (component_of s l j)).weight ≡ 0x3f80_0000
+  pub citation_weight : (j : ℕ) → l.name.form ≡ 1 → (carried (component_of s l j)).weight ≡ 0x3f80_0000
   unfolding carried component_of to_bits
-  citation_weight j e = rw (eq-eqb l.form 1 e)
+  citation_weight j e = rw (eq-eqb l.name.form 1 e)
 
   pub components_length : (n : ℕ) → length (components s l n) ≡ n
   unfolding components

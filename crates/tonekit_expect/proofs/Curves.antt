@@ -9,13 +9,14 @@ use borrow.Author.Tests.{eqb-false}
 use Rattle.tonekit_core.specs.Loop.{turns, range}
 use Rattle.tonekit_float.proofs.Order.{yes}
 use Rattle.tonekit_bytes.specs.Fields.{byte_at, f32_at}
+use Rattle.tonekit_bytes.specs.Places.{index_of, number_at}
 use Rattle.tonekit_pack.specs.Ranges.{knot_fine, slot_fine, slot_turn, knots_fine}
-use Rattle.tonekit_pack.specs.Pack.{Pst, loaded, read_pack, number_at, parts_from}
+use Rattle.tonekit_pack.specs.Pack.{Pst, loaded, read_pack, parts_from}
 use Rattle.std.specs.Prelude.{Some, None}
 use Rattle.tonekit_expect.specs.declared.Context.{Context}
 use Rattle.tonekit_expect.specs.declared.Listing.{Listing}
 use Rattle.tonekit_expect.specs.Knots.{Knot, Point, Knots, knots_at}
-use Rattle.tonekit_expect.specs.Lookup.{Found, Walked, index_of, to_rule, find_rule, rule_listing, citation, listed, look_at, look_up, knots_of, component_of, Listed}
+use Rattle.tonekit_expect.specs.Lookup.{Found, Walked, to_rule, find_rule, rule_listing, citation, listed, look_at, look_up, knots_of, component_of, Listed}
 use Rattle.tonekit_core.proofs.Split.{split}
 use Rattle.tonekit_pack.proofs.Loads.{RuleFine, Loads, loads, firsts_bound}
 use Rattle.tonekit_expect.proofs.Bound.{length_knots, points_bounded}
@@ -121,7 +122,7 @@ pub listed_points : (s : List ℕ) (l : Listing) (j : ℕ) → Listed s l j → 
 unfolding component_of
 listed_points s l j L k h =
     let b = points_bounded (knots_of s l j) L.curve k h in
-    split (eqb l.form 1) (λ t. rw t (rw t at b)) (λ t. rw t (rw t at b))
+    split (eqb l.name.form 1) (λ t. rw t (rw t at b)) (λ t. rw t (rw t at b))
 
 pub points_fine_lem : (s : List ℕ) (st : Pst) (e : ℕ) → read_pack s ≡ loaded st e → (c : Context) (l : Listing) (j : ℕ) → look_up s st c ≡ Some l → j < l.count
     → (k : ℕ) → k < 10 → Point (get_or (component_of s l j).points k nan)

@@ -1,17 +1,9 @@
 -- The first n entries of an array: as a part of it, and what holds of them all.
-use Rattle.std.proofs.Common.{ℕ, zero, suc, ◌≤◌, ◌+◌, ◌<◌, ◌≡◌, refl, sym, ◌∙◌, subst, ap, List, [], ◌∷◌, ◌++◌, length, get_or, take, arith, add-one, ltb-true, ltb-false, ltb}
+use Rattle.std.proofs.Common.{ℕ, ◌≤◌, ◌≡◌, sym, subst, List, get_or, ltb-true, ltb-false, ltb}
 use Rattle.std.proofs.Math.ListN.{get_or-eq_default}
-use Rattle.std.proofs.lemmas.List.{take_more}
-use Rattle.tonekit_pack.specs.Held.{in_order}
 use Rattle.tonekit_core.proofs.Split.{split}
-use Rattle.tonekit_pack.proofs.InOrder.{order_length, order_get}
-
-pub order_take : (xs : List ℕ) (n : ℕ) → n ≤ length xs → in_order xs n ≡ take n xs
-unfolding in_order
-order_take xs zero h = refl
-order_take xs (suc n) h =
-    let q : n + 1 ≡ suc n = add-one n in
-    ap (λ (l : List ℕ). l ++ (get_or xs n 0 ∷ [])) (order_take xs n (omega arith)) ∙ sym (take_more xs n 0 (omega arith)) ∙ ap (λ (k : ℕ). take k xs) q
+use Rattle.tonekit_bytes.specs.Places.{in_order}
+use Rattle.tonekit_bytes.proofs.InOrder.{order_length, order_get}
 
 order_past : (xs : List ℕ) (n i : ℕ) → n ≤ i → get_or (in_order xs n) i 0 ≡ 0
 order_past xs n i h = get_or-eq_default (in_order xs n) 0 {n = i} (rw (order_length xs n) h)

@@ -1,17 +1,18 @@
 -- Worked examples, computed: document 01's bench cases for knots, and lookups in a pack of two accents.
-use Rattle.std.specs.Prelude.{ℕ, ◌≡◌, refl, true, List, [], ◌∷◌, ◌++◌, Some, None, replicate, Float}
+use Rattle.std.specs.Prelude.{ℕ, ◌≡◌, refl, Bool, true, false, List, [], ◌∷◌, ◌++◌, Some, None, replicate, Float}
 use Rattle.std.specs.Float.{binary32}
 use Rattle.std.specs.Float.Ieee.{add, sub, mul, div, of_int, of_bits, le, lt}
 use Rattle.tonekit_core.specs.Loop.{turns, range, turns_to, range_to, loop_on, loop_to}
 use Rattle.tonekit_float.specs.Whole.{whole_part}
 use Rattle.tonekit_float.specs.Narrow.{narrowed}
+use Rattle.tonekit_bytes.specs.Places.{index_of}
 use Rattle.tonekit_pack.specs.Ranges.{above_zero, a_share, knot_fine, weight_fine, slot_fine, knots_fine, region_fine, tolerances_fine}
 use Rattle.tonekit_pack.specs.Pack.{parts_from, Pst, loaded, due_after, size_of, holds, zero_or_held, settings_verdict, tone_verdict, accent_verdict, rule_verdict, part_verdict, body_verdict, record_verdict, added, read_pack}
 use Rattle.tonekit_expect.specs.declared.Context.{Context}
 use Rattle.tonekit_expect.specs.declared.Listing.{Listing}
 use Rattle.tonekit_contour.specs.Position.{position}
 use Rattle.tonekit_expect.specs.Knots.{segment, fraction, on_line, point_at, first_points, expanded, knots_at}
-use Rattle.tonekit_expect.specs.Lookup.{index_of, meets, matches, specificity, better_of, best_rule, climb_turn, find_rule, rule_listing, look_up, tone_knots_at, component_of, knots_of}
+use Rattle.tonekit_expect.specs.Lookup.{meets, matches, specificity, better_of, best_rule, climb_turn, find_rule, rule_listing, look_up, tone_knots_at, component_of, knots_of}
 use Rattle.tonekit_expect.specs.Source.{settings_at, tone_at, accent_at}
 
 abbrev pub two : Float
@@ -61,38 +62,38 @@ reads : read_pack pack ≡ loaded read 418
 unfolding read_pack loop_to loop_on record_verdict body_verdict settings_verdict tone_verdict accent_verdict rule_verdict part_verdict due_after size_of holds zero_or_held added above_zero a_share knot_fine weight_fine slot_fine knots_fine region_fine tolerances_fine range turns of_bits le lt
 reads = refl
 
-context : ℕ → ℕ → ℕ → ℕ → Context
+context : ℕ → ℕ → ℕ → Bool → Context
 context a t p final = record { accent = a; tone = t; prev = p; last = final }
 
 -- accent 3's own rule, the first of its two, and not accent 5's, which states more
-nearest : look_up pack read (context 3 1 0 1) ≡ Some (record { owner = 3; form = 3; label = 8; at = 272; count = 2 })
+nearest : look_up pack read (context 3 1 0 true) ≡ Some (record { name = record { owner = 3; form = 3; label = 8 }; at = 272; count = 2 })
 unfolding context look_up find_rule climb_turn best_rule better_of matches meets specificity index_of range_to turns_to loop_to loop_on range turns parts_from
 nearest = refl
 
 -- accent 5's own at the end of a phrase; else the tone's citation, under the graded accent
-stated : look_up pack read (context 5 1 0 1) ≡ Some (record { owner = 5; form = 2; label = 7; at = 147; count = 1 })
+stated : look_up pack read (context 5 1 0 true) ≡ Some (record { name = record { owner = 5; form = 2; label = 7 }; at = 147; count = 1 })
 unfolding context look_up find_rule climb_turn best_rule better_of matches meets specificity index_of range_to turns_to loop_to loop_on range turns parts_from
 stated = refl
 
-cited : look_up pack read (context 5 1 0 0) ≡ Some (record { owner = 5; form = 1; label = 0; at = 9; count = 1 })
+cited : look_up pack read (context 5 1 0 false) ≡ Some (record { name = record { owner = 5; form = 1; label = 0 }; at = 9; count = 1 })
 unfolding context look_up find_rule climb_turn best_rule better_of matches meets specificity index_of range_to turns_to loop_to loop_on range turns parts_from
 cited = refl
 
 -- tone 2 after tone 1: the parent's rule, under the parent. Else nothing, as tone 2 has no citation
-inherited : look_up pack read (context 3 2 1 0) ≡ Some (record { owner = 5; form = 2; label = 6; at = 200; count = 1 })
+inherited : look_up pack read (context 3 2 1 false) ≡ Some (record { name = record { owner = 5; form = 2; label = 6 }; at = 200; count = 1 })
 unfolding context look_up find_rule climb_turn best_rule better_of matches meets specificity index_of range_to turns_to loop_to loop_on range turns parts_from
 inherited = refl
 
-contextual : look_up pack read (context 3 2 2 0) ≡ None
+contextual : look_up pack read (context 3 2 2 false) ≡ None
 unfolding context look_up find_rule climb_turn best_rule better_of matches meets specificity index_of range_to turns_to loop_to loop_on range turns parts_from
 contextual = refl
 
 -- an accent and a tone that are not held
-no_accent : look_up pack read (context 4 1 0 0) ≡ None
+no_accent : look_up pack read (context 4 1 0 false) ≡ None
 unfolding context look_up find_rule climb_turn best_rule better_of matches meets specificity index_of range_to turns_to loop_to loop_on range turns parts_from
 no_accent = refl
 
-no_tone : look_up pack read (context 3 4 0 0) ≡ None
+no_tone : look_up pack read (context 3 4 0 false) ≡ None
 unfolding context look_up find_rule climb_turn best_rule better_of matches meets specificity index_of range_to turns_to loop_to loop_on range turns parts_from
 no_tone = refl
 
@@ -123,8 +124,8 @@ fields3 = refl
 abbrev record4 : List ℕ
 record4 = 4 ∷ 8 ∷ 9 ∷ 3 ∷ 4 ∷ 2 ∷ 6 ∷ []
 
-fields4 : (rule_listing record4 5 0 ≡ record { owner = 5; form = 6; label = 0x0908; at = 7; count = 0 })
-    × (matches record4 (context 5 3 4 1) 0 ≡ true)
+fields4 : (rule_listing record4 5 0 ≡ record { name = record { owner = 5; form = 6; label = 0x0908 }; at = 7; count = 0 })
+    × (matches record4 (context 5 3 4 true) 0 ≡ true)
 unfolding context matches meets parts_from
 fields4 = (refl, refl)
 
@@ -135,7 +136,7 @@ record5 =
     28 ∷ 29 ∷ 30 ∷ 31 ∷ 32 ∷ 33 ∷ 34 ∷ 35 ∷ 36 ∷ 37 ∷ 38 ∷ 39 ∷ 40 ∷ 41 ∷ 42 ∷ 43 ∷ 44 ∷ 45 ∷ []
 
 abbrev parts : Listing
-parts = record { owner = 1; form = 3; label = 2; at = 0; count = 2 }
+parts = record { name = record { owner = 1; form = 3; label = 2 }; at = 0; count = 2 }
 
 fields5 : ((component_of (replicate 46 0 ++ record5) parts 1).weight ≡ f32 0x0403_0201)
     × (knots_of (replicate 46 0 ++ record5) parts 1 ≡ f32 0x0908_0706 ∷ f32 0x0d0c_0b0a ∷ f32 0x1110_0f0e ∷ f32 0x1514_1312 ∷ f32 0x1918_1716 ∷ [])

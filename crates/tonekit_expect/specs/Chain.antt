@@ -2,7 +2,8 @@
 use Rattle.std.specs.Prelude.{ℕ, suc, ◌+◌, ◌<◌, ◌≡◌, ◌⊎◌, List, Some, None, length, get_or}
 use Rattle.tonekit_core.specs.Layout.{accent_parent}
 use Rattle.tonekit_bytes.specs.Fields.{byte_at}
-use Rattle.tonekit_pack.specs.Pack.{Pst, number_at}
+use Rattle.tonekit_bytes.specs.Places.{number_at}
+use Rattle.tonekit_pack.specs.Pack.{Pst}
 use Rattle.tonekit_expect.specs.Lookup.{parent_of}
 
 -- "A parent stands earlier in the file": each accent's parent is 0 or the number of an earlier one; no number is 0

@@ -1,11 +1,12 @@
 -- Document 01's section Lookup, on a pack that was read: which curves a context takes. Names follow `expect.rs`.
 use Rattle.std.specs.Prelude.{ℕ, ◌+◌, ◌*◌, ◌≤◌, ◌<◌, Bool, true, cond, ◌&&◌, ◌||◌, ◌≡◌, List, Option, Some, None, eqb, ltb, length, get_or, Float}
-use Rattle.tonekit_core.specs.Loop.{Turn, next, stop, range, range_to, loop_to}
-use Rattle.tonekit_core.specs.Layout.{accent_parent, rule_size, rule_label, rule_tone, rule_prev, rule_final, rule_form}
+use Rattle.tonekit_core.specs.Loop.{Turn, next, stop, range, loop_to}
+use Rattle.tonekit_core.specs.Layout.{citation_form, mixture_form, accent_parent, rule_size, rule_label, rule_tone, rule_prev, rule_final, rule_form}
 use Rattle.tonekit_core.specs.Layout.{tone_knot_count, tone_knots, part_size, part_weight, part_knot_count, part_knots}
 use Rattle.tonekit_bytes.specs.Fields.{byte_at, u16_at, f32_at}
+use Rattle.tonekit_bytes.specs.Places.{number_at, index_of}
 use Rattle.tonekit_pack.specs.Ranges.{one_f}
-use Rattle.tonekit_pack.specs.Pack.{Pst, number_at, parts_from}
+use Rattle.tonekit_pack.specs.Pack.{Pst, parts_from}
 use Rattle.tonekit_expect.specs.Knots.{Knots, knots_at, expanded}
 use Rattle.tonekit_expect.specs.declared.Winner.{Winner}
 use Rattle.tonekit_expect.specs.declared.Context.{Context}
@@ -28,16 +29,9 @@ Walked = Option Winner
 abbrev pub won : ℕ → ℕ → Winner
 won i r = record { accent = i; rule = r }
 
--- the place of the record with number n among the records at these offsets
-abbrev pub index_turn : List ℕ → List ℕ → ℕ → ℕ → ℕ → Turn ℕ Found
-index_turn s os n i u = cond (eqb (number_at s (get_or os i 0)) n) (stop (Some i)) (next u)
-
-unfoldable pub index_of : List ℕ → List ℕ → ℕ → Found
-index_of s os n = range_to (index_turn s os n) (λ u. None) 0 (length os) 0
-
 -- a rule's final that asks for this phrase position: 1 is no, 2 is yes
 abbrev pub final_of : Context → ℕ
-final_of c = cond (eqb c.last 0) 1 2
+final_of c = cond c.last 2 1
 
 -- `matches`: a condition of 0 is any
 unfoldable pub meets : ℕ → ℕ → Bool
@@ -110,16 +104,14 @@ Placed n w = (x : Winner) → w ≡ Some x → (x.accent < n) × (x.rule < 65536
 -- the rule at r, under the number of the accent whose it is, with the parts that follow it
 abbrev pub rule_listing : List ℕ → ℕ → ℕ → Listing
 rule_listing s owner r = record {
-  owner = owner;
-  form = byte_at s (r + rule_form);
-  label = u16_at s (r + rule_label);
+  name = record { owner = owner; form = byte_at s (r + rule_form); label = u16_at s (r + rule_label) };
   at = r + rule_size;
   count = parts_from 4 s (r + rule_size);
 }
 
 -- "A citation has form 1, the graded accent as owner, label 0": that of the tone's record at o
 abbrev pub citation : ℕ → ℕ → Listing
-citation owner o = record { owner = owner; form = 1; label = 0; at = o; count = 1 }
+citation owner o = record { name = record { owner = owner; form = citation_form; label = 0 }; at = o; count = 1 }
 
 -- "If none matches on the chain, the tone's citation; if context only, nothing."
 abbrev pub listed : List ℕ → Pst → Context → ℕ → Walked → Look
@@ -147,13 +139,10 @@ part_knots_at s o = knots_at s (o + part_knots) (byte_at s (o + part_knot_count)
 unfoldable pub component_of : List ℕ → Listing → ℕ → Component
 unfolding knots_at
 component_of s l j =
-    cond (eqb l.form 1)
-    (record { owner = l.owner; form = l.form; label = l.label; part = 0; weight = one_f; points = expanded (tone_knots_at s l.at) })
+    cond (eqb l.name.form citation_form) (record { name = l.name; part = 0; weight = one_f; points = expanded (tone_knots_at s l.at) })
     (record {
-      owner = l.owner;
-      form = l.form;
-      label = l.label;
-      part = cond (eqb l.form 3) j 0;
+      name = l.name;
+      part = cond (eqb l.name.form mixture_form) j 0;
       weight = f32_at s (l.at + part_size * j + part_weight);
       points = expanded (part_knots_at s (l.at + part_size * j));
     })
@@ -161,7 +150,7 @@ component_of s l j =
 -- its knots
 abbrev pub knots_of : List ℕ → Listing → ℕ → List Float
 knots_of s l j =
-    cond (eqb l.form 1) (tone_knots_at s l.at) (part_knots_at s (l.at + part_size * j))
+    cond (eqb l.name.form citation_form) (tone_knots_at s l.at) (part_knots_at s (l.at + part_size * j))
 
 -- component j can be read, as in each listing that a pack that loads gives: it stands within the bytes, and its knots are in their ranges
 pub record Listed (s : List ℕ) (l : Listing) (j : ℕ) : Type 0 where

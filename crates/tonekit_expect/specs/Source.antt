@@ -6,7 +6,8 @@ use Rattle.std.specs.Float.Ieee.{to_bits}
 use Rattle.tonekit_core.specs.Layout.{settings_temperature, settings_threshold, tone_prior, tone_region, tone_from, tone_to}
 use Rattle.tonekit_core.specs.Layout.{accent_contour, accent_onset, accent_offset, accent_turning}
 use Rattle.tonekit_bytes.specs.Fields.{byte_at, u32_at}
-use Rattle.tonekit_pack.specs.Pack.{Pst, number_at}
+use Rattle.tonekit_bytes.specs.Places.{number_at}
+use Rattle.tonekit_pack.specs.Pack.{Pst}
 use Rattle.tonekit_expect.specs.Lookup.{Look, look_up, component_of}
 use Rattle.tonekit_expect.specs.declared.Context.{Context}
 use Rattle.tonekit_expect.specs.declared.Listing.{Listing}
@@ -60,7 +61,7 @@ tone_in [] n = false
 tone_in (t ∷ ts) n = eqb t.number n || tone_in ts n
 
 unfoldable pub carried : Component → Carried
-carried c = record { owner = c.owner; form = c.form; label = c.label; part = c.part; weight = to_bits binary32 c.weight; points = map (to_bits binary32) c.points }
+carried c = record { owner = c.name.owner; form = c.name.form; label = c.name.label; part = c.part; weight = to_bits binary32 c.weight; points = map (to_bits binary32) c.points }
 
 -- the first n components of a listing
 unfoldable pub components : List ℕ → Listing → ℕ → List Carried

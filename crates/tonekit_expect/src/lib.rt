@@ -4,16 +4,19 @@
 ghost use Rattle.std.specs.Prelude.{◌≡◌, ℕ, ◌+◌, ◌*◌, ◌≤◌, ◌<◌, None, false, cond, T, eqb, pos, get_or};
 ghost use Rattle.std.specs.Float.{fin, nan};
 ghost use Rattle.std.specs.Float.Ieee.{le, lt};
+ghost use Rattle.tonekit_core.specs.Layout.{mixture_form};
 ghost use Rattle.tonekit_core.specs.Loop.{range};
+ghost use Rattle.tonekit_bytes.specs.Places.{index_of};
 ghost use Rattle.tonekit_pack.specs.Held.{shown};
 ghost use Rattle.tonekit_expect.specs.Knots.{knot_before, on_line, point_at, expanded, knots_at, Point, Knots};
 ghost use Rattle.tonekit_pack.specs.Pack.{parts_from};
-ghost use Rattle.tonekit_expect.specs.Lookup.{index_of, final_of, meets, matches, one_if, specificity, better_of, best_turn, best_rule, parent_of, find_rule, Placed, rule_listing, listed, look_up, component_of, Listed};
+ghost use Rattle.tonekit_expect.specs.Lookup.{final_of, meets, matches, one_if, specificity, better_of, best_turn, best_rule, parent_of, find_rule, Placed, rule_listing, citation, listed, look_up, component_of, Listed};
 
+use tonekit_bytes::places::index_of;
 use tonekit_bytes::{byte_at, f32_at, u16_at};
-use tonekit_core::layout;
+use tonekit_core::{Name, layout};
 use tonekit_float::{f64_of, floor_index, narrow};
-use tonekit_pack::Pack;
+use tonekit_pack::PackView;
 
 // The rule that a walk up the parents found: its accent's index and its own offset.
 #[derive(Clone, Copy)]
@@ -22,67 +25,49 @@ pub struct Winner {
     pub rule: usize,
 }
 
-// A context, by the numbers of its accent, tone and previous tone (0 none), and 1 at the end of a
-// phrase.
-// Stays: final is handed over as the format's number, and any but 0 is the end of a phrase.
+// A context, by the numbers of its accent, tone and previous tone (0 none), and whether it is the end
+// of a phrase.
+// Stays: `prev` is 0 for none, as rules and rows hold it and `meets` compares it; an Option would be turned back to that byte at each.
 #[derive(Clone, Copy)]
 pub struct Context {
     pub accent: u8,
     pub tone: u8,
     pub prev: u8,
-    pub last: u8,
+    pub last: bool,
 }
 
-// The curves of a context: owner, form, label, and how many components stand at an offset.
-// Stays: the form is the format's number, which goes into sheets and reports as it stands.
+// The curves of a context: what they are called, and how many components stand at an offset.
 #[derive(Clone, Copy)]
 pub struct Listing {
-    pub owner: u8,
-    pub form: u8,
-    pub label: u16,
+    pub name: Name,
     pub at: usize,
     pub count: usize,
 }
 
 // One weighted curve, as in the Rust: what it is called, its weight and its ten points.
+// Stays: tonekit_judge's Component is what mixtures take of a slot, and has no field in common but the weight.
 #[derive(Drop)]
 pub struct Component {
-    pub owner: u8,
-    pub form: u8,
-    pub label: u16,
+    pub name: Name,
     pub part: u8,
     pub weight: f32,
     pub points: [f32; 10],
 }
 
-// The place of the record with number n among those at these offsets.
-fn index_of(s: &[u8], at: &[u16], n: u8) -> Option<usize>
-    ensures { result ≡ index_of s.now at.now n }
-{
-    for (i, o) in at.iter().enumerate() {
-        if byte_at(s, usize::from(*o), layout::OWN_NUMBER) == n {
-            return Some(i);
-        }
-    }
-    None
-}
-
 // The place of the accent with number n among a pack's accents, or none.
-// Stays: tones and accents are looked for alike by `index_of`; the two calls say in which of a pack's offsets.
-#[tactic(auto, using(crate::proofs::InOrder::order_take))]
-pub fn accent_index(s: &[u8], p: Pack, n: u8) -> Option<usize>
-    ensures { result ≡ index_of s.now (shown p).accents n }
+// Stays: accents and tones are one call each of the one search, which takes the offsets already; the two names say whose.
+pub fn accent_index(v: PackView<'_>, n: u8) -> Option<usize>
+    ensures { result ≡ index_of v.entry.bytes.now (shown v.entry.pack).accents n }
 {
-    index_of(s, &p.accentat[..p.accents], n)
+    index_of(v.bytes, v.pack.accents.offsets(), n)
 }
 
 // The place of the tone with number n among a pack's tones, or none.
 // Stays: see `accent_index`.
-#[tactic(auto, using(crate::proofs::InOrder::order_take))]
-pub fn tone_index(s: &[u8], p: Pack, n: u8) -> Option<usize>
-    ensures { result ≡ index_of s.now (shown p).tones n }
+pub fn tone_index(v: PackView<'_>, n: u8) -> Option<usize>
+    ensures { result ≡ index_of v.entry.bytes.now (shown v.entry.pack).tones n }
 {
-    index_of(s, &p.toneat[..p.tones], n)
+    index_of(v.bytes, v.pack.tones.offsets(), n)
 }
 
 // Whether a condition allows a value: 0 allows any.
@@ -94,11 +79,11 @@ fn meets(c: u8, x: u8) -> bool
 }
 
 // What a rule's final says of this phrase position, where it says anything.
-// Stays: the number is the format's, compared with a rule's byte.
+// Stays: `meets` compares a rule's byte with it, 0 for any, as with a tone's number; an enum would be turned back to that byte.
 fn final_of(c: Context) -> u8
     ensures { result ≡ final_of c }
 {
-    if c.last == 0 { 1 } else { 2 }
+    if c.last { 2 } else { 1 }
 }
 
 // Whether the rule at r matches the context.
@@ -115,7 +100,7 @@ fn matches(s: &[u8], c: Context, r: usize) -> bool
 fn one_if(c: u8) -> usize
     ensures { (result ≡ one_if c) × (result ≤ 1) }
 {
-    if c == 0 { 0 } else { 1 }
+    usize::from(c != 0)
 }
 
 // How many conditions a rule states.
@@ -149,14 +134,18 @@ fn better(s: &[u8], c: Context, best: Option<usize>, r: usize) -> Option<usize>
 }
 
 // The offset of rule k, 0 past the last.
+// Stays: beside tonekit_sheet_plan's `number_at`, which goes on to the record's number; what the two share is std's `get`.
 fn rule_at(at: &[u16], k: usize) -> usize
     ensures { result ≡ get_or at.now k 0 }
 {
-    if k < at.len() { usize::from(at[k]) } else { 0 }
+    match at.get(k) {
+        Some(o) => usize::from(*o),
+        None => 0,
+    }
 }
 
 // The best of the rules from one place to another.
-// Stays: rules past the last have none, so `from..to` may go past the array, and no slice of it is given.
+// Stays: of a pack that no reader made, `from..to` may go past the offsets, where each turn has offset 0 by the definition; a slice of them would end before.
 fn best_among(s: &[u8], c: Context, at: &[u16], from: usize, to: usize) -> Option<usize>
     ensures { result ≡ range (best_turn s.now at.now c) from to None }
 {
@@ -168,53 +157,46 @@ fn best_among(s: &[u8], c: Context, at: &[u16], from: usize, to: usize) -> Optio
 }
 
 // The best of accent i's own rules.
-fn best_rule(s: &[u8], p: Pack, c: Context, i: usize) -> Option<usize>
-    requires { i < p.accents }
-    ensures { result ≡ best_rule s.now (shown p) c i }
+fn best_rule(v: PackView<'_>, c: Context, i: usize) -> Option<usize>
+    requires { i < v.pack.accents.count }
+    ensures { result ≡ best_rule v.entry.bytes.now (shown v.entry.pack) c i }
 {
-    let from = usize::from(p.firstrule[i]);
-    let to = if i + 1 < p.accents {
-        usize::from(p.firstrule[i + 1])
+    let from = usize::from(v.pack.firstrule[i]);
+    let to = if i + 1 < v.pack.accents.count {
+        usize::from(v.pack.firstrule[i + 1])
     } else {
-        p.rules
+        v.pack.rules.count
     };
-    best_among(s, c, &p.ruleat[..p.rules], from, to)
+    best_among(v.bytes, c, v.pack.rules.offsets(), from, to)
 }
 
 // The place of accent i's parent, or none.
-fn parent_index(s: &[u8], p: Pack, i: usize) -> Option<usize>
-    requires { i < p.accents }
-    ensures { result ≡ parent_of s.now (shown p) i }
+fn parent_index(v: PackView<'_>, i: usize) -> Option<usize>
+    requires { i < v.pack.accents.count }
+    ensures { result ≡ parent_of v.entry.bytes.now (shown v.entry.pack) i }
 {
-    let o = usize::from(p.accentat[i]);
-    accent_index(s, p, byte_at(s, o, layout::ACCENT_PARENT))
+    let o = usize::from(v.pack.accents.at[i]);
+    accent_index(v, byte_at(v.bytes, o, layout::ACCENT_PARENT))
 }
 
 // The rule that a walk from accent i up its parents ends with: the best of the first accent that has
 // one that matches; i is the place of one of the pack's accents.
-pub fn find_rule(s: &[u8], p: Pack, c: Context, i: usize) -> Option<Winner>
-    requires { i < p.accents }
-    ensures { result ≡ find_rule s.now (shown p) c i }
+pub fn find_rule(v: PackView<'_>, c: Context, i: usize) -> Option<Winner>
+    requires { i < v.pack.accents.count }
+    ensures { result ≡ find_rule v.entry.bytes.now (shown v.entry.pack) c i }
 {
     let mut a = i;
-    let mut left = p.accents;
-    let found = loop {
-        if left == 0 {
-            break None;
+    for _ in 0..v.pack.accents.count {
+        if let Some(r) = best_rule(v, c, a) {
+            return Some(Winner { accent: a, rule: r });
         }
-        if let Some(r) = best_rule(s, p, c, a) {
-            break Some(Winner { accent: a, rule: r });
-        }
-        let Some(parent) = parent_index(s, p, a) else {
-            break None;
-        };
-        a = parent;
-        left -= 1;
-    };
-    found
+        a = parent_index(v, a)?;
+    }
+    None
 }
 
 // How many parts follow a rule that ends at o, at most 4.
+// Stays: a part's is the one kind that is asked for; by tonekit_pack's Kind each byte would first become a Result.
 fn parts_from(s: &[u8], o: usize) -> usize
     ensures { result ≡ parts_from 4 s.now o }
 {
@@ -231,53 +213,64 @@ pub fn rule_listing(s: &[u8], owner: u8, r: usize) -> Listing
     requires { r < 65536 }
     ensures { result ≡ rule_listing s.now owner r }
 {
-    let form = byte_at(s, r, layout::RULE_FORM);
-    let label = u16_at(s, r, layout::RULE_LABEL);
-    let at = r + layout::RULE_SIZE;
-    let count = parts_from(s, at);
-    Listing {
+    let name = Name {
         owner,
-        form,
-        label,
+        form: byte_at(s, r, layout::RULE_FORM),
+        label: u16_at(s, r, layout::RULE_LABEL),
+    };
+    let at = r + layout::RULE_SIZE;
+    Listing {
+        name,
         at,
-        count,
+        count: parts_from(s, at),
+    }
+}
+
+// The citation of the tone at o, under an accent's number.
+pub fn citation(owner: u8, o: usize) -> Listing
+    ensures { result ≡ citation owner o }
+{
+    let name = Name {
+        owner,
+        form: layout::CITATION_FORM,
+        label: 0,
+    };
+    Listing {
+        name,
+        at: o,
+        count: 1,
     }
 }
 
 // What the winning rule gives, or the citation of the tone at o.
-fn listing_of(s: &[u8], p: Pack, c: Context, o: usize, w: Option<Winner>) -> Option<Listing>
-    requires { Placed p.accents w }
-    ensures { result ≡ listed s.now (shown p) c o w }
+fn listing_of(v: PackView<'_>, c: Context, o: usize, w: Option<Winner>) -> Option<Listing>
+    requires { Placed v.pack.accents.count w }
+    ensures { result ≡ listed v.entry.bytes.now (shown v.entry.pack) c o w }
 {
     match w {
         Some(w) => {
-            let a = usize::from(p.accentat[w.accent]);
-            Some(rule_listing(s, byte_at(s, a, layout::OWN_NUMBER), w.rule))
+            let a = usize::from(v.pack.accents.at[w.accent]);
+            let owner = byte_at(v.bytes, a, layout::OWN_NUMBER);
+            Some(rule_listing(v.bytes, owner, w.rule))
         }
         None => {
-            if byte_at(s, o, layout::TONE_KNOT_COUNT) == 0 {
+            if byte_at(v.bytes, o, layout::TONE_KNOT_COUNT) == 0 {
                 return None;
             }
-            Some(Listing {
-                owner: c.accent,
-                form: 1,
-                label: 0,
-                at: o,
-                count: 1,
-            })
+            Some(citation(c.accent, o))
         }
     }
 }
 
 // The curves of a context: those of the rule that its walk found, else the tone's citation; nothing
 // where that is for contexts only, or accent or tone is not held.
-pub fn look_up(s: &[u8], p: Pack, c: Context) -> Option<Listing>
-    ensures { result ≡ look_up s.now (shown p) c }
+pub fn look_up(v: PackView<'_>, c: Context) -> Option<Listing>
+    ensures { result ≡ look_up v.entry.bytes.now (shown v.entry.pack) c }
 {
-    let i = accent_index(s, p, c.accent)?;
-    let t = tone_index(s, p, c.tone)?;
-    let o = usize::from(p.toneat[t]);
-    listing_of(s, p, c, o, find_rule(s, p, c, i))
+    let i = accent_index(v, c.accent)?;
+    let t = tone_index(v, c.tone)?;
+    let o = usize::from(v.pack.tones.at[t]);
+    listing_of(v, c, o, find_rule(v, c, i))
 }
 
 // The knot at or before a position, but never the last one.
@@ -331,12 +324,15 @@ pub fn expand_knots(knots: &[f32]) -> [f32; 10]
 }
 
 // A part's number: its place in a mixture.
-// Stays: the form is the format's number.
-fn part_number(form: u8, j: usize) -> u8
+fn part_number(name: Name, j: usize) -> u8
     requires { j < 4 }
-    ensures { result ≡ cond (eqb form 3) j 0 }
+    ensures { result ≡ cond (eqb name.form mixture_form) j 0 }
 {
-    if form == 3 { j as u8 } else { 0 }
+    if name.form == layout::MIXTURE_FORM {
+        j as u8
+    } else {
+        0
+    }
 }
 
 // The points of the n knots that stand from o on.
@@ -358,28 +354,22 @@ pub fn component_at(s: &[u8], l: Listing, j: usize) -> Component
     requires { Listed s.now l j }
     ensures { (result ≡ component_of s.now l j) × ((k : ℕ) → k < 10 → Point (get_or result.points k nan)) }
 {
-    if l.form == 1 {
+    let name = l.name;
+    if name.form == layout::CITATION_FORM {
         let n = usize::from(byte_at(s, l.at, layout::TONE_KNOT_COUNT));
-        let points = points_at(s, l.at + layout::TONE_KNOTS, n);
         return Component {
-            owner: l.owner,
-            form: l.form,
-            label: l.label,
+            name,
             part: 0,
             weight: 1.0,
-            points: points,
+            points: points_at(s, l.at + layout::TONE_KNOTS, n),
         };
     }
     let o = l.at + layout::PART_SIZE * j;
     let n = usize::from(byte_at(s, o, layout::PART_KNOT_COUNT));
-    let points = points_at(s, o + layout::PART_KNOTS, n);
-    let weight = f32_at(s, o, layout::PART_WEIGHT);
     Component {
-        owner: l.owner,
-        form: l.form,
-        label: l.label,
-        part: part_number(l.form, j),
-        weight: weight,
-        points: points,
+        name,
+        part: part_number(name, j),
+        weight: f32_at(s, o, layout::PART_WEIGHT),
+        points: points_at(s, o + layout::PART_KNOTS, n),
     }
 }

@@ -67,6 +67,7 @@ pub fn st_to_chao(floor: f64, width: f64, st: f64) -> f64
 }
 
 // Whether frame i is voiced.
+// Stays: `is_voiced` under this crate's definition; without it each caller cites the lemma by which the two definitions are one.
 #[tactic(auto, using(tonekit_query::proofs::Steps::frame_voiced_lem))]
 pub fn voiced(frames: &[u8], i: usize) -> bool
     ensures { result ≡ voiced frames.now i }
@@ -235,47 +236,50 @@ fn normal_equations(m: Moments) -> [[f64; 4]; 3]
     ]
 }
 
-// Stays: rows and columns are numbers below 3, in three contracts: a type of three cases for them would index by a match.
+// The number of an equation or of an unknown, of which there are three.
+#[derive(Clone, Copy)]
+struct Number {
+    at: usize,
+    ghost of_three: { at < 3 },
+}
+
 // The row at or below col with the greatest size in that column, the later of equals.
 #[tactic(auto, using(tonekit_core::specs::Loop::again, tonekit_core::specs::Loop::ended))]
-fn pivot_of(m: [[f64; 4]; 3], col: usize) -> usize
-    requires { col < 3 }
-    ensures { (result ≡ pivot_of m col) × (result < 3) }
+fn pivot_of(m: [[f64; 4]; 3], col: Number) -> Number
+    ensures { result.at ≡ pivot_of m col.at }
 {
-    let mut best = col;
-    // Stays: the number of a row is what is sought, and its value is compared with that of the best so far.
-    for i in col + 1..3 {
-        if tonekit_float::total_le(m[best][col].abs(), m[i][col].abs()) {
+    let mut best = col.at;
+    // Stays: by enumerate and skip it would be no plainer, since the row so far is still found by its number, which is the answer.
+    for i in col.at + 1..3 {
+        if tonekit_float::total_le(m[best][col.at].abs(), m[i][col.at].abs()) {
             best = i;
         }
     }
-    best
+    Number { at: best }
 }
 
 // Row `row` less the multiple of row `col` that clears its column `col`.
 #[tactic(auto, using(tonekit_core::specs::Loop::again, tonekit_core::specs::Loop::ended))]
-fn row_cleared(m: [[f64; 4]; 3], col: usize, row: usize) -> [[f64; 4]; 3]
-    requires { (col < 3) × (row < 3) }
-    ensures { result ≡ row_cleared col row m }
+fn row_cleared(m: [[f64; 4]; 3], col: Number, row: Number) -> [[f64; 4]; 3]
+    ensures { result ≡ row_cleared col.at row.at m }
 {
     let mut t = m;
-    let f = t[row][col] / t[col][col];
-    // Stays: a cell of one row is written by that of another in its column.
-    for k in col..4 {
-        t[row][k] = t[row][k] - f * t[col][k];
+    let f = t[row.at][col.at] / t[col.at][col.at];
+    // Stays: iter_mut and zip would be no plainer: both rows would be cut from col.at on first, row col out of m, of which t is a copy.
+    for k in col.at..4 {
+        t[row.at][k] = t[row.at][k] - f * t[col.at][k];
     }
     t
 }
 
 // Every row below `col` cleared in that column.
 #[tactic(auto, using(tonekit_core::specs::Loop::again, tonekit_core::specs::Loop::ended))]
-fn below_cleared(m: [[f64; 4]; 3], col: usize) -> [[f64; 4]; 3]
-    requires { col < 3 }
-    ensures { result ≡ below_cleared col m }
+fn below_cleared(m: [[f64; 4]; 3], col: Number) -> [[f64; 4]; 3]
+    ensures { result ≡ below_cleared col.at m }
 {
     let mut t = m;
-    for row in col + 1..3 {
-        let next = row_cleared(t, col, row);
+    for row in col.at + 1..3 {
+        let next = row_cleared(t, col, Number { at: row });
         t = next;
     }
     t
@@ -297,14 +301,15 @@ pub fn lead(start: [[f64; 4]; 3]) -> f64
     ensures { result ≡ lead_of start }
 {
     let mut m = start;
-    // Stays: each turn works on the whole grid, by the number of the column.
+    // Stays: no iterator over the grid can be held, since each turn changes the grid as a whole.
     for col in 0..3usize {
-        let p = pivot_of(m, col);
-        if m[p][col].abs() < 1e-12 {
+        let number = Number { at: col };
+        let pivot = pivot_of(m, number);
+        if m[pivot.at][col].abs() < 1e-12 {
             return 0.0;
         }
-        m.swap(col, p);
-        let next = below_cleared(m, col);
+        m.swap(col, pivot.at);
+        let next = below_cleared(m, number);
         m = next;
     }
     first_of(m)

@@ -1,23 +1,23 @@
--- The cases of a float by the tests `x > 0.0`, `x < 1.0 / 0.0` and `x == 0.0`, in this order. Assumes nothing.
+-- The cases of a float by the tests `x > 0.0`, `x < f64::INFINITY` and `x == 0.0`, in this order. Assumes nothing.
 use Rattle.std.proofs.Common.{◌≡◌, ℕ, zero, suc, ◌+◌, ◌*◌, ◌<◌, Bool, true, false, ◌&&◌, T, eqb, ℤ, refl, lt_irrefl, zero-lt-suc, mul-pos, arith, eqb→eq, ltb→lt, lt→ltb, T_not, Float}
-use lib.Ieee.{nan, inf, fin, up, down, binary64, lt, eq, of_bits, div}
+use lib.Ieee.{nan, inf, fin, up, down, binary64, lt, eq, of_bits}
 use lib.Ieee.Fits.{up_pos, and_l, and_i, eq→eqb}
 use Rattle.tonekit_float.proofs.Order.{yes, no}
 use Rattle.tonekit_float.proofs.Monotone.{zero_f}
 
--- the tests as the code has them, with 0 by its pattern and infinity as 1 / 0
+-- the tests as the code has them, with 0 and infinity by their patterns
 abbrev pub zero64 : Float
 zero64 = of_bits binary64 0
 
 abbrev pub inf64 : Float
-inf64 = div binary64 (of_bits binary64 0x3ff0_0000_0000_0000) zero64
+inf64 = of_bits binary64 0x7ff0_0000_0000_0000
 
 pub positive : (x : Float) → lt zero64 x ≡ true → T (lt zero_f x)
 unfolding of_bits
 positive x h = yes h
 
 pub limited : (x : Float) → lt x inf64 ≡ true → T (lt x (inf false))
-unfolding of_bits div
+unfolding of_bits
 limited x h = yes h
 
 -- ---- above 0 and below infinity
@@ -37,7 +37,7 @@ above (fin false (suc m) e) g h = record { m = m; e = e; is = refl }
 
 -- ---- above 0 and not below infinity
 pub at_infinity : (x : Float) → lt zero64 x ≡ true → lt x inf64 ≡ false → x ≡ inf false
-unfolding lt of_bits div
+unfolding lt of_bits
 at_infinity nan g h = absurd (yes g)
 at_infinity (inf true) g h = absurd (yes g)
 at_infinity (inf false) g h = refl

@@ -13,8 +13,10 @@ ghost use Rattle.tonekit_float.specs.Pick.{lesser, greater};
 ghost use Rattle.tonekit_float.specs.Magnitude.{total_le};
 ghost use Rattle.tonekit_float.specs.Whole.{whole_part, round_up};
 
-// A float of either width: its bits, its order, and its infinity.
-pub trait AnyFloat: PartialOrd + Copy {
+use std::ops::Sub;
+
+// A float of either width: its bits, its order, its differences and its infinities.
+pub trait AnyFloat: PartialOrd + Copy + Sub<Output = Self> {
     // The whole number of as many bits.
     type Bits: Copy;
 
@@ -47,6 +49,12 @@ pub trait AnyFloat: PartialOrd + Copy {
     ghost order_law: { (a b : Self)
         → Self.partial_cmp a b ≡ float_partial_cmp (float a) (float b) };
 
+    // Any two have a difference, and it is that of floats.
+    ghost can_sub_law: { (a b : Self) → Self.can_sub a b };
+
+    ghost sub_law: { (a b d : Self)
+        → Self.sub_gives a b d → float d ≡ Ieee.sub format (float a) (float b) };
+
     ghost infinity_law: { float INFINITY ≡ inf false };
 
     ghost minus_infinity_law: { float MINUS_INFINITY ≡ inf true };
@@ -61,11 +69,11 @@ impl AnyFloat for f32 {
 
     ghost number = { λ b. b };
 
-    const INFINITY: f32 = 1.0 / 0.0;
+    const INFINITY: f32 = f32::INFINITY;
 
     ghost INFINITY = { inf false };
 
-    const MINUS_INFINITY: f32 = -1.0 / 0.0;
+    const MINUS_INFINITY: f32 = f32::NEG_INFINITY;
 
     ghost MINUS_INFINITY = { inf true };
 
@@ -81,6 +89,10 @@ impl AnyFloat for f32 {
 
     ghost order_law = { λ a b. refl };
 
+    ghost can_sub_law = { λ a b. tt };
+
+    ghost sub_law = { λ a b d e. e };
+
     ghost infinity_law = { refl };
 
     ghost minus_infinity_law = { refl };
@@ -95,11 +107,11 @@ impl AnyFloat for f64 {
 
     ghost number = { λ b. b };
 
-    const INFINITY: f64 = 1.0 / 0.0;
+    const INFINITY: f64 = f64::INFINITY;
 
     ghost INFINITY = { inf false };
 
-    const MINUS_INFINITY: f64 = -1.0 / 0.0;
+    const MINUS_INFINITY: f64 = f64::NEG_INFINITY;
 
     ghost MINUS_INFINITY = { inf true };
 
@@ -114,6 +126,10 @@ impl AnyFloat for f64 {
     ghost eq_law = { λ a b. refl };
 
     ghost order_law = { λ a b. refl };
+
+    ghost can_sub_law = { λ a b. tt };
+
+    ghost sub_law = { λ a b d e. e };
 
     ghost infinity_law = { refl };
 
@@ -170,19 +186,26 @@ pub fn f64_of(n: usize) -> f64
 // The exponent's field, in an f64, of the least f32 that is not subnormal.
 const LEAST_FIELD: u64 = 897;
 
-// The nearest f32 to an x above 0. From halfway past the largest f32 on it is infinity. Below that
+// A float above 0.
+#[derive(Clone, Copy)]
+pub struct Positive {
+    pub value: f64,
+    ghost above: { T (Ieee.lt (fin false 0 (pos 0)) value) },
+}
+
+// The nearest f32 to a float above 0. From halfway past the largest f32 on it is infinity. Below that
 // x is added to a power of two so large that the sum's last digit is the last that an f32 near x
 // has, so the sum rounds as the cast would, and the rest is exact.
-fn narrow_above(x: f64) -> f32
-    requires { T (Ieee.lt (Ieee.fin false 0 (pos 0)) x) }
-    ensures { result ≡ narrowed x }
+fn narrow_above(positive: Positive) -> f32
+    ensures { result ≡ narrowed positive.value }
 {
+    let x = positive.value;
     if x < 340282356779733661637539395458142568448.0 {
         let field = f64::to_bits(x) / 0x10_0000_0000_0000;
         let c = f64::from_bits((field.max(LEAST_FIELD) + 29) * 0x10_0000_0000_0000);
         ((x + c) - c) as f32
     } else {
-        1.0 / 0.0
+        f32::INFINITY
     }
 }
 
@@ -191,18 +214,19 @@ pub fn narrow(x: f64) -> f32
     ensures { result ≡ narrowed x }
 {
     if x > 0.0 {
-        narrow_above(x)
+        narrow_above(Positive { value: x })
     } else if x < 0.0 {
-        -narrow_above(-x)
+        -narrow_above(Positive { value: -x })
     } else if x == 0.0 {
         x as f32
     } else {
-        0.0 / 0.0
+        f32::NAN
     }
 }
 
 // Whether a is at most b, a NaN being the greatest. It is the order of Rust's `total_cmp` for values
 // whose sign bit is clear, where a NaN stands above infinity; the port compares no others by it.
+// Stays: std's `total_cmp` tells the signs of zeros and of NaNs apart, and this order doesn't.
 pub fn total_le(a: f64, b: f64) -> bool
     ensures { result ≡ total_le a b }
 {

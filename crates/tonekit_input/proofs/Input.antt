@@ -1,7 +1,7 @@
 -- The programs' input: two bytes of length, so many of a pack or a sheet, and a query. The parts that are lent to a call, and how many bytes are enough. Assumes nothing.
-use Rattle.std.proofs.Common.{ℕ, zero, suc, ◌+◌, ◌-◌, ◌≤◌, ◌<◌, min, ◌≡◌, refl, sym, ◌∙◌, Bool, true, false, List, [], ◌∷◌, le_of_suc-le-suc, not-suc-le-zero, arith, leb-true, leb-false, leb, length, take, drop, length-drop, drop_of_length-le, take_all, take-take, drop-drop, get_or-take}
+use Rattle.std.proofs.Common.{ℕ, ◌+◌, ◌-◌, ◌≤◌, ◌<◌, min, ◌≡◌, refl, sym, ap, ◌∙◌, Bool, true, false, List, arith, leb-true, leb-false, leb, length, take, drop, length-drop, drop_of_length-le, take_all, take-take, drop-drop, get_or-take}
+use Rattle.std.proofs.lemmas.List.{drop-take}
 use native.Mathlib.Nat.{min-eq_left}
-use lib.Seq.{take-nil}
 use Rattle.tonekit_bytes.specs.Fields.{byte_at, u16_at}
 use Rattle.tonekit_query.proofs.Parts.{cut}
 use Rattle.tonekit_input.specs.Input.{held_of, query_of}
@@ -19,18 +19,17 @@ rest s a =
     take_all (length s - min a (length s)) (drop (min a (length s)) s) (omega arith) ∙ behind s a (leb a (length s)) refl
 
 -- the bytes behind the length, so many of them, and those behind these
-pub held_is : (s : List ℕ) (size from to : ℕ) → size ≡ u16_at s 0 → from ≡ min 2 (length s) → to ≡ min (2 + size) (length s) → take (to - from) (drop from s) ≡ held_of s
-held_is s size from to size_is first last = rw (last, first, size_is) (cut s 2 (u16_at s 0))
+pub held_is : (s : List ℕ) (from to : ℕ) → from ≡ min 2 (length s) → to ≡ min (2 + u16_at s 0) (length s) → take (to - from) (drop from s) ≡ held_of s
+held_is s from to first last = rw (last, first) (cut s 2 (u16_at s 0))
 
-pub query_is : (s : List ℕ) (size from : ℕ) → size ≡ u16_at s 0 → from ≡ min (2 + size) (length s) → take (length s - from) (drop from s) ≡ query_of s
-query_is s size from size_is first = rw (first, size_is) (rest s (2 + u16_at s 0) ∙ sym (drop-drop (u16_at s 0) 2 s))
+pub query_is : (s : List ℕ) (from : ℕ) → from ≡ min (2 + u16_at s 0) (length s) → take (length s - from) (drop from s) ≡ query_of s
+query_is s from first = rw first (rest s (2 + u16_at s 0) ∙ sym (drop-drop (u16_at s 0) 2 s))
 
 -- 75,824 bytes: two of length, the longest pack or sheet, and 10,287 of the query
 drop_take : (k n : ℕ) (s : List ℕ) → k ≤ n → drop k (take n s) ≡ take (n - k) (drop k s)
-drop_take zero n s h = let e : n - 0 ≡ n = omega arith in rw e
-drop_take (suc k) zero s h = absurd (not-suc-le-zero h)
-drop_take (suc k) (suc n) [] h = sym (take-nil (suc n - suc k))
-drop_take (suc k) (suc n) (x ∷ s) h = let e : suc n - suc k ≡ n - k = omega arith in rw e (drop_take k n s (le_of_suc-le-suc h))
+drop_take k n s h =
+    let e : n ≡ k + (n - k) = omega arith in
+    ap (λ (m : ℕ). drop k (take m s)) e ∙ drop-take k (n - k) s
 
 module _ (s : List ℕ) (bytes : (i : ℕ) → byte_at s i < 256) (n : ℕ) (h : 75824 ≤ n) where
   size_same : u16_at (take n s) 0 ≡ u16_at s 0

@@ -9,28 +9,29 @@ use Rattle.tonekit_expect.specs.Source.{Carried, carried, components, given, sou
 use Rattle.tonekit_expect.specs.declared.Context.{Context}
 use Rattle.tonekit_expect.specs.declared.Listing.{Listing}
 use Rattle.tonekit_expect.proofs.Carried.{named, part_number, components_length, components_at}
-use Rattle.tonekit_inventory.specs.declared.Named.{Named}
+use Rattle.tonekit_core.specs.declared.Name.{Name}
+use Rattle.tonekit_judge.specs.Judge.{count_in, name_in}
 use Rattle.tonekit_inventory.specs.Gather.{named_of}
 use Rattle.tonekit_inventory.proofs.Few.{Few, look_few}
 use Rattle.tonekit_inventory.proofs.Floats.{points_ten}
 use Rattle.tonekit_inventory.proofs.Tones.{listing_named}
 
 -- a component under the name of its listing, at place k of it
-pub record Under (name : Named) (k : ℕ) (c : Carried) : Type 0 where
+pub record Under (name : Name) (k : ℕ) (c : Carried) : Type 0 where
   pub owner : c.owner ≡ name.owner
   pub form : c.form ≡ name.form
   pub label : c.label ≡ name.label
   pub part : c.part ≡ cond (eqb name.form 3) k 0
   pub ten : length c.points ≡ 10
 
-pub named_count : (cs : List Carried) → (named_of cs).count ≡ length cs
+pub named_count : (cs : List Carried) → count_in (named_of cs) ≡ length cs
 named_count [] = refl
 named_count (c ∷ cs) = refl
 
 -- at most four components under one name
 pub record Alike (d : Carried) (cs : List Carried) : Type 0 where
   pub few : length cs ≤ 4
-  pub each : (k : ℕ) → k < length cs → Under (named_of cs) k (get_or cs k d)
+  pub each : (k : ℕ) → k < length cs → Under (name_in (named_of cs)) k (get_or cs k d)
 
 module _ (s : List ℕ) (l : Listing) (d : Carried) (f : Few l) where
   abbrev cs : List Carried
@@ -40,7 +41,7 @@ module _ (s : List ℕ) (l : Listing) (d : Carried) (f : Few l) where
   unfolding carried
   ten k = length-map (component_of s l k).points _ ∙ points_ten s l k
 
-  under : (k : ℕ) → k < l.count → Under (named_of cs) k (get_or cs k d)
+  under : (k : ℕ) → k < l.count → Under (name_in (named_of cs)) k (get_or cs k d)
   under k h =
       let n = listing_named s l f.some in
       let m = named s l k in

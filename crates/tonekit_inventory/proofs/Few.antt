@@ -1,7 +1,8 @@
 -- What a lookup in a pack that loads lists: one to four components that can be read. Assumes nothing.
-use Rattle.std.proofs.Common.{ℕ, ◌+◌, ◌≤◌, ◌<◌, ◌≡◌, refl, sym, ◌∙◌, subst, List, arith, eqb, ltb, length, get_or, ltb-true}
+use Rattle.std.proofs.Common.{ℕ, ◌+◌, ◌≤◌, ◌<◌, ◌≡◌, refl, sym, ap, ◌∙◌, subst, List, arith, eqb, ltb, length, get_or, ltb-true}
 use Rattle.tonekit_bytes.specs.Fields.{byte_at}
-use Rattle.tonekit_pack.specs.Pack.{Pst, loaded, read_pack, number_at, parts_from}
+use Rattle.tonekit_pack.specs.Pack.{Pst, Out, loaded, refused, read_pack, parts_from}
+use Rattle.tonekit_bytes.specs.Places.{number_at, index_of}
 use Rattle.tonekit_pack.specs.declared.Pack.{Pack}
 use Rattle.tonekit_pack.specs.Held.{shown, ReadFrom}
 use Rattle.tonekit_core.proofs.Split.{split}
@@ -10,10 +11,10 @@ use Rattle.std.specs.Prelude.{Option, Some, None}
 use Rattle.tonekit_expect.specs.declared.Winner.{Winner}
 use Rattle.tonekit_expect.specs.declared.Context.{Context}
 use Rattle.tonekit_expect.specs.declared.Listing.{Listing}
-use Rattle.tonekit_expect.specs.Lookup.{Found, Look, index_of, to_rule, find_rule, rule_listing, citation, listed, look_at, look_up}
+use Rattle.tonekit_expect.specs.Lookup.{Found, Look, to_rule, find_rule, rule_listing, citation, listed, look_at, look_up}
 use Rattle.tonekit_expect.proofs.Walk.{index_found, winner_is}
 use Rattle.tonekit_expect.proofs.Curves.{listed_fine}
-use Rattle.tonekit_inventory.specs.OfPack.{Looked}
+use Rattle.tonekit_inventory.specs.OfPack.{pack_in, Looked}
 
 pub record Few (l : Listing) : Type 0 where
   pub some : 1 ≤ l.count
@@ -53,8 +54,14 @@ pub look_few : (s : List ℕ) (st : Pst) (e : ℕ) → read_pack s ≡ loaded st
 unfolding look_up
 look_few s st e p c l q = of_places s st e (loads s st e p) c l (index_of s st.accents c.accent) (index_of s st.tones c.tone) refl q
 
-pub looked : (s : List ℕ) (p : Pack) → ReadFrom s p → (c : Context) (k : Look) → k ≡ look_up s (shown p) c → Looked s k
-looked s p r c k e l q =
+-- a pack that is held was read from its bytes
+read_from : (s : List ℕ) (p : Pack) (o : Out) → read_pack s ≡ o → pack_in o ≡ Some (shown p) → ReadFrom s p
+read_from s p (loaded st e) q h = let is : st ≡ shown p = cc in record { end = e; reads = q ∙ ap (λ (x : Pst). loaded x e) is }
+read_from s p (refused r place) q h = let n : ◌≡◌ {A = ℕ} 0 1 = cc in absurd (omega arith)
+
+pub looked : (s : List ℕ) (p : Pack) → pack_in (read_pack s) ≡ Some (shown p) → (c : Context) (k : Look) → k ≡ look_up s (shown p) c → Looked s k
+looked s p h c k e l q =
+    let r = read_from s p (read_pack s) refl h in
     let is : look_up s (shown p) c ≡ Some l = sym e ∙ q in
     let f = look_few s (shown p) r.end r.reads c l is in
     record { some = f.some; few = f.few; each = λ j h. listed_fine s (shown p) r.end r.reads c l j is h }

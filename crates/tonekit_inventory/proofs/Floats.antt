@@ -75,7 +75,7 @@ unfolding component_of
 component_held s l j =
     let cited = knots_at s (l.at + 7) (byte_at s (l.at + 6)) in
     let own = knots_at s (l.at + 46 * j + 6) (byte_at s (l.at + 46 * j + 5)) in
-    split (eqb l.form 1)
+    split (eqb l.name.form 1)
     (λ t. rw t (record { weight = one_fits; points = first_fit cited 10 (knots_fit s (l.at + 7) (byte_at s (l.at + 6))); count = ten cited }))
     (λ t. rw t (record { weight = of_bits-fits binary32 (u32_at s (l.at + 46 * j + 1)); points = first_fit own 10 (knots_fit s (l.at + 46 * j + 6) (byte_at s (l.at + 46 * j + 5))); count = ten own }))
 

@@ -1,18 +1,18 @@
 -- The loop over the tones of whatever a station holds: from each tone on the definition gives what it gives of the whole. Assumes nothing.
-use Rattle.std.proofs.Common.{ℕ, zero, suc, ◌+◌, ◌≤◌, ◌<◌, ◌≡◌, refl, List, [], ◌∷◌, map, length, get_or, set, replicate, arith}
+use Rattle.std.specs.Prelude.{Option, Some, None}
+use Rattle.std.proofs.Common.{ℕ, zero, suc, ◌+◌, ◌≤◌, ◌<◌, ◌≡◌, refl, List, [], ◌∷◌, ◌++◌, map, length, length-append, get_or, arith, ltb, lt-ltb, true}
 use Rattle.tonekit_core.specs.Loop.{range, again, ended}
 use Rattle.tonekit_expect.specs.Source.{Carried, Source}
 use Rattle.tonekit_expect.specs.declared.Context.{Context}
-use Rattle.tonekit_judge.specs.declared.Inventory.{Inventory}
 use Rattle.tonekit_judge.specs.declared.ToneEntry.{ToneEntry}
+use Rattle.tonekit_judge.specs.declared.Listed.{Listed}
 use Rattle.tonekit_judge.specs.declared.Slots.{Slots}
-use Rattle.tonekit_inventory.specs.declared.Named.{Named}
-use Rattle.tonekit_judge.specs.Judge.{listing, no_entry}
-use Rattle.tonekit_inventory.specs.Gather.{Lists, entry_of, named_of, with_tone, put_in, slotted, blank_entry, no_tone, given_of, in_context, list_tone, listings, no_slots, no_inventory}
+use Rattle.tonekit_judge.specs.Judge.{Inventory, listing, no_entry, count_in}
+use Rattle.tonekit_inventory.specs.Gather.{Lists, entry_of, named_of, with_tone, put_in, slotted, no_tone, given_of, in_context, list_tone, listings, no_slots}
 
 -- ---- a listing's name is that of its first component
 pub first_named : (cs : List Carried) (d : Carried) → 1 ≤ length cs
-    → named_of cs ≡ record { owner = (get_or cs 0 d).owner; form = (get_or cs 0 d).form; label = (get_or cs 0 d).label; count = length cs }
+    → named_of cs ≡ Some (record { name = record { owner = (get_or cs 0 d).owner; form = (get_or cs 0 d).form; label = (get_or cs 0 d).label }; count = length cs })
 first_named [] d h = absurd (omega arith)
 first_named (c ∷ cs) d h = refl
 
@@ -23,68 +23,52 @@ map_at f (x ∷ l) zero d d' h = refl
 map_at f (x ∷ l) (suc n) d d' h = map_at f l n d d' (omega arith)
 
 -- ---- the loop over n tones
-abbrev count_at : List ToneEntry → ℕ → ℕ
-count_at l k = (get_or l k no_entry).count
+abbrev count_of : List ToneEntry → ℕ → ℕ
+count_of l k = count_in (get_or l k no_entry).listing
 
-set_few : (l : List ToneEntry) (t : ℕ) (e : ToneEntry) → ((k : ℕ) → count_at l k ≤ 4) → e.count ≤ 4 → (k : ℕ) → count_at (set l t e) k ≤ 4
-set_few [] t e h l k = h k
-set_few (x ∷ xs) zero e h l zero = l
-set_few (x ∷ xs) zero e h l (suc k) = h (suc k)
-set_few (x ∷ xs) (suc t) e h l zero = h zero
-set_few (x ∷ xs) (suc t) e h l (suc k) = set_few xs t e (λ j. h (suc j)) l k
-
-none_few : (n k : ℕ) → count_at (replicate n blank_entry) k ≤ 4
-none_few zero k = omega arith
-none_few (suc n) zero = omega arith
-none_few (suc n) (suc k) = none_few n k
+push_few : (l : List ToneEntry) (e : ToneEntry) → ((k : ℕ) → count_of l k ≤ 4) → count_in e.listing ≤ 4 → (k : ℕ) → count_of (l ++ (e ∷ [])) k ≤ 4
+push_few [] e h q zero = q
+push_few [] e h q (suc k) = omega arith
+push_few (x ∷ xs) e h q zero = h zero
+push_few (x ∷ xs) e h q (suc k) = push_few xs e (λ j. h (suc j)) q k
 
 -- from tone t on the definition gives what it gives of the whole
 pub record Going (src : Source) (n : ℕ) (c : Context) (s : Slots) (i : Inventory) (t : ℕ) : Type 0 where
   pub inside : t ≤ n
-  pub many : i.tones ≡ n
-  pub few : (k : ℕ) → count_at i.entries k ≤ 4
+  pub many : length i.items ≡ t
+  pub few : (k : ℕ) → count_of i.items k ≤ 4
   pub same : range (list_tone src c) t n (listing i s) ≡ listings src c
 
 module _ (src : Source) (n : ℕ) (c : Context) where
-  pub going_starts : n ≡ length src.tones → (s : Slots) → s ≡ no_slots → (i : Inventory) → i ≡ no_inventory n → Going src n c s i 0
-  unfolding listings no_inventory
+  pub going_starts : n ≡ length src.tones → (s : Slots) → s ≡ no_slots → (i : Inventory) → i.items ≡ [] → Going src n c s i 0
+  unfolding listings
   going_starts e s es i ei = record {
     inside = omega arith;
     many = rw ei;
-    few = λ k. rw ei (none_few 8 k);
+    few = λ k. rw ei (omega arith);
     same = rw (es, ei, e);
   }
 
   module _ (s : Slots) (i : Inventory) (t : ℕ) (g : Going src n c s i t) where
     pub going_ends : n ≤ t → n ≤ 8 → Lists src c i s
-    going_ends h r = record { is = ended (list_tone src c) g.same h; counted = record { few = omega (arith, g.many); each = λ k l. g.few k } }
+    going_ends h few_tones = record { is = ended (list_tone src c) g.same h; counted = record { few = omega (arith, g.many, g.inside, few_tones); each = λ k l. g.few k } }
 
-    -- the tone as it was read, the name of what was put for it, and the slots after
-    module _ (h : t < n) (e : ToneEntry) (tone : e ≡ entry_of (get_or src.tones t no_tone) (named_of []))
-        (name : Named) (named : name ≡ named_of (given_of (src.look (in_context c e.number)))) (few : name.count ≤ 4)
+    -- the tone as it was read, what was put for it, the inventory with both, and the slots after
+    module _ (h : t < n) (few_tones : n ≤ 8) (e : ToneEntry) (tone : e ≡ entry_of (get_or src.tones t no_tone) None)
+        (l : Option Listed) (named : l ≡ named_of (given_of (src.look (in_context c e.number)))) (few : count_in l ≤ 4)
+        (i' : Inventory) (pushed : i'.items ≡ i.items ++ (record { number = e.number; prior = e.prior; region = e.region; listing = l } ∷ []))
         (s' : Slots) (put : s' ≡ put_in t (given_of (src.look (in_context c e.number))) s) where
-      abbrev after : Inventory
-      after = record {
-        tones = i.tones;
-        entries = set i.entries t (record {
-          number = e.number;
-          prior = e.prior;
-          region = e.region;
-          count = name.count;
-          owner = name.owner;
-          form = name.form;
-          label = name.label;
-        });
-      }
+      kept : ltb (length i.items) 8 ≡ true
+      kept = lt-ltb (length i.items) 8 (omega (arith, g.many))
 
-      turned : list_tone src c t (listing i s) ≡ listing after s'
+      turned : list_tone src c t (listing i s) ≡ listing i' s'
       unfolding slotted with_tone
-      turned = rw (put, named, tone)
+      turned = rw (put, pushed, named, tone, kept)
 
-      pub going_on : Going src n c s' after (t + 1)
+      pub going_on : Going src n c s' i' (t + 1)
       going_on = record {
         inside = omega arith;
-        many = g.many;
-        few = set_few i.entries t _ g.few few;
+        many = rw (pushed, length-append) (omega (arith, g.many));
+        few = λ k. rw pushed (push_few i.items _ g.few few k);
         same = again (list_tone src c) g.same h turned;
       }

@@ -3,12 +3,12 @@ use Rattle.std.proofs.Common.{ℕ, zero, suc, ◌+◌, ◌-◌, ◌<◌, ◌≡�
 use Rattle.std.specs.Prelude.{Some, None}
 use mathlib.Core.Option.{none, some}
 use Rattle.tonekit_core.specs.Loop.{Turn, next, stop, turns_to, range_to}
-use Rattle.tonekit_pack.specs.Pack.{number_at}
+use Rattle.tonekit_bytes.specs.Places.{number_at, index_turn, index_of}
 use Rattle.tonekit_pack.specs.declared.Pack.{Pack}
 use Rattle.tonekit_pack.specs.Held.{shown}
 use Rattle.tonekit_core.proofs.Split.{split}
-use Rattle.tonekit_pack.proofs.InOrder.{order_length, order_get}
-use Rattle.tonekit_expect.specs.Lookup.{Found, index_turn, index_of}
+use Rattle.tonekit_bytes.proofs.InOrder.{order_length, order_get}
+use Rattle.tonekit_expect.specs.Lookup.{Found}
 use Rattle.tonekit_expect.specs.Source.{Tone, Accent, accent_at, accent_in, tone_in, source_of_pack}
 use Rattle.tonekit_expect.proofs.Walk.{index_found}
 use Rattle.tonekit_score.specs.declared.Tolerance.{Tolerance}
@@ -83,16 +83,16 @@ tolerance s o =
 
 -- the accent that a search in a pack finds, with its tolerances
 module _ (s : List ℕ) (p : Pack) (n : ℕ) where
-  pub graded_found : (i : ℕ) → i < p.accents → index_of s (shown p).accents n ≡ Some i → (t : Tolerance) → t ≡ tolerance_at s (get_or p.accentat i 0 + 3)
+  pub graded_found : (i : ℕ) → i < p.accents.count → index_of s (shown p).accents n ≡ Some i → (t : Tolerance) → t ≡ tolerance_at s (get_or p.accents.at i 0 + 3)
       → Some t ≡ graded_of (accent_in (source_of_pack s (shown p)).accents n)
   unfolding source_of_pack
   graded_found i h e t q =
-      rw (accent_found s (shown p).accents n (accent_at s) (λ o. refl) i e, order_get p.accentat p.accents i h)
-      (ap Some (q ∙ tolerance s (get_or p.accentat i 0)))
+      rw (accent_found s (shown p).accents n (accent_at s) (λ o. refl) i e, order_get p.accents.at p.accents.count i h)
+      (ap Some (q ∙ tolerance s (get_or p.accents.at i 0)))
 
   pub graded_none : index_of s (shown p).accents n ≡ None → None ≡ graded_of (accent_in (source_of_pack s (shown p)).accents n)
   unfolding source_of_pack
   graded_none e = rw (accent_none s (shown p).accents n (accent_at s) (λ o. refl) e)
 
-  pub inside : (i : ℕ) → index_of s (shown p).accents n ≡ Some i → i < p.accents
-  inside i e = omega (arith, (index_found s (shown p).accents n i e).inside, order_length p.accentat p.accents)
+  pub inside : (i : ℕ) → index_of s (shown p).accents n ≡ Some i → i < p.accents.count
+  inside i e = omega (arith, (index_found s (shown p).accents n i e).inside, order_length p.accents.at p.accents.count)

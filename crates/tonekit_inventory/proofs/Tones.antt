@@ -1,15 +1,16 @@
 -- A pack's tones and listings, as what a station holds: its tones are its records', and a listing's name is that of its first component. Assumes nothing.
+use Rattle.std.specs.Prelude.{Some, None}
 use Rattle.std.proofs.Common.{ℕ, ◌+◌, ◌≤◌, ◌<◌, ◌≡◌, ap, ◌∙◌, List, [], length, get_or, arith}
 use Rattle.std.proofs.lemmas.List.{length-map}
 use Rattle.tonekit_bytes.specs.Fields.{byte_at, f32_at}
 use Rattle.tonekit_pack.specs.declared.Pack.{Pack}
-use Rattle.tonekit_pack.specs.Held.{in_order}
-use Rattle.tonekit_pack.proofs.InOrder.{order_length, order_get}
+use Rattle.tonekit_bytes.specs.Places.{in_order}
+use Rattle.tonekit_bytes.proofs.InOrder.{order_length, order_get}
 use Rattle.tonekit_expect.specs.Source.{Carried, components, tone_at, source_of_pack}
 use Rattle.tonekit_expect.specs.declared.Listing.{Listing}
 use Rattle.tonekit_expect.proofs.Carried.{named, components_at, components_length}
 use Rattle.tonekit_inventory.specs.Fields.{region_at}
-use Rattle.tonekit_inventory.specs.OfPack.{source_in, name_of}
+use Rattle.tonekit_inventory.specs.OfPack.{source_in}
 use Rattle.tonekit_inventory.specs.Gather.{region_of, entry_of, named_of, no_tone}
 use Rattle.tonekit_inventory.proofs.Going.{first_named, map_at}
 
@@ -17,7 +18,7 @@ use Rattle.tonekit_inventory.proofs.Going.{first_named, map_at}
 nothing_carried : Carried
 nothing_carried = record { owner = 0; form = 0; label = 0; part = 0; weight = 0; points = [] }
 
-pub listing_named : (s : List ℕ) (l : Listing) → 1 ≤ l.count → named_of (components s l l.count) ≡ name_of l
+pub listing_named : (s : List ℕ) (l : Listing) → 1 ≤ l.count → named_of (components s l l.count) ≡ Some (record { name = l.name; count = l.count })
 listing_named s l h =
     let n = named s l 0 in
     first_named (components s l l.count) nothing_carried (rw (components_length s l l.count) h)
@@ -32,20 +33,20 @@ region_is s o =
     rw (a, b)
 
 module _ (s : List ℕ) (p : Pack) where
-  pub tones_many : length (source_in s p).tones ≡ p.tones
+  pub tones_many : length (source_in s p).tones ≡ p.tones.count
   unfolding source_of_pack
-  tones_many = length-map (in_order p.toneat p.tones) (tone_at s) ∙ order_length p.toneat p.tones
+  tones_many = length-map (in_order p.tones.at p.tones.count) (tone_at s) ∙ order_length p.tones.at p.tones.count
 
-  module _ (t : ℕ) (h : t < p.tones) where
+  module _ (t : ℕ) (h : t < p.tones.count) where
     abbrev at : ℕ
-    at = get_or p.toneat t 0
+    at = get_or p.tones.at t 0
 
     tone_is : get_or (source_in s p).tones t no_tone ≡ tone_at s at
     unfolding source_of_pack
     tone_is =
-        map_at (tone_at s) (in_order p.toneat p.tones) t 0 no_tone (rw order_length h)
-        ∙ ap (tone_at s) (order_get p.toneat p.tones t h)
+        map_at (tone_at s) (in_order p.tones.at p.tones.count) t 0 no_tone (rw order_length h)
+        ∙ ap (tone_at s) (order_get p.tones.at p.tones.count t h)
 
-    pub entry_is : record { number = byte_at s (at + 1); prior = f32_at s (at + 2); region = region_at s (at + 47); count = 0; owner = 0; form = 0; label = 0 }
-        ≡ entry_of (get_or (source_in s p).tones t no_tone) (named_of [])
+    pub entry_is : record { number = byte_at s (at + 1); prior = f32_at s (at + 2); region = region_at s (at + 47); listing = None }
+        ≡ entry_of (get_or (source_in s p).tones t no_tone) None
     entry_is = rw (tone_is, region_is)

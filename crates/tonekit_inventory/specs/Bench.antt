@@ -1,17 +1,17 @@
--- Worked examples, computed: tone 1 with a citation and tone 2 with a mixture of two stand in slots 0, 4 and 5; a tone that nothing is given for has a count of 0;
+-- Worked examples, computed: tone 1 with a citation and tone 2 with a mixture of two stand in slots 0, 4 and 5; a tone that nothing is given for has no listing;
 -- accent 5 is held and accent 6 is not, nor is tone 7.
-use Rattle.std.specs.Prelude.{ℕ, ◌≡◌, refl, true, false, cond, Some, None, List, [], ◌∷◌, ◌++◌, eqb, replicate, Float}
+use Rattle.std.specs.Prelude.{ℕ, ◌≡◌, refl, true, false, cond, Some, None, List, [], ◌∷◌, ◌++◌, eqb, replicate}
 use Rattle.std.proofs.Math.Option.{Option, none, some}
 use Rattle.std.specs.Float.Ieee.{of_bits}
 use Rattle.tonekit_core.specs.Loop.{turns, range}
 use Rattle.tonekit_expect.specs.Source.{Tone, Accent, Carried, Source, accent_in, tone_in}
 use Rattle.tonekit_expect.specs.declared.Context.{Context}
-use Rattle.tonekit_judge.specs.declared.Inventory.{Inventory}
+use Rattle.tonekit_judge.specs.declared.Slot.{Slot}
 use Rattle.tonekit_judge.specs.declared.ToneEntry.{ToneEntry}
 use Rattle.tonekit_score.specs.declared.Region.{Region}
 use Rattle.tonekit_score.specs.declared.Tolerance.{Tolerance}
-use Rattle.tonekit_judge.specs.Judge.{Listed}
-use Rattle.tonekit_inventory.specs.Gather.{f32, blank_entry, with_tone, no_inventory, put_in, weights_of, points_of, slotted, listings, gathered}
+use Rattle.tonekit_judge.specs.Judge.{Inventory, Listings}
+use Rattle.tonekit_inventory.specs.Gather.{f32, blank_slot, with_tone, put_in, slotted, listings, gathered}
 
 -- bits: 1, a half, a quarter, 2 and 4
 abbrev one : ℕ
@@ -28,9 +28,6 @@ two = 0x4000_0000
 
 abbrev four : ℕ
 four = 0x4080_0000
-
-abbrev nought : Float
-nought = f32 0
 
 abbrev first : Tone
 first = record { number = 1; prior = half; flag = 0; from = 0; to = 0 }
@@ -64,49 +61,47 @@ held tones = record { settings = record { temperature = one; threshold = half };
 
 -- whatever tone the context has
 abbrev here : Context
-here = record { accent = 5; tone = 7; prev = 0; last = 1 }
+here = record { accent = 5; tone = 7; prev = 0; last = true }
 
 abbrev its_region : Region
 its_region = record { from = f32 one; to = f32 two }
 
 -- the two tones' entries, and that of the third, for which nothing is given
 abbrev cited : ToneEntry
-cited = record { number = 1; prior = f32 half; region = None; count = 1; owner = 5; form = 1; label = 0 }
+cited = record { number = 1; prior = f32 half; region = None; listing = Some (record { name = record { owner = 5; form = 1; label = 0 }; count = 1 }) }
 
 abbrev mixed : ToneEntry
-mixed = record { number = 2; prior = f32 quarter; region = Some its_region; count = 2; owner = 9; form = 3; label = 700 }
+mixed = record { number = 2; prior = f32 quarter; region = Some its_region; listing = Some (record { name = record { owner = 9; form = 3; label = 700 }; count = 2 }) }
 
 abbrev unlisted : ToneEntry
-unlisted = record { number = 3; prior = f32 one; region = None; count = 0; owner = 0; form = 0; label = 0 }
+unlisted = record { number = 3; prior = f32 one; region = None; listing = None }
 
 abbrev both : Inventory
-both = record { tones = 2; entries = cited ∷ mixed ∷ replicate 6 blank_entry }
+both = record { items = cited ∷ mixed ∷ [] }
 
-abbrev both_listed : Listed
+-- a slot of a weight, with one point ten times
+abbrev slot : ℕ → ℕ → Slot
+slot weight point = record { weight = f32 weight; points = replicate 10 (f32 point) }
+
+abbrev both_listed : Listings
 both_listed = record {
   inventory = both;
-  slots = record {
-    weights = f32 one ∷ (replicate 3 nought ++ (f32 half ∷ f32 quarter ∷ replicate 26 nought));
-    points = replicate 10 (f32 two) ++ (replicate 30 nought ++ (replicate 10 (f32 one) ++ (replicate 10 (f32 four) ++ replicate 260 nought)));
-  };
+  slots = record { list = slot one two ∷ (replicate 3 blank_slot ++ (slot half one ∷ slot quarter four ∷ replicate 26 blank_slot)) };
 }
 
 two_tones : listings (held (first ∷ second ∷ [])) here ≡ both_listed
-unfolding listings range turns slotted with_tone no_inventory put_in weights_of points_of of_bits
+unfolding listings range turns slotted with_tone put_in of_bits
 two_tones = refl
 
 -- tone 3 has nothing, and the tone behind it is there
 abbrev around : Inventory
-around = record { tones = 3; entries = cited ∷ unlisted ∷ mixed ∷ replicate 5 blank_entry }
+around = record { items = cited ∷ unlisted ∷ mixed ∷ [] }
 
 none_for_third : listings (held (first ∷ third ∷ second ∷ [])) here ≡ record {
   inventory = around;
-  slots = record {
-    weights = f32 one ∷ (replicate 7 nought ++ (f32 half ∷ f32 quarter ∷ replicate 22 nought));
-    points = replicate 10 (f32 two) ++ (replicate 70 nought ++ (replicate 10 (f32 one) ++ (replicate 10 (f32 four) ++ replicate 220 nought)));
-  };
+  slots = record { list = slot one two ∷ (replicate 7 blank_slot ++ (slot half one ∷ slot quarter four ∷ replicate 22 blank_slot)) };
 }
-unfolding listings range turns slotted with_tone no_inventory put_in weights_of points_of of_bits
+unfolding listings range turns slotted with_tone put_in of_bits
 none_for_third = refl
 
 -- under a held accent, after nothing
@@ -114,18 +109,18 @@ abbrev fifths : Tolerance
 fifths = record { contour = f32 half; onset = f32 one; offset = f32 two; turning = f32 four }
 
 under_fifth : gathered (held (first ∷ second ∷ [])) here
-    ≡ record { prev = true; temperature = f32 one; threshold = f32 half; tolerance = Some fifths; listed = both_listed }
-unfolding gathered accent_in tone_in listings range turns slotted with_tone no_inventory put_in weights_of points_of of_bits
+    ≡ record { prev = true; settings = record { temperature = f32 one; threshold = f32 half }; tolerance = Some fifths; listed = both_listed }
+unfolding gathered accent_in tone_in listings range turns slotted with_tone put_in of_bits
 under_fifth = refl
 
 -- under an accent that is not held, after a tone that is not
-under_none : gathered (held (first ∷ second ∷ [])) (record { accent = 6; tone = 1; prev = 7; last = 0 })
-    ≡ record { prev = false; temperature = f32 one; threshold = f32 half; tolerance = None; listed = both_listed }
-unfolding gathered accent_in tone_in listings range turns slotted with_tone no_inventory put_in weights_of points_of of_bits
+under_none : gathered (held (first ∷ second ∷ [])) (record { accent = 6; tone = 1; prev = 7; last = false })
+    ≡ record { prev = false; settings = record { temperature = f32 one; threshold = f32 half }; tolerance = None; listed = both_listed }
+unfolding gathered accent_in tone_in listings range turns slotted with_tone put_in of_bits
 under_none = refl
 
 -- and after one that is
-after_second : (gathered (held (first ∷ second ∷ [])) (record { accent = 5; tone = 1; prev = 2; last = 0 })).prev ≡ true
+after_second : (gathered (held (first ∷ second ∷ [])) (record { accent = 5; tone = 1; prev = 2; last = false })).prev ≡ true
 unfolding gathered tone_in
 after_second = refl
 

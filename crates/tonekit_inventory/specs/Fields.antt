@@ -3,7 +3,7 @@ use Rattle.std.specs.Prelude.{ℕ, ◌+◌, cond, eqb, Option, Some, None, List}
 use Rattle.tonekit_core.specs.Layout.{region_from, region_to, tolerance_onset, tolerance_offset, tolerance_turning, settings_temperature, settings_threshold}
 use Rattle.tonekit_bytes.specs.Fields.{byte_at, f32_at}
 use Rattle.tonekit_score.specs.declared.Region.{Region}
-use Rattle.tonekit_inventory.specs.declared.Settings.{Settings}
+use Rattle.tonekit_score.specs.declared.Settings.{Settings}
 use Rattle.tonekit_score.specs.declared.Tolerance.{Tolerance}
 
 -- "region flag u8, from f32, to f32"

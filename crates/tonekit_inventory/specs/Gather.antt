@@ -1,5 +1,5 @@
 -- What a station gathers for a context, from a pack or from a sheet: all that a query is judged by. "The inventory is every tone held, context only ones too."
-use Rattle.std.specs.Prelude.{ℕ, ◌*◌, ◌≡◌, Bool, cond, ◌||◌, Option, Some, None, List, [], ◌∷◌, ◌++◌, map, eqb, length, get_or, set, replicate, Float}
+use Rattle.std.specs.Prelude.{ℕ, ◌*◌, ◌≡◌, Bool, cond, ◌||◌, Option, Some, None, List, [], ◌∷◌, ◌++◌, map, eqb, ltb, length, get_or, replicate, Float}
 use Rattle.std.proofs.Math.Option as math
 use Rattle.std.proofs.Math.Option.{none, some}
 use Rattle.std.proofs.lemmas.List.Edits.{sets}
@@ -11,13 +11,13 @@ use Rattle.tonekit_expect.specs.Source as source
 use Rattle.tonekit_expect.specs.declared.Context.{Context}
 use Rattle.tonekit_score.specs.declared.Region.{Region}
 use Rattle.tonekit_score.specs.declared.Tolerance.{Tolerance}
-use Rattle.tonekit_judge.specs.Judge.{Listed, listing, Counted}
-use Rattle.tonekit_judge.specs.declared.Inventory.{Inventory}
+use Rattle.tonekit_judge.specs.Judge.{Inventory, Listings, listing, Counted, no_entry}
+use Rattle.tonekit_judge.specs.declared.Listed.{Listed}
+use Rattle.tonekit_judge.specs.declared.Slot.{Slot}
 use Rattle.tonekit_judge.specs.declared.ToneEntry.{ToneEntry}
 use Rattle.tonekit_judge.specs.declared.Slots.{Slots}
 use Rattle.tonekit_inventory.specs.declared.Gathered.{Gathered}
-use Rattle.tonekit_inventory.specs.declared.Named.{Named}
-use Rattle.tonekit_inventory.specs.declared.Settings.{Settings}
+use Rattle.tonekit_score.specs.declared.Settings.{Settings}
 
 -- the floats of bits
 abbrev pub f32 : ℕ → Float
@@ -26,56 +26,39 @@ f32 bits = of_bits binary32 bits
 abbrev pub region_of : Tone → Option Region
 region_of t = cond (eqb t.flag 0) None (Some (record { from = f32 t.from; to = f32 t.to }))
 
--- the name of a listing, that of its first component, and how many components it has; of none, zeros
-abbrev pub named_of : List Carried → Named
-named_of [] = record { owner = 0; form = 0; label = 0; count = 0 }
-named_of (c ∷ cs) = record { owner = c.owner; form = c.form; label = c.label; count = length (c ∷ cs) }
+-- the name of a listing, that of its first component, and how many components it has; of none, none
+abbrev pub named_of : List Carried → Option Listed
+named_of [] = None
+named_of (c ∷ cs) = Some (record { name = record { owner = c.owner; form = c.form; label = c.label }; count = length (c ∷ cs) })
 
--- a tone's own values, and its listing's name
-abbrev pub entry_of : Tone → Named → ToneEntry
-entry_of tone name = record {
-  number = tone.number;
-  prior = f32 tone.prior;
-  region = region_of tone;
-  count = name.count;
-  owner = name.owner;
-  form = name.form;
-  label = name.label;
-}
+-- a tone's own values, and its listing
+abbrev pub entry_of : Tone → Option Listed → ToneEntry
+entry_of tone listing = record { number = tone.number; prior = f32 tone.prior; region = region_of tone; listing = listing }
 
--- the inventory with the entry of tone t
-unfoldable pub with_tone : ℕ → ToneEntry → Inventory → Inventory
-with_tone t entry i = record { tones = i.tones; entries = set i.entries t entry }
+-- the inventory with one more entry; behind the eighth with none
+unfoldable pub with_tone : ToneEntry → Inventory → Inventory
+with_tone entry i = record { items = i.items ++ (cond (ltb (length i.items) 8) entry no_entry ∷ []) }
 
--- the weights of components, and their points, ten of each
-unfoldable pub weights_of : List Carried → List Float
-weights_of [] = []
-weights_of (c ∷ cs) = f32 c.weight ∷ weights_of cs
+-- components as slots have them: a weight, and ten points
+abbrev pub slot_of : Carried → Slot
+slot_of c = record { weight = f32 c.weight; points = map f32 c.points }
 
-unfoldable pub points_of : List Carried → List Float
-points_of [] = []
-points_of (c ∷ cs) = map f32 c.points ++ points_of cs
-
--- component j of tone t stands in slot 4 t + j: its weight, and its ten points
+-- component j of tone t stands in slot 4 t + j
 unfoldable pub put_in : ℕ → List Carried → Slots → Slots
-put_in t cs s = record { weights = sets s.weights (4 * t) (weights_of cs); points = sets s.points (40 * t) (points_of cs) }
+put_in t cs s = record { list = sets s.list (4 * t) (map slot_of cs) }
 
-unfoldable pub slotted : ℕ → Tone → List Carried → Listed → Listed
-slotted t tone cs l = listing (with_tone t (entry_of tone (named_of cs)) l.inventory) (put_in t cs l.slots)
-
--- nothing gathered yet, for so many tones
-abbrev pub blank_entry : ToneEntry
-blank_entry = record { number = 0; prior = f32 0; region = None; count = 0; owner = 0; form = 0; label = 0 }
-
-unfoldable pub no_inventory : ℕ → Inventory
-no_inventory tones = record { tones = tones; entries = replicate 8 blank_entry }
+unfoldable pub slotted : ℕ → Tone → List Carried → Listings → Listings
+slotted t tone cs l = listing (with_tone (entry_of tone (named_of cs)) l.inventory) (put_in t cs l.slots)
 
 -- as lent slots are before anything is gathered
-abbrev pub no_slots : Slots
-no_slots = record { weights = replicate 32 (f32 0); points = replicate 320 (f32 0) }
+abbrev pub blank_slot : Slot
+blank_slot = record { weight = f32 0; points = replicate 10 (f32 0) }
 
-abbrev pub nothing_yet : ℕ → Listed
-nothing_yet tones = listing (no_inventory tones) no_slots
+abbrev pub no_slots : Slots
+no_slots = record { list = replicate 32 blank_slot }
+
+abbrev pub nothing_yet : Listings
+nothing_yet = listing (record { items = [] }) no_slots
 
 -- past the end of the tones, where nothing is read
 abbrev pub no_tone : Tone
@@ -90,14 +73,14 @@ abbrev pub in_context : Context → ℕ → Context
 in_context c tone = record { accent = c.accent; tone = tone; prev = c.prev; last = c.last }
 
 -- tone t with its listing in this context, of which the tone is not read
-abbrev pub list_tone : Source → Context → ℕ → Listed → Listed
+abbrev pub list_tone : Source → Context → ℕ → Listings → Listings
 list_tone src c t l =
     let tone = get_or src.tones t no_tone in
     slotted t tone (given_of (src.look (in_context c tone.number))) l
 
--- for each tone of the source in order its listing in this context, or that it has none: a count of 0
-unfoldable pub listings : Source → Context → Listed
-listings src c = range (list_tone src c) 0 (length src.tones) (nothing_yet (length src.tones))
+-- for each tone of the source in order its listing in this context, or that it has none
+unfoldable pub listings : Source → Context → Listings
+listings src c = range (list_tone src c) 0 (length src.tones) nothing_yet
 
 -- "Tolerances are the graded accent's, also for inherited rules."
 abbrev pub tolerance_of : Accent → Tolerance
@@ -114,16 +97,14 @@ settings_of s = record { temperature = f32 s.temperature; threshold = f32 s.thre
 -- whether what stood before is held, or nothing stood there; the settings; the accent's tolerances, if it is held; the listings
 pub record Gathering : Type 0 where
   pub prev : Bool
-  pub temperature : Float
-  pub threshold : Float
+  pub settings : Settings
   pub tolerance : Option Tolerance
-  pub listed : Listed
+  pub listed : Listings
 
 unfoldable pub gathered : Source → Context → Gathering
 gathered src c = record {
   prev = eqb c.prev 0 || tone_in src.tones c.prev;
-  temperature = f32 src.settings.temperature;
-  threshold = f32 src.settings.threshold;
+  settings = settings_of src.settings;
   tolerance = graded_of (accent_in src.accents c.accent);
   listed = listings src c;
 }
@@ -132,8 +113,7 @@ gathered src c = record {
 abbrev pub gathering_of : Gathered → Slots → Gathering
 gathering_of g slots = record {
   prev = g.prev;
-  temperature = g.temperature;
-  threshold = g.threshold;
+  settings = g.settings;
   tolerance = g.tolerance;
   listed = listing g.inventory slots;
 }

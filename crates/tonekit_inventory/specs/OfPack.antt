@@ -1,14 +1,13 @@
 -- A pack, as what a station holds: the source that it stands for, and what a lookup in it lists.
-use Rattle.std.specs.Prelude.{ℕ, ◌≤◌, ◌<◌, ◌≡◌, List, Some, Result, Ok, Err}
+use Rattle.std.specs.Prelude.{ℕ, ◌≤◌, ◌<◌, ◌≡◌, List, Option, Some, None, Result, Ok, Err}
 use Rattle.tonekit_core.specs.declared.Rejection.{Rejection}
-use Rattle.tonekit_pack.specs.Pack.{Out, loaded, refused, load_pack}
+use Rattle.tonekit_pack.specs.Pack.{Pst, Out, loaded, refused, load_pack}
 use Rattle.tonekit_pack.specs.Held.{shown}
 use Rattle.tonekit_pack.specs.declared.Pack.{Pack}
 use Rattle.tonekit_expect.specs.Lookup as lookup
 use Rattle.tonekit_expect.specs.Lookup.{Look}
 use Rattle.tonekit_expect.specs.Source.{Source, source_of_pack}
 use Rattle.tonekit_expect.specs.declared.Listing.{Listing}
-use Rattle.tonekit_inventory.specs.declared.Named.{Named}
 
 -- what a pack that was read from these bytes stands for
 abbrev pub source_in : List ℕ → Pack → Source
@@ -22,6 +21,11 @@ source_or s (refused r place) = Err (record { why = r; place = place })
 abbrev pub load_source : List ℕ → Result Source Rejection
 load_source s = source_or s (load_pack s)
 
+-- the pack that was read, if one was
+abbrev pub pack_in : Out → Option Pst
+pack_in (loaded st end) = Some st
+pack_in (refused r place) = None
+
 -- a listing of one to four components that can be read
 pub record Short (s : List ℕ) (l : Listing) : Type 0 where
   pub some : 1 ≤ l.count
@@ -31,6 +35,3 @@ pub record Short (s : List ℕ) (l : Listing) : Type 0 where
 -- what a lookup in a pack that loads finds
 abbrev pub Looked : List ℕ → Look → Type 0
 Looked s k = (l : Listing) → k ≡ Some l → Short s l
-
-abbrev pub name_of : Listing → Named
-name_of l = record { owner = l.owner; form = l.form; label = l.label; count = l.count }

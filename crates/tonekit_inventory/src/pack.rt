@@ -1,97 +1,96 @@
 // A pack that was read, as what a station holds.
 
-ghost use Rattle.std.specs.Prelude.{◌≡◌, ◌≤◌, ◌<◌};
-ghost use Rattle.tonekit_pack.specs.Held.{ReadFrom};
+ghost use Rattle.std.specs.Prelude.{◌≡◌, ◌≤◌, ◌<◌, Some};
+ghost use Rattle.std.proofs.Props.{props};
+ghost use Rattle.tonekit_pack.specs.Pack.{read_pack};
+ghost use Rattle.tonekit_pack.specs.Held.{shown};
 ghost use Rattle.tonekit_expect.specs.Source.{components};
 ghost use Rattle.tonekit_inventory.specs.Gather.{put_in};
-ghost use Rattle.tonekit_inventory.specs.OfPack.{source_in, load_source, Short, name_of};
+ghost use Rattle.tonekit_inventory.specs.OfPack.{source_in, load_source, pack_in, Short};
 
-use crate::{Held, Named, Settings};
+use crate::Held;
 use tonekit_bytes::{byte_at, f32_at};
 use tonekit_core::{Rejection, layout};
 use tonekit_expect::{Context, Listing};
-use tonekit_judge::{Slots, ToneEntry};
-use tonekit_pack::Pack;
-use tonekit_score::Tolerance;
+use tonekit_judge::{Listed, Slot, Slots, ToneEntry};
+use tonekit_pack::PackView;
+use tonekit_score::{Settings, Tolerance};
 
 // Puts the components of a listing into tone t's slots.
+// Stays: a sheet's components are read by other calls; one loop over a closure would have the closure's contract in its own, as long as the loop.
 fn fill(s: &[u8], l: Listing, t: usize, slots: &mut Slots)
     requires { (t < 8) × Short s.now l }
     ensures { slots.new ≡ put_in t (components s.now l l.count) slots.old }
 {
-    // Stays: j is a component's place in the listing and in the slots, and no list is gone over.
-    for j in 0..l.count {
+    let own = &mut slots.list[4 * t..4 * t + l.count];
+    for (j, slot) in own.iter_mut().enumerate() {
         let c = tonekit_expect::component_at(s, l, j);
-        let ten = c.points;
-        slots.weights[4 * t + j] = c.weight;
-        crate::put_points(&mut slots.points, 40 * t + 10 * j, ten);
+        let points = c.points;
+        *slot = Slot {
+            weight: c.weight,
+            points,
+        };
     }
 }
 
-// A listing's name.
-// Stays: a Listing by itself may count more; that one that was looked up has four components at most is proved of its pack.
-fn name_of(l: Listing) -> Named
-    requires { l.count ≤ 4 }
-    ensures { result ≡ name_of l }
-{
-    Named {
-        owner: l.owner,
-        form: l.form,
-        label: l.label,
-        count: l.count as u8,
-    }
+// A pack that was read, with its bytes, as what a station holds.
+// Stays: one struct of a pack and of a sheet would take a format as a parameter, and each use of a field would still be one format's alone.
+#[derive(Clone, Copy)]
+pub struct HeldPack<'a> {
+    pub view: PackView<'a>,
+    pub ghost read: { pack_in (read_pack view.bytes.now) ≡ Some (shown view.pack) } by { Prim.hlevel props },
 }
 
-impl Held for Pack {
-    ghost source = { source_in };
-
-    ghost read = { ReadFrom };
+impl<'a> Held<'a> for HeldPack<'a> {
+    ghost source = { λ h. source_in h.view.bytes.now h.view.pack };
 
     ghost loads = { load_source };
 
-    fn load(bytes: &[u8]) -> Result<Pack, Rejection> {
+    fn load(bytes: &'a [u8]) -> Result<HeldPack<'a>, Rejection> {
         let loaded = tonekit_pack::load_pack(bytes)?;
-        Ok(loaded.pack)
+        Ok(HeldPack {
+            view: PackView {
+                bytes,
+                pack: loaded.held,
+            },
+        })
     }
 
-    fn tones(&self, _bytes: &[u8]) -> usize {
-        self.tones
+    fn tones(&self) -> usize {
+        self.view.pack.tones.len()
     }
 
-    fn tone(&self, bytes: &[u8], t: usize) -> ToneEntry {
-        let o = usize::from(self.toneat[t]);
+    fn tone(&self, t: usize) -> ToneEntry {
+        let s = self.view.bytes;
+        let o = usize::from(self.view.pack.tones.at[t]);
         ToneEntry {
-            number: byte_at(bytes, o, layout::OWN_NUMBER),
-            prior: f32_at(bytes, o, layout::TONE_PRIOR),
-            region: crate::region_at(bytes, o + layout::TONE_REGION),
-            count: 0,
-            owner: 0,
-            form: 0,
-            label: 0,
+            number: byte_at(s, o, layout::OWN_NUMBER),
+            prior: f32_at(s, o, layout::TONE_PRIOR),
+            region: crate::region_at(s, o + layout::TONE_REGION),
+            listing: None,
         }
     }
 
-    fn holds_tone(&self, bytes: &[u8], number: u8) -> bool {
-        tonekit_expect::tone_index(bytes, *self, number).is_some()
+    fn holds_tone(&self, number: u8) -> bool {
+        tonekit_expect::tone_index(self.view, number).is_some()
     }
 
-    fn tolerance(&self, bytes: &[u8], number: u8) -> Option<Tolerance> {
-        let a = tonekit_expect::accent_index(bytes, *self, number)?;
-        let o = usize::from(self.accentat[a]);
-        Some(crate::tolerance_at(bytes, o + layout::ACCENT_CONTOUR))
+    fn tolerance(&self, number: u8) -> Option<Tolerance> {
+        let a = tonekit_expect::accent_index(self.view, number)?;
+        let o = usize::from(self.view.pack.accents.at[a]);
+        Some(crate::tolerance_at(self.view.bytes, o + layout::ACCENT_CONTOUR))
     }
 
-    fn put(&self, bytes: &[u8], c: Context, t: usize, slots: &mut Slots) -> Named {
-        match tonekit_expect::look_up(bytes, *self, c) {
-            Some(l) => {
-                fill(bytes, l, t, slots);
-                name_of(l)
-            }
-            None => crate::no_name(),
-        }
+    fn put(&self, c: Context, t: usize, slots: &mut Slots) -> Option<Listed> {
+        let l = tonekit_expect::look_up(self.view, c)?;
+        fill(self.view.bytes, l, t, slots);
+        Some(Listed {
+            name: l.name,
+            count: l.count as u8,
+        })
     }
 
-    fn settings(&self, bytes: &[u8]) -> Settings {
-        crate::settings_at(bytes)
+    fn settings(&self) -> Settings {
+        crate::settings_at(self.view.bytes)
     }
 }

@@ -16,15 +16,15 @@ use Rattle.tonekit_bytes.proofs.Stands.{Stands, stands_whole, stands_first, stan
 use Rattle.tonekit_bytes.proofs.Write.{f32s_length}
 use Rattle.tonekit_shape.specs.declared.ToneShape.{ToneShape}
 use Rattle.tonekit_score.specs.Score.{zero32, million, clamp_log, calibrate, scoring_of, mixture_of}
+use Rattle.tonekit_score.specs.declared.Settings.{Settings}
 use Rattle.tonekit_score.specs.declared.Tolerance.{Tolerance}
 use Rattle.tonekit_score.specs.declared.Scoring.{Scoring}
 use Rattle.tonekit_score.specs.declared.Mixture.{Mixture}
 use Rattle.tonekit_score.specs.declared.Mixture.TheVariants.{Scored, Nothing}
 use Rattle.tonekit_score.proofs.Bounds.{Bounded, bounded_zero, bounded_lowest, clamp_bounded, clamp_fits}
-use Rattle.tonekit_judge.specs.Judge.{Listed, distance_at, loglik_at, loglik_turn, logliks, target_mixing, llr_of, plain_of, with_best, best_of, judged_of, usable, lowest_turn, not_measured, judgement_of}
+use Rattle.tonekit_judge.specs.Judge.{Inventory, Targets, Listings, count_at, component_at, loglik_at, loglik_turn, logliks, target_mixing, llr_of, plain_of, with_best, best_of, judged_of, usable, lowest_turn, not_measured, judgement_of}
 use Rattle.tonekit_judge.specs.Record.{head_bytes, score_bytes, delta_bytes, tail_bytes, judgement_bytes}
-use Rattle.tonekit_judge.specs.declared.Inventory.{Inventory}
-use Rattle.tonekit_judge.specs.declared.Targets.{Targets}
+use Rattle.tonekit_judge.specs.declared.Component.{Component}
 use Rattle.tonekit_judge.specs.declared.ToneJudgement.{ToneJudgement}
 use Rattle.tonekit_judge.proofs.Cells.{by_bool}
 use Rattle.tonekit_judge.proofs.Parts.{record_length}
@@ -56,54 +56,54 @@ module _ (P : Float → Type 0) (p-zero : P zero32) (p-lowest : P (narrowed (neg
   eight_set : (i : ℕ) (v : Float) (l : List Float) → P v → Eight l → Eight (set l i v)
   eight_set i v l b p = (every_set i v b p.0, length-set l i v ∙ p.1)
 
-  loglik_holds : (s : Scoring) (i : Inventory) (weights : List Float) (d : ℕ → ℕ → Float) (t : ℕ) → P (loglik_at s i weights d t)
+  loglik_holds : (s : Scoring) (d : ℕ → ℕ → Component) (n t : ℕ) → P (loglik_at s d n t)
   unfolding loglik_at calibrate
-  loglik_holds s i weights d t = p-clamp _
+  loglik_holds s d n t = p-clamp _
 
-  logliks_eight : (s : Scoring) (i : Inventory) (weights : List Float) (d : ℕ → ℕ → Float) → Eight (logliks s i weights d)
+  logliks_eight : (s : Scoring) (i : Inventory) (d : ℕ → ℕ → Component) → Eight (logliks s i d)
   unfolding logliks
-  logliks_eight s i weights d =
-      range_keeps (loglik_turn s i weights d) (λ j ll. Eight ll) 0 i.tones (replicate 8 zero32) (omega arith)
-      (λ t ll h p. eight_set t (loglik_at s i weights d t) ll (loglik_holds s i weights d t) p) zeros
+  logliks_eight s i d =
+      range_keeps (loglik_turn s i d) (λ j ll. Eight ll) 0 (length i.items) (replicate 8 zero32) (omega arith)
+      (λ t ll h p. eight_set t (loglik_at s d (count_at i t) t) ll (loglik_holds s d (count_at i t) t) p) zeros
 
   lowest_eight : (tones : ℕ) → Eight (range lowest_turn 0 tones (replicate 8 zero32))
   lowest_eight tones =
       range_keeps lowest_turn (λ j ll. Eight ll) 0 tones (replicate 8 zero32) (omega arith)
       (λ t ll h p. eight_set t _ ll p-lowest p) zeros
 
-  plain_holds : (s : Scoring) (threshold : Float) (i : Inventory) (weights : List Float) (d : ℕ → ℕ → Float) (m : Mixture) (issues : ℕ)
-      → Throughout P (plain_of s threshold i weights d m issues)
+  plain_holds : (s : Scoring) (threshold : Float) (i : Inventory) (d : ℕ → ℕ → Component) (m : Mixture) (issues : ℕ)
+      → Throughout P (plain_of s threshold i d m issues)
   unfolding plain_of llr_of
-  plain_holds s threshold i weights d m issues =
-      let p = logliks_eight s i weights d in
+  plain_holds s threshold i d m issues =
+      let p = logliks_eight s i d in
       record { eight = p.1; logliks = p.0; llr = p-clamp _ }
 
-  best_holds : (x : ToneShape) (s : Scoring) (t : Tolerance) (l : Listed) (j : ToneJudgement) (m : Mixture)
+  best_holds : (x : ToneShape) (s : Scoring) (t : Tolerance) (l : Listings) (j : ToneJudgement) (m : Mixture)
       → Throughout P j → Throughout P (best_of x s t l j m)
   unfolding with_best
   best_holds x s t l j Nothing p = p
   best_holds x s t l j (Scored ll slot d2) p = record { eight = p.eight; logliks = p.logliks; llr = p.llr }
 
-  judged_holds : (x : ToneShape) (s : Scoring) (threshold : Float) (t : Tolerance) (l : Listed) (d : ℕ → ℕ → Float) (g : Targets) (issues : ℕ)
+  judged_holds : (x : ToneShape) (s : Scoring) (threshold : Float) (t : Tolerance) (l : Listings) (d : ℕ → ℕ → Component) (g : Targets) (issues : ℕ)
       → Throughout P (judged_of x s threshold t l d g issues)
   unfolding judged_of
   judged_holds x s threshold t l d g issues =
-      let m = mixture_of (target_mixing s l.inventory l.slots.weights d g) in
-      best_holds x s t l (plain_of s threshold l.inventory l.slots.weights d m issues) m
-      (plain_holds s threshold l.inventory l.slots.weights d m issues)
+      let m = mixture_of (target_mixing s l.inventory d g) in
+      best_holds x s t l (plain_of s threshold l.inventory d m issues) m
+      (plain_holds s threshold l.inventory d m issues)
 
   lowest_holds : (tones : ℕ) → Throughout P (not_measured tones)
   unfolding not_measured
   lowest_holds tones = record { eight = (lowest_eight tones).1; logliks = (lowest_eight tones).0; llr = p-zero }
 
-  pub judgement_holds : (x : ToneShape) (temperature threshold : Float) (t : Tolerance) (l : Listed) (g : Targets) (issues : ℕ)
-      → Throughout P (judgement_of x temperature threshold t l g issues)
+  pub judgement_holds : (x : ToneShape) (settings : Settings) (t : Tolerance) (l : Listings) (g : Targets) (issues : ℕ)
+      → Throughout P (judgement_of x settings t l g issues)
   unfolding judgement_of
-  judgement_holds x temperature threshold t l g issues =
-      let s = scoring_of temperature t issues in
-      let d = distance_at x s l.inventory l.slots in
-      by_bool (λ b. Throughout P (cond b (judged_of x s threshold t l d g issues) (not_measured l.inventory.tones))) (usable x)
-      (judged_holds x s threshold t l d g issues) (lowest_holds l.inventory.tones)
+  judgement_holds x settings t l g issues =
+      let s = scoring_of settings.temperature t issues in
+      let d = component_at x s l.inventory l.slots in
+      by_bool (λ b. Throughout P (cond b (judged_of x s settings.threshold t l d g issues) (not_measured (length l.inventory.items)))) (usable x)
+      (judged_holds x s settings.threshold t l d g issues) (lowest_holds (length l.inventory.items))
 
 -- ---- a judgement's record, read
 abbrev Held32 : Float → Type 0
@@ -142,15 +142,15 @@ module _ (expected tones : ℕ) (j : ToneJudgement) (b : Throughout Bounded j) (
   llr_bounded = read_bounded b.llr (f32_back j.llr f.llr llr_there)
 
 -- ---- every judgement, of any shape against anything
-module _ (x : ToneShape) (temperature threshold : Float) (t : Tolerance) (l : Listed) (g : Targets) (issues expected tones : ℕ) where
-  abbrev bounds : Throughout Bounded (judgement_of x temperature threshold t l g issues)
-  bounds = judgement_holds Bounded bounded_zero bounded_lowest clamp_bounded x temperature threshold t l g issues
+module _ (x : ToneShape) (settings : Settings) (t : Tolerance) (l : Listings) (g : Targets) (issues expected tones : ℕ) where
+  abbrev bounds : Throughout Bounded (judgement_of x settings t l g issues)
+  bounds = judgement_holds Bounded bounded_zero bounded_lowest clamp_bounded x settings t l g issues
 
-  abbrev f32s : Throughout Held32 (judgement_of x temperature threshold t l g issues)
-  f32s = judgement_holds Held32 (of_bits-fits binary32 0) (narrow_fits (neg million)) clamp_fits x temperature threshold t l g issues
+  abbrev f32s : Throughout Held32 (judgement_of x settings t l g issues)
+  f32s = judgement_holds Held32 (of_bits-fits binary32 0) (narrow_fits (neg million)) clamp_fits x settings t l g issues
 
   abbrev bytes : List ℕ
-  bytes = judgement_bytes expected tones (judgement_of x temperature threshold t l g issues)
+  bytes = judgement_bytes expected tones (judgement_of x settings t l g issues)
 
   pub judgement_length : length bytes ≡ judgement_size
   judgement_length = record_length expected tones _ bounds.eight

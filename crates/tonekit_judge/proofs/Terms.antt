@@ -1,7 +1,7 @@
 -- A turn of a mixture is its term mixed in, where that counts. Assumes nothing.
-use Rattle.std.proofs.Common.{ℕ, ◌+◌, ◌*◌, ◌≡◌, refl, cond, List, get_or, Float}
+use Rattle.std.proofs.Common.{ℕ, ◌+◌, ◌*◌, ◌≡◌, refl, cond, Float}
 use Rattle.std.proofs.Common.{Option, Some, None}
-use Rattle.std.specs.Float.{nan, binary32, binary64}
+use Rattle.std.specs.Float.{binary32, binary64}
 use Rattle.std.specs.Float.Ieee.{add, mul, le, lt}
 use Rattle.tonekit_log.specs.Log.{ln_of}
 use Rattle.tonekit_score.specs.Score.{zero32, log_of, mixed, mix_turn}
@@ -9,6 +9,7 @@ use Rattle.tonekit_score.specs.Terms.{term_of}
 use Rattle.tonekit_score.specs.declared.Scoring.{Scoring}
 use Rattle.tonekit_score.specs.declared.Mixing.{Mixing}
 use Rattle.tonekit_score.specs.declared.Term.{Term}
+use Rattle.tonekit_judge.specs.declared.Component.{Component}
 use Rattle.tonekit_judge.specs.Judge.{weighed}
 use Rattle.tonekit_judge.specs.Terms.{weighed_term, term_at, either_turn}
 use Rattle.tonekit_judge.proofs.Cells.{by_bool}
@@ -28,11 +29,8 @@ module _ (s : Scoring) (m : Mixing) (i : ℕ) (w d2 : Float) where
   unfolding weighed_term weighed
   one_weighed = by_bool (λ b. mix_in m i (cond b (term_of s w d2) None) ≡ cond b (mix_turn s m i w d2) m) (lt zero32 w) one refl
 
-module _ (s : Scoring) (weights : List Float) (d : ℕ → ℕ → Float) (t j : ℕ) (m : Mixing) where
-  abbrev weight : Float
-  weight = get_or weights (4 * t + j) nan
-
-  pub one_term : (share : Option Float) → mix_in m (4 * t + j) (term_at s weights d t share j) ≡ either_turn s weights d t share j m
+module _ (s : Scoring) (c : ℕ → ℕ → Component) (t j : ℕ) (m : Mixing) where
+  pub one_term : (share : Option Float) → mix_in m (4 * t + j) (term_at s c t share j) ≡ either_turn s c t share j m
   unfolding term_at
-  one_term None = one s m (4 * t + j) weight (d t j)
-  one_term (Some share) = one_weighed s m (4 * t + j) (mul binary32 weight share) (d t j)
+  one_term None = one s m (4 * t + j) (c t j).weight (c t j).distance
+  one_term (Some share) = one_weighed s m (4 * t + j) (mul binary32 (c t j).weight share) (c t j).distance

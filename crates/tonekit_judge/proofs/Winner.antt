@@ -1,5 +1,5 @@
 -- The best component of a target is a component of one of its tones, and a judgement names its slot's entries. Assumes nothing.
-use Rattle.std.proofs.Common.{ℕ, ◌+◌, ◌*◌, ◌/◌, ◌<◌, ◌≡◌, refl, subst, true, cond, IfSome, List, arith, Float}
+use Rattle.std.proofs.Common.{ℕ, ◌+◌, ◌*◌, ◌/◌, ◌<◌, ◌≡◌, refl, subst, true, cond, IfSome, length, arith, Float}
 use Rattle.std.proofs.Common.{Option, Some, None}
 use Rattle.std.specs.Float.{binary64}
 use Rattle.std.specs.Float.Ieee.{add, lt, le}
@@ -7,15 +7,15 @@ use Rattle.tonekit_core.proofs.LoopLaws.{range_keeps}
 use Rattle.tonekit_log.specs.Log.{ln_of}
 use Rattle.tonekit_score.specs.Score.{zero32, log_of, no_mixing, mixed, mix_turn, mixture_with, mixture_of, scoring_of}
 use Rattle.tonekit_shape.specs.declared.ToneShape.{ToneShape}
+use Rattle.tonekit_score.specs.declared.Settings.{Settings}
 use Rattle.tonekit_score.specs.declared.Tolerance.{Tolerance}
 use Rattle.tonekit_score.specs.declared.Scoring.{Scoring}
 use Rattle.tonekit_score.specs.declared.LogSumExp.{LogSumExp}
 use Rattle.tonekit_score.specs.declared.Lead.{Lead}
 use Rattle.tonekit_score.specs.declared.Mixing.{Mixing}
 use Rattle.tonekit_score.specs.declared.Mixture.TheVariants.{Scored}
-use Rattle.tonekit_judge.specs.Judge.{Listed, Placed, entry_at, target_at, weighed, part_turn, part_mixing, target_turn, target_mixing, distance_at, nearest_at, with_best, judged_of, usable, judgement_of}
-use Rattle.tonekit_judge.specs.declared.Inventory.{Inventory}
-use Rattle.tonekit_judge.specs.declared.Targets.{Targets}
+use Rattle.tonekit_judge.specs.Judge.{Inventory, Targets, Listings, Placed, entry_at, count_at, target_at, weighed, part_turn, part_mixing, target_turn, target_mixing, component_at, nearest_at, with_best, judged_of, usable, judgement_of}
+use Rattle.tonekit_judge.specs.declared.Component.{Component}
 use Rattle.tonekit_judge.specs.declared.ToneJudgement.{ToneJudgement}
 use Rattle.tonekit_judge.proofs.Cells.{by_bool, led_keeps}
 
@@ -23,8 +23,8 @@ use Rattle.tonekit_judge.proofs.Cells.{by_bool, led_keeps}
 pub record Among (i : Inventory) (slot : ℕ) : Type 0 where
   pub tone : ℕ
   pub component : ℕ
-  pub listed : tone < i.tones
-  pub has : component < (entry_at i tone).count
+  pub listed : tone < length i.items
+  pub has : component < count_at i tone
   pub is : slot ≡ 4 * tone + component
 
 module _ (i : Inventory) (s : Scoring) where
@@ -52,33 +52,33 @@ module _ (i : Inventory) (s : Scoring) where
   scored_best total None ll d2 slot b e = let z : ◌≡◌ {A = ℕ} 0 1 = cc in absurd (omega arith)
   scored_best total (Some best) ll d2 slot b e = let q : best.index ≡ slot = cc in subst (Among i) q b
 
-  module _ (weights : List Float) (d : ℕ → ℕ → Float) where
-    part_best : (t : ℕ) (weight : Float) (m : Mixing) → t < i.tones → Best m → Best (part_mixing s weights d (entry_at i t).count t weight m)
+  module _ (d : ℕ → ℕ → Component) where
+    part_best : (t : ℕ) (weight : Float) (m : Mixing) → t < length i.items → Best m → Best (part_mixing s d (count_at i t) t weight m)
     unfolding part_mixing
     part_best t weight m h b =
-        range_keeps (part_turn s weights d t weight) (λ j m. Best m) 0 (entry_at i t).count m (omega arith)
-        (λ j m l b. weighed_best m (4 * t + j) (d t j) b (record { tone = t; component = j; listed = h; has = l; is = refl }) _) b
+        range_keeps (part_turn s d t weight) (λ j m. Best m) 0 (count_at i t) m (omega arith)
+        (λ j m l b. weighed_best m (4 * t + j) (d t j).distance b (record { tone = t; component = j; listed = h; has = l; is = refl }) _) b
 
-    target_best : (g : Targets) → Placed i.tones g → Best (target_mixing s i weights d g)
+    target_best : (g : Targets) → Placed (length i.items) g → Best (target_mixing s i d g)
     unfolding target_mixing
     target_best g p =
-        range_keeps (target_turn s i weights d g) (λ k m. Best m) 0 g.count no_mixing (omega arith)
+        range_keeps (target_turn s i d g) (λ k m. Best m) 0 (length g.items) no_mixing (omega arith)
         (λ k m h b. part_best (target_at g k).place (target_at g k).weight m (p.each k h) b) tt
 
-    pub winner_among : (g : Targets) → Placed i.tones g → (ll d2 : Float) (slot : ℕ) → mixture_of (target_mixing s i weights d g) ≡ Scored ll slot d2 → Among i slot
+    pub winner_among : (g : Targets) → Placed (length i.items) g → (ll d2 : Float) (slot : ℕ) → mixture_of (target_mixing s i d g) ≡ Scored ll slot d2 → Among i slot
     winner_among g p ll d2 slot e =
-        let m = target_mixing s i weights d g in
+        let m = target_mixing s i d g in
         scored_best m.total m.best ll d2 slot (target_best g p) e
 
 -- owner, form, label and part of a judgement in which a component won, and its distance
-module _ (x : ToneShape) (temperature threshold : Float) (t : Tolerance) (l : Listed) (g : Targets) (issues : ℕ) (ok : usable x ≡ true) (ll d2 : Float) (slot : ℕ) where
+module _ (x : ToneShape) (settings : Settings) (t : Tolerance) (l : Listings) (g : Targets) (issues : ℕ) (ok : usable x ≡ true) (ll d2 : Float) (slot : ℕ) where
   abbrev s : Scoring
-  s = scoring_of temperature t issues
+  s = scoring_of settings.temperature t issues
 
   abbrev j : ToneJudgement
-  j = judgement_of x temperature threshold t l g issues
+  j = judgement_of x settings t l g issues
 
-  pub winner_named : mixture_of (target_mixing s l.inventory l.slots.weights (distance_at x s l.inventory l.slots) g) ≡ Scored ll slot d2
+  pub winner_named : mixture_of (target_mixing s l.inventory (component_at x s l.inventory l.slots) g) ≡ Scored ll slot d2
       → j.nearest ≡ Some (nearest_at (entry_at l.inventory (slot / 4)) slot d2)
   unfolding judgement_of judged_of with_best
   winner_named e = rw (ok, e)

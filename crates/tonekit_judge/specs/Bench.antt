@@ -13,10 +13,11 @@ use Rattle.tonekit_bytes.specs.Fields.{byte_at, u16_at, u32_at, f32s_bytes}
 use Rattle.tonekit_score.specs.Score.{add_to, value_of}
 use Rattle.tonekit_core.specs.declared.DeltaKind.TheVariants.{EndLower, WiderRange}
 use Rattle.tonekit_core.specs.declared.Measured.TheVariants.{Partial}
+use Rattle.tonekit_core.specs.Layout.{single_form, mixture_form}
+use Rattle.tonekit_core.specs.declared.Name.{Name}
 use Rattle.tonekit_judge.specs.declared.ToneEntry.{ToneEntry}
-use Rattle.tonekit_judge.specs.declared.Inventory.{Inventory}
 use Rattle.tonekit_judge.specs.declared.ToneJudgement.{ToneJudgement}
-use Rattle.tonekit_judge.specs.Judge.{ranked, ranking_of, heard_of, greatest32, part_of, not_measured}
+use Rattle.tonekit_judge.specs.Judge.{Inventory, ranked, ranking_of, heard_of, greatest32, part_of, not_measured}
 use Rattle.tonekit_judge.specs.Record.{delta_count, kind_of, amount_of, nearest_bytes, score_bytes, one_bytes, delta_bytes, judgement_bytes}
 
 -- "Tone 1, accent 1 with a citation, eight voiced frames of 110 Hz, floor NaN: hexadecimal 31 01 01 00 24 74 C9, 54 zero bytes, 02 40 00"
@@ -41,21 +42,25 @@ abbrev zero : Float
 zero = of_bits binary32 0
 
 abbrev likely : ℕ → ToneEntry
-likely number = record { number = number; prior = half; region = None; count = 0; owner = 0; form = 0; label = 0 }
+likely number = record { number = number; prior = half; region = None; listing = None }
 
 abbrev two_tones : Inventory
-two_tones = record { tones = 2; entries = likely 7 ∷ likely 9 ∷ [] }
+two_tones = record { items = likely 7 ∷ likely 9 ∷ [] }
 
-pub equal_tones : heard_of two_tones quarter (ranking_of two_tones (zero ∷ zero ∷ [])) ≡ 7
+pub equal_tones : heard_of two_tones quarter (ranking_of two_tones (zero ∷ zero ∷ [])) ≡ Some 7
 unfolding heard_of ranking_of ranked range turns add_to value_of ln_of exp_of is_nan eq neg add sub mul div lt le round of_int of_bits
 equal_tones = refl
 
+-- a name of this form
+abbrev of_form : ℕ → Name
+of_form form = record { owner = 1; form = form; label = 0 }
+
 -- a part counts from 0, in a mixture alone
-pub third_part : part_of 3 6 ≡ 2
+pub third_part : part_of (of_form mixture_form) 6 ≡ 2
 unfolding part_of
 third_part = refl
 
-pub single_part : part_of 2 4 ≡ 0
+pub single_part : part_of (of_form single_form) 4 ≡ 0
 unfolding part_of
 single_part = refl
 
@@ -69,8 +74,8 @@ judgement49 = record {
       f32 0x0605_0403 ∷ f32 0x0a09_0807 ∷ f32 0x0e0d_0c0b ∷ f32 0x1211_100f ∷
       f32 0x1615_1413 ∷ f32 0x1a19_1817 ∷ f32 0x1e1d_1c1b ∷ f32 0x2221_201f ∷ [];
   llr = f32 0x2625_2423;
-  nearest = Some (record { distance = f32 0x2b2a_2928; owner = 44; form = 45; label = 0x2f2e; part = 48 });
-  heard = 49;
+  nearest = Some (record { distance = f32 0x2b2a_2928; name = record { owner = 44; form = 45; label = 0x2f2e }; part = 48 });
+  heard = Some 49;
   deltas = record {
     first = Some (record { z = f32 0; kind = WiderRange; amount = f32 0x3736_3534 });
     second = Some (record { z = f32 0; kind = EndLower; amount = f32 0x3c3b_3a39 });

@@ -31,15 +31,15 @@ head_bytes expected tones = judgement_kind ∷ expected ∷ tones ∷ []
 
 -- distance, owner, form, label and part: 0 where there is no best component
 abbrev pub no_nearest : Nearest
-no_nearest = record { distance = zero32; owner = 0; form = 0; label = 0; part = 0 }
+no_nearest = record { distance = zero32; name = record { owner = 0; form = 0; label = 0 }; part = 0 }
 
 -- distance flag and value, owner, form, label, part
 unfoldable pub nearest_bytes : ℕ → Nearest → List ℕ
-nearest_bytes flag n = (flag ∷ []) ++ (f32_bytes n.distance ++ ((n.owner ∷ n.form ∷ []) ++ (le16 n.label ++ (n.part ∷ []))))
+nearest_bytes flag n = (flag ∷ []) ++ (f32_bytes n.distance ++ ((n.name.owner ∷ n.name.form ∷ []) ++ (le16 n.name.label ++ (n.part ∷ []))))
 
--- llr, the best component, heard
+-- llr, the best component, heard or 0
 unfoldable pub score_bytes : ToneJudgement → List ℕ
-score_bytes j = f32_bytes j.llr ++ (nearest_bytes (one_if (is_some j.nearest)) (unwrap_or j.nearest no_nearest) ++ (j.heard ∷ []))
+score_bytes j = f32_bytes j.llr ++ (nearest_bytes (one_if (is_some j.nearest)) (unwrap_or j.nearest no_nearest) ++ (unwrap_or j.heard 0 ∷ []))
 
 -- a delta: kind and amount
 unfoldable pub one_bytes : Option Delta → List ℕ

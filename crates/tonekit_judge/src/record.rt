@@ -1,19 +1,18 @@
 // The record of a judgement, kind 49.
-ghost use Rattle.std.specs.Prelude.{◌≡◌, ◌+◌, ◌≤◌, length};
+ghost use Rattle.std.specs.Prelude.{◌≡◌, ◌+◌, ◌≤◌, is_some, unwrap_or, length};
 ghost use Rattle.std.proofs.lemmas.List.Edits.{sets};
 ghost use Rattle.tonekit_core.specs.Layout.{judgement_llr, judgement_distanced, judgement_delta_count, judgement_measured, delta_size};
-ghost use Rattle.tonekit_judge.specs.Record.{kind_of, amount_of, delta_count, head_bytes, nearest_bytes, score_bytes, one_bytes, delta_bytes, tail_bytes, judgement_bytes};
+ghost use Rattle.tonekit_judge.specs.Record.{kind_of, amount_of, delta_count, head_bytes, one_if, no_nearest, nearest_bytes, score_bytes, one_bytes, delta_bytes, tail_bytes, judgement_bytes};
+ghost use Rattle.tonekit_core.specs.Words.{measured_number};
 
-use crate::{Nearest, ToneJudgement};
-use tonekit_core::layout;
+use crate::{NO_NAME, Nearest, ToneJudgement};
+use tonekit_core::{Measured, layout};
 use tonekit_deltas::{Delta, Deltas};
 
 // What a record has of the best component where there is none.
 const NO_NEAREST: Nearest = Nearest {
     distance: 0.0,
-    owner: 0,
-    form: 0,
-    label: 0,
+    name: NO_NAME,
     part: 0,
 };
 
@@ -58,14 +57,19 @@ fn put_head(out: &mut [u8; layout::JUDGEMENT_SIZE], expected: u8, tones: u8)
 
 // Writes what is said of the best component, behind a flag.
 #[tactic(auto, unfolding(crate::specs::Record::nearest_bytes))]
-fn put_nearest(out: &mut [u8; layout::JUDGEMENT_SIZE], flag: u8, n: Nearest)
-    ensures { out.new ≡ sets out.old judgement_distanced (nearest_bytes flag n) }
+fn put_nearest(out: &mut [u8; layout::JUDGEMENT_SIZE], nearest: Option<Nearest>)
+    ensures { out.new ≡ sets out.old judgement_distanced (nearest_bytes (one_if (is_some nearest)) (unwrap_or nearest no_nearest)) }
 {
-    tonekit_bytes::put_u8(out, layout::JUDGEMENT_DISTANCED, flag);
+    let n = nearest.unwrap_or(NO_NEAREST);
+    tonekit_bytes::put_u8(
+        out,
+        layout::JUDGEMENT_DISTANCED,
+        u8::from(nearest.is_some()),
+    );
     tonekit_bytes::put_f32(out, layout::JUDGEMENT_DISTANCE, n.distance);
-    tonekit_bytes::put_u8(out, layout::JUDGEMENT_OWNER, n.owner);
-    tonekit_bytes::put_u8(out, layout::JUDGEMENT_FORM, n.form);
-    tonekit_bytes::put_u16(out, layout::JUDGEMENT_LABEL, n.label);
+    tonekit_bytes::put_u8(out, layout::JUDGEMENT_OWNER, n.name.owner);
+    tonekit_bytes::put_u8(out, layout::JUDGEMENT_FORM, n.name.form);
+    tonekit_bytes::put_u16(out, layout::JUDGEMENT_LABEL, n.name.label);
     tonekit_bytes::put_u8(out, layout::JUDGEMENT_PART, n.part);
 }
 
@@ -75,9 +79,8 @@ fn put_scores(out: &mut [u8; layout::JUDGEMENT_SIZE], j: ToneJudgement)
     ensures { out.new ≡ sets out.old judgement_llr (score_bytes j) }
 {
     tonekit_bytes::put_f32(out, layout::JUDGEMENT_LLR, j.llr);
-    let flag = u8::from(j.nearest.is_some());
-    put_nearest(out, flag, j.nearest.unwrap_or(NO_NEAREST));
-    tonekit_bytes::put_u8(out, layout::JUDGEMENT_HEARD, j.heard);
+    put_nearest(out, j.nearest);
+    tonekit_bytes::put_u8(out, layout::JUDGEMENT_HEARD, j.heard.unwrap_or(0));
 }
 
 // Writes a delta's kind and amount at an index.
@@ -100,10 +103,10 @@ fn put_deltas(out: &mut [u8; layout::JUDGEMENT_SIZE], ds: Deltas)
 }
 
 // Writes measured and issues.
-fn put_tail(out: &mut [u8; layout::JUDGEMENT_SIZE], measured: u8, issues: u16)
-    ensures { out.new ≡ sets out.old judgement_measured (tail_bytes measured issues) }
+fn put_tail(out: &mut [u8; layout::JUDGEMENT_SIZE], measured: Measured, issues: u16)
+    ensures { out.new ≡ sets out.old judgement_measured (tail_bytes (measured_number measured) issues) }
 {
-    tonekit_bytes::put_u8(out, layout::JUDGEMENT_MEASURED, measured);
+    tonekit_bytes::put_u8(out, layout::JUDGEMENT_MEASURED, u8::from(measured));
     tonekit_bytes::put_u16(out, layout::JUDGEMENT_ISSUES, issues);
 }
 
@@ -115,7 +118,7 @@ fn put_judgement(out: &mut [u8; layout::JUDGEMENT_SIZE], expected: u8, tones: u8
     tonekit_bytes::put_f32s(out, layout::JUDGEMENT_LOGLIK, &j.loglik);
     put_scores(out, j);
     put_deltas(out, j.deltas);
-    put_tail(out, u8::from(j.measured), j.issues);
+    put_tail(out, j.measured, j.issues);
 }
 
 // The record of a judgement, kind 49, with the number of the expected tone and the count of tones.

@@ -1,42 +1,53 @@
 -- What callers may cite of ln, log2 and exp. Nothing above unfolds their definitions. Assumes nothing.
-use Rattle.std.proofs.Common.{◌≡◌, zero, suc, Bool, true, false, cond, T, ℤ, pos, sym, refl, ◌∙◌, subst, Float}
+use Rattle.std.proofs.Common.{◌≡◌, zero, suc, Bool, true, false, cond, T, ℤ, pos, sym, refl, ap, ◌∙◌, subst, Float}
 use lib.Ieee.{nan, inf, fin, binary64, round, neg, sum, add, sub, mul, div, lt, le, is_nan, of_int, of_bits, fits}
 use lib.Ieee.Bits.{is_true}
 use lib.Ieee.Fits.{nan-fits, inf-fits, cond-fits, add-fits, mul-fits}
 use lib.Ieee.Scale.{finite}
-use Rattle.tonekit_float.specs.Bounds.{In, Within}
+use Rattle.tonekit_float.specs.Bounds.{Within}
 use Rattle.tonekit_float.proofs.Monotone.{zero_f}
 use Rattle.tonekit_float.proofs.Bounds.{in_finite}
 use Rattle.tonekit_float.proofs.Signs.{below}
 use Rattle.tonekit_log.specs.declared.Parts.{Parts}
-use Rattle.tonekit_log.specs.Constants.{LN2, one, bound}
+use Rattle.tonekit_log.specs.Constants.{LN2, LOG2E, one, bound}
 use Rattle.tonekit_log.specs.Log.{Exponent, series, ln_at, log2_at, log_by, ln_of, log2_of}
 use Rattle.tonekit_log.specs.Exp.{exp_series, turns, rest, floor_of, exp_by, exp_of}
 use Rattle.tonekit_log.proofs.LogCases.{ln_is, log2_is, none_of}
-use Rattle.tonekit_log.proofs.Powers as powers
-use Rattle.tonekit_log.proofs.LogRange as range
+use Rattle.tonekit_log.proofs.Powers.{at_power, log2_at_one, ln_at_one, none_more, exponent_stays, product_stays}
+use Rattle.tonekit_log.proofs.LogRange.{ln_at_in, log2_at_in, by_parts}
 use Rattle.tonekit_log.proofs.ExpCases as cases
-use Rattle.tonekit_log.proofs.ExpRange as small
+use Rattle.tonekit_log.proofs.ExpRange.{exp_in}
 
 -- ---- powers of two
 -- at m = 1 the series gives exactly 0
 pub series_at_one : series one ≡ zero_f
-series_at_one = powers.series_at_one
+unfolding series mul div add sub of_bits of_int
+series_at_one = refl
 
 -- log2 (2 ^ k) is k
 pub log2_power : (k : ℤ) → Exponent k → log2_of (fin false 1 k) ≡ of_int binary64 k
-log2_power = powers.log2_at_power
+log2_power k h =
+    log2_is (fin false 1 k)
+    ∙ at_power log2_at k h
+    ∙ log2_at_one (of_int binary64 k)
+    ∙ ap (λ (y : Float). add binary64 (of_int binary64 k) y) (ap (λ (y : Float). mul binary64 y LOG2E) series_at_one ∙ none_more)
+    ∙ exponent_stays k h
 
 -- ln (2 ^ k) is k·LN2, rounded once
 pub ln_power : (k : ℤ) → Exponent k → ln_of (fin false 1 k) ≡ mul binary64 (of_int binary64 k) LN2
-ln_power = powers.ln_at_power
+ln_power k h =
+    ln_is (fin false 1 k)
+    ∙ at_power ln_at k h
+    ∙ ln_at_one (of_int binary64 k)
+    ∙ ap (λ (y : Float). add binary64 (mul binary64 (of_int binary64 k) LN2) y) series_at_one
+    ∙ product_stays k h
 
 -- ---- the logarithm of a positive number is finite, and how large it can be
 pub ln_within : (x : Float) → T (fits binary64 x) → T (lt zero_f x) → T (lt x (inf false)) → Within 746 (ln_of x)
-ln_within = range.ln_within
+ln_within x p g h = subst (Within 746) (sym (ln_is x)) (by_parts ln_at 746 ln_at_in x p g h)
 
 pub log2_within : (x : Float) → T (fits binary64 x) → T (lt zero_f x) → T (lt x (inf false)) → Within 1076 (log2_of x)
-log2_within = range.log2_within
+log2_within x p g h = subst (Within 1076) (sym (log2_is x)) (by_parts log2_at 1076 log2_at_in x p g h)
 
 -- ---- zero, infinity, negative numbers, NaN
 by_zero : (f : Parts → Float) (s : Bool) (e : ℤ) → log_by f (fin s 0 e) ≡ inf true
@@ -97,10 +108,7 @@ exp_low v h = sym (cases.low_result v (number v h) (is_true (lt v (neg bound)) h
     number (inf s) h = unfold is_nan in refl
     number (fin s m e) h = unfold is_nan in refl
 
--- of a number that is not above 0, -infinity too: from 0 to 2
-pub exp_in : (v : Float) → T (le v zero_f) → In zero_f (fin false 1 (pos 1)) (exp_of v)
-exp_in = small.exp_in
-
+-- of a number that is not above 0, -infinity too; `exp_in` of ExpRange says that it is from 0 to 2
 pub exp_finite : (v : Float) → T (le v zero_f) → T (finite (exp_of v))
 exp_finite v h = in_finite {lo = zero_f} {hi = fin false 1 (pos 1)} tt (exp_in v h)
 

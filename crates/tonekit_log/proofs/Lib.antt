@@ -5,5 +5,5 @@ mod LogRange
 mod Floor
 mod Turns
 mod ExpCases
-mod ExpRange
+pub mod ExpRange
 pub mod Laws

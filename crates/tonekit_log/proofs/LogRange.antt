@@ -19,9 +19,9 @@ use Rattle.tonekit_float.proofs.Patterns.{units_in, units_pos, units_lt}
 use Rattle.tonekit_float.proofs.Signs as signs
 use Rattle.tonekit_log.specs.declared.Parts.{Parts}
 use Rattle.tonekit_log.specs.Constants.{LN2, LOG2E, ROOT2, half, one, two}
-use Rattle.tonekit_log.specs.Log.{recip, steps, ratio, series, parts_of, centred, ln_at, log2_at, ln_of, log2_of, log_by}
+use Rattle.tonekit_log.specs.Log.{recip, steps, ratio, series, parts_of, centred, ln_at, log2_at, log_by}
 use Rattle.tonekit_log.proofs.Powers.{minus_is, from_above}
-use Rattle.tonekit_log.proofs.LogCases.{ln_is, log2_is, number_is}
+use Rattle.tonekit_log.proofs.LogCases.{number_is}
 
 at_itself : (x : Float) → T (finite x) → In x x x
 at_itself x f = record { low = le_refl_finite x f; high = le_refl_finite x f }
@@ -279,9 +279,9 @@ exponent_in z p h = go (leb 1075 z) (leb→le 1075 z) (nleb→lt 1075 z)
         deep z h k = omega arith
 
 -- ---- after halving
-record Centred (p : Parts) : Type 0 where
-  m_in : In low_m ROOT2 p.m
-  e_in : In (neg (W 1074)) (W 1024) p.e
+pub record Centred (p : Parts) : Type 0 where
+  pub m_in : In low_m ROOT2 p.m
+  pub e_in : In (neg (W 1074)) (W 1024) p.e
 
 half_ends : T (le low_m (mul binary64 ROOT2 half) && le (mul binary64 two half) ROOT2)
 unfolding of_bits mul round le lt eq
@@ -345,27 +345,21 @@ log2_ends : Within 1076 (add binary64 (neg (W 1074)) (mul binary64 (neg one_f) L
 unfolding of_bits neg of_int mul add sum round
 log2_ends = (within_lit 1076 (add binary64 (neg (W 1074)) (mul binary64 (neg one_f) LOG2E)) tt, within_lit 1076 (add binary64 (W 1024) (mul binary64 one_f LOG2E)) tt)
 
-ln_at_in : (p : Parts) → Centred p → Within 746 (ln_at p)
+pub ln_at_in : (p : Parts) → Centred p → Within 746 (ln_at p)
 unfolding ln_at
 ln_at_in p c =
     in_within ln_ends.0 ln_ends.1
     (in_add binary64 ln_finite4 (in_times (neg (W 1074)) (W 1024) LN2 ends.0 factors.0 factors.1 c.e_in) (series_in p.m c.m_in))
 
-log2_at_in : (p : Parts) → Centred p → Within 1076 (log2_at p)
+pub log2_at_in : (p : Parts) → Centred p → Within 1076 (log2_at p)
 unfolding log2_at
 log2_at_in p c =
     in_within log2_ends.0 log2_ends.1
     (in_add binary64 log2_finite4 c.e_in (in_times (neg one_f) one_f LOG2E ends.1 factors.2 factors.3 (series_in p.m c.m_in)))
 
-by_parts : (f : Parts → Float) (k : ℕ) → ((p : Parts) → Centred p → Within k (f p)) → (x : Float) → T (fits binary64 x) → T (lt zero_f x) → T (lt x (inf false)) → Within k (log_by f x)
+pub by_parts : (f : Parts → Float) (k : ℕ) → ((p : Parts) → Centred p → Within k (f p)) → (x : Float) → T (fits binary64 x) → T (lt zero_f x) → T (lt x (inf false)) → Within k (log_by f x)
 by_parts f k each x p g h =
     let a = signs.above x g h in
     let q = subst (λ (y : Float). T (fits binary64 y)) a.is p in
     subst (λ (y : Float). Within k (log_by f y)) (sym a.is)
     (subst (Within k) (sym (number_is f a.m a.e)) (each _ (parts_in (units_in (fin false (suc a.m) a.e)) (units_pos a.m a.e q) (units_lt a.m a.e q))))
-
-pub ln_within : (x : Float) → T (fits binary64 x) → T (lt zero_f x) → T (lt x (inf false)) → Within 746 (ln_of x)
-ln_within x p g h = subst (Within 746) (sym (ln_is x)) (by_parts ln_at 746 ln_at_in x p g h)
-
-pub log2_within : (x : Float) → T (fits binary64 x) → T (lt zero_f x) → T (lt x (inf false)) → Within 1076 (log2_of x)
-log2_within x p g h = subst (Within 1076) (sym (log2_is x)) (by_parts log2_at 1076 log2_at_in x p g h)

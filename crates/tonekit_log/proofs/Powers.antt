@@ -3,7 +3,7 @@ use Rattle.std.proofs.Common.{◌≡◌, ℕ, zero, suc, ◌+◌, ◌-◌, ◌*�
 use lib.Dec.{leb-zero}
 use borrow.Author.Tests.{lt-leb}
 use lib.Pow.{pow-lt}
-use lib.Ieee.{Float, nan, inf, fin, binary64, up, down, size, round, neg, sum, add, sub, mul, div, le, lt, eq, of_int, of_bits, fits, minus}
+use lib.Ieee.{Float, nan, inf, fin, binary64, up, down, size, round, neg, sum, add, mul, le, lt, eq, of_int, of_bits, fits, minus}
 use lib.Ieee.Fits.{up_pos, mul-fits, of_int-fits}
 use lib.Ieee.Positive.{positive, above_of_le}
 use lib.Ieee.Positive as positives
@@ -16,9 +16,9 @@ use Rattle.tonekit_float.proofs.Size.{within_whole, within_neg, within_mul, with
 use Rattle.tonekit_float.specs.Bounds.{Within}
 use Rattle.tonekit_log.specs.declared.Parts.{Parts}
 use Rattle.tonekit_log.specs.Constants.{LN2, LOG2E, one}
-use Rattle.tonekit_log.specs.Log.{Exponent, parts_of, centred, series, ln_at, log2_at, ln_of, log2_of, log_by}
+use Rattle.tonekit_log.specs.Log.{Exponent, parts_of, centred, series, ln_at, log2_at, log_by}
 use Rattle.tonekit_log.proofs.PartsOf.{parts_of_is, shift_minus}
-use Rattle.tonekit_log.proofs.LogCases.{ln_is, log2_is, number_is}
+use Rattle.tonekit_log.proofs.LogCases.{number_is}
 
 -- ---- a number that is not 0, plus 0
 exact : (M D k d : ℕ) (s : Bool) → k ≡ M → d ≡ D → round binary64 s k d ≡ round binary64 s M D
@@ -95,7 +95,7 @@ few1 k n h l = omega arith
 from_one : (k : ℕ) → 1 ≤ suc k
 from_one k = omega arith
 
-exponent_stays : (k : ℤ) → Exponent k → add binary64 (of_int binary64 k) zero_f ≡ of_int binary64 k
+pub exponent_stays : (k : ℤ) → Exponent k → add binary64 (of_int binary64 k) zero_f ≡ of_int binary64 k
 exponent_stays (pos zero) h = unfold add sum of_int round in refl
 exponent_stays (pos (suc k)) h =
     plus_zero (whole binary64 (suc k)) (of_int-fits binary64 (pos (suc k)))
@@ -107,7 +107,7 @@ exponent_stays (negsuc k) h =
     (inr (from_below (neg (whole binary64 1)) (neg n) one_down.0 (neg_finite n (whole_up k (few k 1074 h (lit≤ tt)))) (neg_le (whole binary64 1) n (whole_le binary64 1 (suc k) (from_one k)))))
     ∙ sym (minus_is k)
 
-product_stays : (k : ℤ) → Exponent k → add binary64 (mul binary64 (of_int binary64 k) LN2) zero_f ≡ mul binary64 (of_int binary64 k) LN2
+pub product_stays : (k : ℤ) → Exponent k → add binary64 (mul binary64 (of_int binary64 k) LN2) zero_f ≡ mul binary64 (of_int binary64 k) LN2
 product_stays (pos zero) h = unfold add sum mul of_int of_bits round in refl
 product_stays (pos (suc k)) h =
     let n = whole binary64 (suc k) in
@@ -126,12 +126,8 @@ product_stays (negsuc k) h =
     (mul_le_left binary64 m (neg (whole binary64 1)) LN2 (neg_finite n F) one_down.2 ln2_finite.0 ln2_finite.1 (neg_le (whole binary64 1) n (whole_le binary64 1 (suc k) (from_one k))))))
     ∙ sym (ap (λ (y : Float). mul binary64 y LN2) (minus_is k))
 
--- ---- the series at 1
-pub series_at_one : series one ≡ zero_f
-unfolding series mul div add sub of_bits of_int
-series_at_one = refl
-
-none_more : mul binary64 zero_f LOG2E ≡ zero_f
+-- ---- the series at 1 is 0
+pub none_more : mul binary64 zero_f LOG2E ≡ zero_f
 unfolding mul of_bits round
 none_more = refl
 
@@ -170,7 +166,7 @@ at_units f k j p q =
     ∙ ap f (stays (of_int binary64 (minus j 1074)))
     ∙ ap (λ (i : ℤ). f (record { m = one; e = of_int binary64 i })) q
 
-at_power : (f : Parts → Float) (k : ℤ) → Exponent k → log_by f (fin false 1 k) ≡ f (record { m = one; e = of_int binary64 k })
+pub at_power : (f : Parts → Float) (k : ℤ) → Exponent k → log_by f (fin false 1 k) ≡ f (record { m = one; e = of_int binary64 k })
 at_power f (pos k) h =
     at_units f (pos k) (k + 1074) (div-one (1 * 2 ^ k * 2 ^ 1074) ∙ ap (λ (z : ℕ). z * 2 ^ 1074) (one-mul (2 ^ k)) ∙ sym (pow-add 2 k 1074)) (shift_minus k 0 1074 ∙ zero_minus k)
   where
@@ -194,26 +190,10 @@ at_power f (negsuc k) h =
     twice k h = omega arith
 
 -- ---- both logarithms
-log2_at_one : (e : Float) → log2_at (record { m = one; e = e }) ≡ add binary64 e (mul binary64 (series one) LOG2E)
+pub log2_at_one : (e : Float) → log2_at (record { m = one; e = e }) ≡ add binary64 e (mul binary64 (series one) LOG2E)
 unfolding log2_at
 log2_at_one e = refl
 
-ln_at_one : (e : Float) → ln_at (record { m = one; e = e }) ≡ add binary64 (mul binary64 e LN2) (series one)
+pub ln_at_one : (e : Float) → ln_at (record { m = one; e = e }) ≡ add binary64 (mul binary64 e LN2) (series one)
 unfolding ln_at
 ln_at_one e = refl
-
-pub log2_at_power : (k : ℤ) → Exponent k → log2_of (fin false 1 k) ≡ of_int binary64 k
-log2_at_power k h =
-    log2_is (fin false 1 k)
-    ∙ at_power log2_at k h
-    ∙ log2_at_one (of_int binary64 k)
-    ∙ ap (λ (y : Float). add binary64 (of_int binary64 k) y) (ap (λ (y : Float). mul binary64 y LOG2E) series_at_one ∙ none_more)
-    ∙ exponent_stays k h
-
-pub ln_at_power : (k : ℤ) → Exponent k → ln_of (fin false 1 k) ≡ mul binary64 (of_int binary64 k) LN2
-ln_at_power k h =
-    ln_is (fin false 1 k)
-    ∙ at_power ln_at k h
-    ∙ ln_at_one (of_int binary64 k)
-    ∙ ap (λ (y : Float). add binary64 (mul binary64 (of_int binary64 k) LN2) y) series_at_one
-    ∙ product_stays k h

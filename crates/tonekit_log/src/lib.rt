@@ -7,6 +7,8 @@ ghost use Rattle.std.specs.Float.Ieee as Ieee;
 ghost use Rattle.tonekit_log.specs.Log.{series, fields, scaled, centred, IsPartsOf, ln_of, log2_of};
 ghost use Rattle.tonekit_log.specs.Exp.{exp_series, floor_of, exp_of};
 
+use tonekit_float::Positive;
+
 const LN2: f64 = 0.6931471805599453;
 
 const LOG2E: f64 = 1.4426950408889634;
@@ -22,7 +24,8 @@ pub struct Parts {
 fn log_series(m: f64) -> f64
     ensures { result ≡ series m }
 {
-    // Stays: a line for each term, in the order in which the operations are to be rounded.
+    // A line for each term, in the order in which the operations are to be rounded.
+    // Stays: tried as a fold over the divisors; that the fold gives the definition's `steps` did not close.
     let s = (m - 1.0) / (m + 1.0);
     let z = s * s;
     let mut p = 1.0 / 23.0;
@@ -52,11 +55,11 @@ fn fields(x: f64) -> Parts
 }
 
 // A subnormal is scaled by 2^54 first, and e lowered by 54.
-fn scaled(x: f64) -> Parts
-    requires high { T (Ieee.lt x (Ieee.inf false)) }
-    requires low { T (Ieee.lt (Ieee.fin false 0 (pos 0)) x) }
-    ensures { result ≡ scaled x }
+fn scaled(positive: Positive) -> Parts
+    requires { T (Ieee.lt positive.value (Ieee.inf false)) }
+    ensures { result ≡ scaled positive.value }
 {
+    let x = positive.value;
     if x < 2.2250738585072014e-308 {
         let p = fields(x * 18014398509481984.0);
         Parts {
@@ -88,15 +91,15 @@ fn split(x: f64) -> Result<Parts, f64>
     ensures { IsPartsOf x result }
 {
     if x > 0.0 {
-        if x < 1.0 / 0.0 {
-            Ok(centred(scaled(x)))
+        if x < f64::INFINITY {
+            Ok(centred(scaled(Positive { value: x })))
         } else {
             Err(x)
         }
     } else if x == 0.0 {
-        Err(-1.0 / 0.0)
+        Err(f64::NEG_INFINITY)
     } else {
-        Err(0.0 / 0.0)
+        Err(f64::NAN)
     }
 }
 
@@ -124,7 +127,8 @@ pub fn log2(x: f64) -> f64
 fn exp_series(r: f64) -> f64
     ensures { result ≡ exp_series r }
 {
-    // Stays: a line for each term, in the order in which the operations are to be rounded.
+    // A line for each term, in the order in which the operations are to be rounded.
+    // Stays: tried as a fold over the divisors; that the fold gives the definition's `steps` did not close.
     let mut q = 1.0;
     q = 1.0 + (r * q) / 13.0;
     q = 1.0 + (r * q) / 12.0;
@@ -182,7 +186,7 @@ pub fn exp(v: f64) -> f64
         return 0.0;
     }
     if v > 708.0 {
-        return 1.0 / 0.0;
+        return f64::INFINITY;
     }
     let t = v * LOG2E + 0.5;
     let n = whole_below(t);

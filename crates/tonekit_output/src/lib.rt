@@ -27,16 +27,13 @@ pub fn check_output(
 ) -> Option<usize>
     ensures { Checks word.now input.now out.old result out.new }
 {
-    if check::same(word, b"pack") {
-        return Some(tell_checked(tonekit_pack::check_pack(input), out));
-    }
-    if check::same(word, b"query") {
-        return Some(tell_checked(tonekit_query::check_query(input), out));
-    }
-    if check::same(word, b"sheet") {
-        return Some(tell_checked(tonekit_sheet_read::check_sheet(input), out));
-    }
-    None
+    let checked = match word {
+        b"pack" => tonekit_pack::check_pack(input),
+        b"query" => tonekit_query::check_query(input),
+        b"sheet" => tonekit_sheet_read::check_sheet(input),
+        _ => return None,
+    };
+    Some(tell_checked(checked, out))
 }
 
 // The program `shape`: how many bytes it writes, which stand in `out`.
@@ -48,7 +45,7 @@ pub fn shape_output(query: &[u8], out: &mut [u8; layout::SHAPE_SIZE]) -> usize
 }
 
 // The program `sheet`, likewise. No sheet is longer than what it is lent.
-// Stays: what differs from `shape_output` is the call, and beside it there is one more.
+// Stays: `shape_output` differs from this in its call alone; one function over the call would take a closure, and its contract would have to be the closure's.
 pub fn sheet_output(pack: &[u8], out: &mut [u8; layout::SHEET_MOST]) -> usize
     ensures { Told (sheet_outcome pack.now) out.old result out.new }
 {

@@ -9,11 +9,13 @@ use Rattle.tonekit_core.proofs.LoopLaws.{range_same}
 use Rattle.tonekit_bytes.specs.Fields.{byte_at}
 use Rattle.tonekit_bytes.proofs.Agreeing.{Agree, taken_agrees, four, float}
 use Rattle.tonekit_pack.specs.Ranges.{slot_fine, slot_turn, knots_fine, region_fine, tolerances_fine}
-use Rattle.tonekit_pack.specs.Pack.{Pst, Out, loaded, refused, size_of, holds, zero_or_held, number_at, last_rule, settings_verdict, tone_verdict, accent_verdict, rule_verdict, part_verdict, body_verdict, due_after, record_verdict, added, start, read_pack, singly, load_pack}
+use Rattle.tonekit_bytes.specs.Places.{number_at}
+use Rattle.tonekit_pack.specs.Pack.{Pst, Out, loaded, refused, size_of, holds, zero_or_held, last_rule, settings_verdict, tone_verdict, accent_verdict, rule_verdict, part_verdict, body_verdict, due_after, record_verdict, added, start, read_pack, singly, load_pack}
 use Rattle.tonekit_core.proofs.Split.{split}
 use Rattle.tonekit_pack.proofs.Each.{each_snoc}
 use Rattle.tonekit_pack.proofs.Records.{Due, due_is, settings, tone, accent, rule, part, finish, sound, tone_room, accent_room, rule_room, part_room}
-use Rattle.tonekit_pack.proofs.Reading.{Near, near_next}
+use Rattle.tonekit_pack.specs.Going.{Near}
+use Rattle.tonekit_pack.proofs.Reading.{near_next}
 use Rattle.tonekit_pack.proofs.Turns.{run, by_verdict, run_refused, run_end, run_on, limit_idle}
 use Rattle.tonekit_pack.proofs.Loads.{loads, near_end}
 

@@ -1,5 +1,5 @@
 pub mod Numbers
-pub mod InOrder
+pub mod ByKind
 pub mod Roomy
 pub mod Each
 pub mod Records
@@ -8,3 +8,4 @@ pub mod Single
 pub mod Turns
 pub mod Loads
 pub mod Front
+pub mod Bounds

@@ -6,12 +6,14 @@ use Rattle.tonekit_core.specs.declared.Refusal.TheVariants.{CutShort}
 use Rattle.std.specs.Prelude.{Ok}
 use Rattle.tonekit_bytes.specs.Fields.{byte_at, u32_at, f32_at}
 use Rattle.tonekit_pack.specs.Ranges.{above_zero, a_share, weight_fine, knots_fine, region_fine, tolerances_fine}
-use Rattle.tonekit_pack.specs.Pack.{Pst, Out, loaded, refused, size_of, number_at, holds, zero_or_held, single, settings_verdict, body_verdict, added, start, parts_from, read_pack}
+use Rattle.tonekit_bytes.specs.Places.{number_at}
+use Rattle.tonekit_pack.specs.Pack.{Pst, Out, loaded, refused, size_of, holds, zero_or_held, single, settings_verdict, body_verdict, added, start, parts_from, read_pack}
 use Rattle.tonekit_core.proofs.Split.{split, either, neither, both}
 use Rattle.tonekit_pack.proofs.Numbers.{zero_or_before, none_before}
 use Rattle.tonekit_pack.proofs.Each.{Each, each_snoc}
 use Rattle.tonekit_pack.proofs.Records.{Due, settings, tone, accent, rule, part, finish, passed, tone_passed, accent_passed, rule_passed, part_passed, tone_room, accent_room, rule_room, part_room}
-use Rattle.tonekit_pack.proofs.Reading.{Near, near_next}
+use Rattle.tonekit_pack.specs.Going.{Near}
+use Rattle.tonekit_pack.proofs.Reading.{near_next}
 use Rattle.tonekit_pack.proofs.Turns.{run, accepted, no_turns}
 
 -- ---- the records

@@ -1,21 +1,26 @@
 -- Whether a number is held, looked for from the front of the list of offsets. Assumes nothing.
-use Rattle.std.proofs.Common.{ℕ, zero, suc, ◌+◌, ◌≤◌, ◌<◌, ◌≡◌, ◌⊎◌, inl, inr, ⊎_elim, true, false, List, [], ◌∷◌, arith, add-one, eq-eqb, ne_eqb, eqb-true, eqb, length, get_or, take, drop, drop_of_length-le, drop-cons, length-take-le, get_or-take}
+use Rattle.std.specs.Prelude.{Option, Some, None}
+use Rattle.std.proofs.Common.{Bool, cond, is_some, refl, ◌||◌, ◌∙◌, ℕ, zero, suc, ◌≤◌, ◌<◌, ◌≡◌, ◌⊎◌, inl, inr, ⊎_elim, true, false, List, [], ◌∷◌, arith, eqb-true, eqb, length, get_or, take, length-take-le, get_or-take}
 use borrow.Author.Tests.{eqb-false}
-use Rattle.tonekit_pack.specs.Pack.{holds, zero_or_held, number_at}
+use Rattle.tonekit_bytes.specs.Places.{number_at, index_of}
+use Rattle.tonekit_bytes.proofs.Searched.{pick, searched}
+use Rattle.tonekit_pack.specs.Pack.{holds, zero_or_held}
 use Rattle.tonekit_core.proofs.Split.{absurd_bool, either, neither}
 
-module _ (s os : List ℕ) (x i : ℕ) where
-  pub hit : i < length os → number_at s (get_or os i 0) ≡ x → holds s (drop i os) x ≡ true
-  unfolding holds
-  hit h e = rw (drop-cons os i 0 h, eq-eqb (number_at s (get_or os i 0)) x e)
+or_cond : (b c : Bool) → (b || c) ≡ cond b true c
+or_cond true c = refl
+or_cond false c = refl
 
-  pub miss : i < length os → (number_at s (get_or os i 0) ≡ x → ⊥) → holds s (drop (i + 1) os) x ≡ holds s (drop i os) x
-  unfolding holds
-  miss h n = rw (drop-cons os i 0 h, ne_eqb (number_at s (get_or os i 0)) x n, add-one)
+found : (os : List ℕ) (f : Option ℕ) → pick (λ o. true) false os f ≡ is_some f
+found os (Some i) = refl
+found os None = refl
 
-  pub none_left : length os ≤ i → holds s (drop i os) x ≡ false
-  unfolding holds
-  none_left h = rw (drop_of_length-le os h)
+-- what the search by number finds is held, and else it is not
+pub holds_found : (s os : List ℕ) (x : ℕ) → holds s os x ≡ is_some (index_of s os x)
+unfolding holds
+holds_found s os x =
+    searched s x (λ o. true) false (λ l. holds s l x) refl (λ o l. or_cond (eqb (number_at s o) x) (holds s l x)) os
+    ∙ found os (index_of s os x)
 
 -- a number that is held is that of one of the records, and one that is not is none's
 pub held_at : (s os : List ℕ) (x : ℕ) → holds s os x ≡ true → (j : ℕ) × (j < length os) × (number_at s (get_or os j 0) ≡ x)

@@ -1,21 +1,19 @@
 -- What the reader's loop keeps: from here it gives what it gives of the whole, and its place is near enough for a u16. Assumes nothing.
-use Rattle.std.proofs.Common.{ℕ, ◌+◌, ◌-◌, ◌*◌, ◌≤◌, ◌<◌, ◌≡◌, refl, List, arith, length, length-append, ne_eqb}
-use Rattle.tonekit_core.specs.Loop.{loop_to, loop_again, loop_stop}
-use Rattle.tonekit_core.specs.declared.Refusal.{Refusal}
+use Rattle.std.proofs.Common.{ℕ, ◌+◌, ◌-◌, ◌<◌, ◌≡◌, refl, List, arith, length, length-append, ltb, ne_eqb}
+use Rattle.tonekit_core.specs.Loop.{loop_again, loop_stop}
 use Rattle.tonekit_core.specs.declared.Refusal.TheVariants.{CutShort}
-use Rattle.std.specs.Prelude.{Ok, Err}
+use Rattle.std.specs.Prelude.{Result, Ok, Err}
 use Rattle.tonekit_bytes.specs.Fields.{byte_at}
 use Rattle.tonekit_pack.specs.declared.Pack.{Pack}
-use Rattle.tonekit_pack.specs.Pack.{Pst, loaded, refused, Here, size_of, added, record_verdict, record_turn, read_pack}
-use Rattle.tonekit_pack.specs.Held.{shown}
-use Rattle.tonekit_pack.proofs.InOrder.{order_length}
+use Rattle.tonekit_pack.specs.Pack.{Pst, loaded, refused, size_of, added, record_verdict, record_turn, start, read_pack, load_pack, check_pack}
+use Rattle.tonekit_pack.specs.Held.{shown, answered}
+use Rattle.tonekit_core.proofs.Split.{split}
+use Rattle.tonekit_pack.specs.Going.{Near, Going}
+use Rattle.tonekit_pack.specs.Format.{alone, told}
+use Rattle.tonekit_pack.specs.declared.Loaded.{Loaded}
+use Rattle.tonekit_core.specs.declared.Rejection.{Rejection}
+use Rattle.tonekit_bytes.proofs.InOrder.{order_length}
 use Rattle.tonekit_pack.proofs.Records.{Due, settings, tone, accent, rule, part, finish, Sound, sound, size_pos, tone_room, accent_room, rule_room, part_room}
-
--- a place is behind one settings record and the records counted; before the first accent, behind tones alone
-pub record Near (at : ℕ) (st : Pst) : Type 0 where
-  pub first : st.last ≡ 0 → at ≡ 0
-  pub early : st.last ≤ 2 → at ≤ 9 + 56 * length st.tones
-  pub near : at ≤ 9 + 56 * length st.tones + 19 * length st.accents + 7 * length st.rules + 46 * st.total
 
 pub near_next : (at : ℕ) (st : Pst) {k : ℕ} → Due st.last k → (k ≡ 6 → ⊥) → Near at st → Near (at + size_of k) (added k at st)
 unfolding added size_of
@@ -26,23 +24,9 @@ near_next at st (rule l u) n p = record { first = λ q. absurd (omega arith); ea
 near_next at st (part l u) n p = record { first = λ q. absurd (omega arith); early = λ q. absurd (omega arith); near = omega arith }
 near_next at st (finish l u) n p = absurd (n refl)
 
--- from here the reader gives what it gives of the whole
-pub record Going (s : List ℕ) (st : Pack) (at : ℕ) : Type 0 where
-  pub near : Near at (shown st)
-  pub inside : at ≤ length s
-  pub fuel : ℕ
-  pub enough : length s < fuel + at
-  pub same : loop_to (record_turn s) (refused CutShort (length s)) fuel (record { at = at; st = shown st }) ≡ read_pack s
-
 module _ (s : List ℕ) (st : Pack) (at : ℕ) (g : Going s st at) where
-  place : Here
-  place = record { at = at; st = shown st }
-
-  pub refuses : (r : Refusal) → record_verdict s at (shown st) ≡ Err r → refused r at ≡ read_pack s
-  refuses r v = loop_stop (record_turn s) (refused CutShort (length s)) g.same (omega arith) (rw v)
-
   pub close : at < 65536
-  close = omega (arith, order_length st.toneat st.tones, order_length st.accentat st.accents, order_length st.ruleat st.rules)
+  close = omega (arith, order_length st.tones.at st.tones.count, order_length st.accents.at st.accents.count, order_length st.rules.at st.rules.count)
 
   module _ (v : record_verdict s at (shown st) ≡ Ok tt) where
     pub ok : Sound s at (shown st)
@@ -51,14 +35,14 @@ module _ (s : List ℕ) (st : Pack) (at : ℕ) (g : Going s st at) where
     pub ends : byte_at s at ≡ 6 → loaded (shown st) (at + 1) ≡ read_pack s
     ends e = loop_stop (record_turn s) (refused CutShort (length s)) g.same (omega arith) (rw (v, e))
 
-    pub room2 : byte_at s at ≡ 2 → st.tones < 8
-    room2 e = omega (arith, tone_room s at (shown st) (rw e at ok.body), order_length st.toneat st.tones)
+    pub room2 : byte_at s at ≡ 2 → st.tones.count < 8
+    room2 e = omega (arith, tone_room s at (shown st) (rw e at ok.body), order_length st.tones.at st.tones.count)
 
-    pub room3 : byte_at s at ≡ 3 → st.accents < 8
-    room3 e = omega (arith, accent_room s at (shown st) (rw e at ok.body), order_length st.accentat st.accents)
+    pub room3 : byte_at s at ≡ 3 → st.accents.count < 8
+    room3 e = omega (arith, accent_room s at (shown st) (rw e at ok.body), order_length st.accents.at st.accents.count)
 
-    pub room4 : byte_at s at ≡ 4 → st.rules < 64
-    room4 e = omega (arith, rule_room s at (shown st) (rw e at ok.body), order_length st.ruleat st.rules)
+    pub room4 : byte_at s at ≡ 4 → st.rules.count < 64
+    room4 e = omega (arith, rule_room s at (shown st) (rw e at ok.body), order_length st.rules.at st.rules.count)
 
     pub room5 : byte_at s at ≡ 5 → (st.parts < 4) × (st.total < 128)
     room5 e = let r = part_room s at (shown st) (rw e at ok.body) in (r.few, r.in_all)
@@ -71,3 +55,25 @@ module _ (s : List ℕ) (st : Pack) (at : ℕ) (g : Going s st at) where
       enough = omega (arith, size_pos (byte_at s at));
       same = rw e (loop_again (record_turn s) (refused CutShort (length s)) g.same (omega arith) (rw (v, ne_eqb (byte_at s at) 6 n)));
     }
+
+-- before the first record
+pub begins : (s : List ℕ) (p : Pack) → shown p ≡ start.st → Going s p 0
+unfolding read_pack
+begins s p e = record {
+  near = rw e (record { first = λ q. refl; early = λ q. omega arith; near = omega arith });
+  inside = omega arith;
+  fuel = length s + 1;
+  enough = omega arith;
+  same = rw e refl;
+}
+
+-- an input that is one pack, and the check of it
+pub alone_is : (s : List ℕ) (r : Result (Loaded Pack) Rejection) → answered r ≡ read_pack s → answered (alone (length s) r) ≡ load_pack s
+unfolding load_pack
+alone_is s (Ok l) e = rw (← e) (split (ltb l.end (length s)) (λ b. rw b refl) (λ b. rw b refl))
+alone_is s (Err x) e = rw (← e) refl
+
+pub told_is : (s : List ℕ) (r : Result (Loaded Pack) Rejection) → answered r ≡ read_pack s → told (alone (length s) r) ≡ check_pack s
+unfolding check_pack load_pack
+told_is s (Ok l) e = rw (← e) (split (ltb l.end (length s)) (λ b. rw b refl) (λ b. rw b refl))
+told_is s (Err x) e = rw (← e) refl

@@ -4,14 +4,14 @@ use Rattle.tonekit_pack.specs.Held.{Roomy}
 
 pub roomy : (p : Pack) → Roomy p
 roomy p = record {
-  few_tones = p.few_tones;
-  few_accents = p.few_accents;
-  few_rules = p.few_rules;
+  few_tones = p.tones.few;
+  few_accents = p.accents.few;
+  few_rules = p.rules.few;
   few_parts = p.few_parts;
   few_in_all = p.few_in_all;
-  tone_slots = p.tone_slots;
-  accent_slots = p.accent_slots;
+  tone_slots = p.tones.slots;
+  accent_slots = p.accents.slots;
   first_slots = p.first_slots;
-  rule_slots = p.rule_slots;
+  rule_slots = p.rules.slots;
   few_before = p.few_before;
 }

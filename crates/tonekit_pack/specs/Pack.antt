@@ -2,7 +2,7 @@
 use Rattle.std.specs.Prelude.{ℕ, zero, suc, ◌+◌, ◌-◌, Bool, true, false, cond, not, ◌&&◌, ◌||◌, List, [], ◌∷◌, ◌++◌, eqb, leb, ltb, length, get_or, Result, Ok, Err}
 use Rattle.tonekit_core.specs.Loop.{Turn, next, stop, loop_to}
 use Rattle.tonekit_core.specs.Layout.{settings_kind, settings_size, settings_temperature, settings_threshold}
-use Rattle.tonekit_core.specs.Layout.{own_number, tone_kind, tone_size, tone_prior, tone_knot_count, tone_knots, tone_region}
+use Rattle.tonekit_core.specs.Layout.{tone_kind, tone_size, tone_prior, tone_knot_count, tone_knots, tone_region}
 use Rattle.tonekit_core.specs.Layout.{accent_kind, accent_size, accent_parent, accent_contour}
 use Rattle.tonekit_core.specs.Layout.{rule_kind, rule_size, rule_tone, rule_prev, rule_final, rule_form}
 use Rattle.tonekit_core.specs.Layout.{part_kind, part_size, part_weight, part_knot_count, part_knots, end_kind, end_size}
@@ -10,6 +10,7 @@ use Rattle.tonekit_core.specs.declared.Refusal.{Refusal}
 use Rattle.tonekit_core.specs.declared.Refusal.TheVariants.{Misplaced, CutShort, Overrun, Crowded, OffScale, Doubled, Loose}
 use Rattle.tonekit_core.specs.declared.Rejection.{Rejection}
 use Rattle.tonekit_bytes.specs.Fields.{byte_at, u32_at, f32_at}
+use Rattle.tonekit_bytes.specs.Places.{number_at}
 use Rattle.tonekit_pack.specs.Ranges.{above_zero, a_share, weight_fine, knots_fine, region_fine, tolerances_fine}
 
 -- what has been read: the last kind; the offsets of tones, accents and rules, in order; for each accent how many rules stood before it;
@@ -46,10 +47,6 @@ size_of k =
     (cond (eqb k accent_kind) accent_size
     (cond (eqb k rule_kind) rule_size
     (cond (eqb k part_kind) part_size end_size))))
-
--- the number of a tone's or an accent's record: its own
-abbrev pub number_at : List ℕ → ℕ → ℕ
-number_at s o = byte_at s (o + own_number)
 
 -- "A tone is held if a tone record of the pack gives its number as its own, an accent if an accent record does": number n among the records at these offsets
 unfoldable pub holds : List ℕ → List ℕ → ℕ → Bool

@@ -1,7 +1,7 @@
 -- The ranges of document 01's fields, as tests on a record's bytes.
 use Rattle.std.specs.Prelude.{ℕ, ◌+◌, ◌*◌, Bool, true, false, cond, ◌&&◌, List, eqb, ltb, pos, Float}
 use Rattle.std.specs.Float.{inf, fin}
-use Rattle.std.specs.Float.Ieee.{lt, le}
+use Rattle.std.specs.Float.Ieee.{lt, le, neg}
 use Rattle.std.specs.Float.Ieee.Scale.{finite}
 use Rattle.tonekit_core.specs.Loop.{range}
 use Rattle.tonekit_core.specs.Layout.{f32_size, region_from, region_to, tolerance_onset, tolerance_offset, tolerance_turning}
@@ -23,6 +23,10 @@ above_zero x = lt zero_f x && lt x (inf false)
 -- "prior and threshold above 0, at most 1"
 unfoldable pub a_share : Float → Bool
 a_share x = lt zero_f x && le x one_f
+
+-- of size at most `most`
+unfoldable pub within : Float → Float → Bool
+within x most = le (neg most) x && le x most
 
 -- "Knots number 1 to 10, size at most 100"
 unfoldable pub knot_fine : Float → Bool

@@ -3,44 +3,46 @@
 
 ghost use Rattle.std.specs.Prelude.{◌≡◌, ◌≤◌, ℕ, length, get_or};
 
+use tonekit_bytes::places::Offsets;
+
+pub mod format;
+mod kind;
 mod load;
 pub mod ranges;
 pub mod read;
 
+pub use kind::{Kind, size_of};
 pub use load::{check_pack, load_pack, read_pack};
 
-// What was read of a pack: the last kind, how many of each, and the offsets of the records.
-// Stays: counts stand beside the arrays, since a list of the kit's with its own length is no Copy value, and a pack is passed as one.
-// Stays: each accent's first rule stands in an array of its own, since tones and accents are looked for alike in an array of offsets.
+// What was read of a pack: the kind of the last record, the offsets of tones, accents and rules, how
+// many rules stood before each accent, the parts of the last rule, and all parts.
+// Stays: how many rules stood before an accent stands beside its offset, not in a pair with it, since the one search by number goes over offsets alone.
 #[derive(Clone, Copy)]
 pub struct Pack {
-    // Stays: the format's byte of a kind, 0 before the first record.
-    pub last: u8,
-    pub tones: usize,
-    pub accents: usize,
-    pub rules: usize,
+    pub last: Option<Kind>,
+    pub tones: Offsets<8>,
+    pub accents: Offsets<8>,
+    pub rules: Offsets<64>,
+    pub firstrule: [u8; 8],
     pub parts: usize,
     pub total: usize,
-    pub toneat: [u16; 8],
-    pub accentat: [u16; 8],
-    pub firstrule: [u8; 8],
-    pub ruleat: [u16; 64],
-    pub ghost few_tones: { tones ≤ 8 },
-    pub ghost few_accents: { accents ≤ 8 },
-    pub ghost few_rules: { rules ≤ 64 },
     pub ghost few_parts: { parts ≤ 4 },
     pub ghost few_in_all: { total ≤ 128 },
-    pub ghost tone_slots: { length toneat ≡ 8 },
-    pub ghost accent_slots: { length accentat ≡ 8 },
     pub ghost first_slots: { length firstrule ≡ 8 },
-    pub ghost rule_slots: { length ruleat ≡ 64 },
     pub ghost few_before: { (i : ℕ) → get_or firstrule i 0 ≤ 64 },
 }
 
-// Stays: a sheet that was read has a type of this name, with a sheet in it; one generic type would gain no function.
-// A pack that was read, and where it ends.
+// A pack that was read, beside the bytes that it was read from.
+// Stays: beside tonekit_sheet_read's SheetView; to one type over both that crate could give no methods, as the type would not be its own.
 #[derive(Clone, Copy)]
-pub struct Loaded {
+pub struct PackView<'a> {
+    pub bytes: &'a [u8],
     pub pack: Pack,
+}
+
+// What was read at the front of an input, and where it ends.
+#[derive(Clone, Copy)]
+pub struct Loaded<F> {
+    pub held: F,
     pub end: usize,
 }

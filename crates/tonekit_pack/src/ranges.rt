@@ -1,16 +1,17 @@
 // Tests of the ranges of document 01's fields, on a record's bytes.
 ghost use Rattle.std.specs.Prelude.{◌≡◌, ◌<◌};
-ghost use Rattle.tonekit_pack.specs.Ranges.{above_zero, a_share, knot_fine, weight_fine, slot_fine, knots_fine, region_fine, tolerances_fine};
+ghost use Rattle.tonekit_pack.specs.Ranges.{above_zero, a_share, within, weight_fine, slot_fine, knots_fine, region_fine, tolerances_fine};
 
 use tonekit_bytes::{byte_at, f32_at, u32_at};
 use tonekit_core::layout;
 use tonekit_float::is_finite;
 
 // Finite and above 0.
+#[tactic(auto, using(crate::proofs::Bounds::above_bits))]
 pub fn above_zero(x: f32) -> bool
     ensures { result ≡ above_zero x }
 {
-    (x > 0.0) & (x < 1.0 / 0.0)
+    (x > 0.0) & (x < f32::INFINITY)
 }
 
 // Above 0, at most 1.
@@ -21,11 +22,12 @@ pub fn a_share(x: f32) -> bool
     (x > 0.0) & (x <= 1.0)
 }
 
-// Of size at most 100.
-fn knot_fine(x: f32) -> bool
-    ensures { result ≡ knot_fine x }
+// Of size at most `most`.
+#[tactic(auto, unfolding(crate::specs::Ranges::within))]
+pub fn within(x: f32, most: f32) -> bool
+    ensures { result ≡ within x most }
 {
-    (x >= -100.0) & (x <= 100.0)
+    (-most <= x) & (x <= most)
 }
 
 // The bits of a finite weight whose sign is clear.
@@ -37,18 +39,19 @@ pub fn weight_fine(bits: u32) -> bool
 }
 
 // Slot k from o on: a knot, or zero bytes past the first n.
-#[tactic(auto, unfolding(crate::specs::Ranges::slot_fine))]
+#[tactic(auto, using(crate::proofs::Bounds::knot_within), unfolding(crate::specs::Ranges::slot_fine))]
 fn slot_fine(s: &[u8], o: usize, n: u8, k: usize) -> bool
     requires { k < 10 }
     ensures { result ≡ slot_fine s.now o n k }
 {
     if k < usize::from(n) {
-        return knot_fine(f32_at(s, o, layout::F32_SIZE * k));
+        return within(f32_at(s, o, layout::F32_SIZE * k), 100.0);
     }
     u32_at(s, o, layout::F32_SIZE * k) == 0
 }
 
 // Ten slots from o on, of which the first n are knots.
+#[tactic(auto, using(tonekit_core::specs::Loop::again, tonekit_core::specs::Loop::ended), unfolding(crate::specs::Ranges::knots_fine))]
 pub fn knots_fine(s: &[u8], o: usize, n: u8) -> bool
     ensures { result ≡ knots_fine s.now o n }
 {

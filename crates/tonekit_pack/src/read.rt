@@ -1,58 +1,25 @@
-// What is said of one record of a pack, and what is kept of it.
-ghost use Rattle.std.specs.Prelude.{◌≡◌, ◌+◌, ◌<◌, ◌≤◌, length, replicate};
-ghost use Rattle.tonekit_core.specs.Layout.{tone_size, accent_size, part_size, tone_kind, accent_kind, rule_kind, part_kind};
-ghost use Rattle.tonekit_pack.specs.Pack.{due_after, size_of, holds, zero_or_held, in_turn, settings_verdict, tone_verdict, accent_verdict, rule_verdict, last_rule, single, part_verdict, body_verdict, record_verdict, added, start};
-ghost use Rattle.tonekit_pack.specs.Held.{in_order, shown};
+// A pack as a file of records: what is said of one record, and what is kept of it.
+ghost use Rattle.std.specs.Prelude.{◌≡◌, ◌+◌, ◌<◌, ◌≤◌, eqb, length, replicate};
+ghost use Rattle.tonekit_core.specs.Layout.{tone_size, accent_size, part_size, tone_kind, accent_kind, rule_kind, part_kind, end_kind};
+ghost use Rattle.tonekit_bytes.specs.Fields.{byte_at};
+ghost use Rattle.tonekit_pack.specs.Kinds.{number, last_of};
+ghost use Rattle.tonekit_pack.specs.Pack.{due_after, size_of, holds, zero_or_held, in_turn, settings_verdict, tone_verdict, accent_verdict, rule_verdict, single, part_verdict, body_verdict, record_verdict, added, start, read_pack};
+ghost use Rattle.tonekit_pack.specs.Held.{shown, answered};
+ghost use Rattle.tonekit_pack.specs.Going.{Going, judges, refuses};
 
-use crate::Pack;
+use crate::format::Format;
 use crate::ranges::{a_share, above_zero, knots_fine, region_fine, tolerances_fine, weight_fine};
+use crate::{Kind, Loaded, Pack};
+use tonekit_bytes::places::{Offsets, index_of};
 use tonekit_bytes::{byte_at, f32_at, u32_at};
-use tonekit_core::{Refusal, layout, limits};
-
-// Stays: last and k are the format's bytes of kinds, 0 for none, and the arms name its constants.
-// Whether a record of kind k may follow one of kind last (0 at the start).
-#[tactic(auto, unfolding(crate::specs::Pack::due_after))]
-fn due(last: u8, k: u8) -> bool
-    ensures { result ≡ due_after last k }
-{
-    match k {
-        layout::SETTINGS_KIND => last == 0,
-        layout::TONE_KIND => (last == layout::SETTINGS_KIND) | (last == layout::TONE_KIND),
-        layout::ACCENT_KIND => (last == layout::TONE_KIND)
-            | ((last == layout::ACCENT_KIND) | (last == layout::PART_KIND)),
-        layout::RULE_KIND => (last == layout::ACCENT_KIND) | (last == layout::PART_KIND),
-        layout::PART_KIND => (last == layout::RULE_KIND) | (last == layout::PART_KIND),
-        layout::END_KIND => (last == layout::ACCENT_KIND) | (last == layout::PART_KIND),
-        _ => false,
-    }
-}
-
-// Stays: k is the format's byte of a kind, and a sheet's kinds have other bytes and sizes.
-// The bytes of a record of kind k, its kind among them.
-#[tactic(auto, unfolding(crate::specs::Pack::size_of))]
-pub fn size_of(k: u8) -> usize
-    ensures { result ≡ size_of k }
-{
-    match k {
-        layout::SETTINGS_KIND => layout::SETTINGS_SIZE,
-        layout::TONE_KIND => layout::TONE_SIZE,
-        layout::ACCENT_KIND => layout::ACCENT_SIZE,
-        layout::RULE_KIND => layout::RULE_SIZE,
-        layout::PART_KIND => layout::PART_SIZE,
-        _ => layout::END_SIZE,
-    }
-}
+use tonekit_core::{Refusal, Rejection, layout, limits};
 
 // Whether one of the records at these offsets has x as its number.
+#[tactic(auto, using(crate::proofs::Numbers::holds_found))]
 fn holds(s: &[u8], places: &[u16], x: u8) -> bool
     ensures { result ≡ holds s.now places.now x }
 {
-    for o in places {
-        if byte_at(s, usize::from(*o), layout::OWN_NUMBER) == x {
-            return true;
-        }
-    }
-    false
+    index_of(s, places, x).is_some()
 }
 
 // 0, or the number of one of the records at these offsets.
@@ -93,183 +60,196 @@ pub fn settings_verdict(s: &[u8], o: usize) -> Result<(), Refusal>
     in_turn(false, fine, true, true)
 }
 
-// Stays: a sheet's tone has no knots and other places.
-// A tone: number, prior, knots, region.
-#[tactic(auto, using(crate::proofs::InOrder::order_length, crate::proofs::InOrder::order_take), unfolding(crate::specs::Pack::tone_verdict))]
-fn tone_verdict(s: &[u8], o: usize, st: &Pack) -> Result<(), Refusal>
-    requires { o + tone_size ≤ length s.now }
-    ensures { result ≡ tone_verdict s.now o (shown st.now) }
-{
-    let number = byte_at(s, o, layout::OWN_NUMBER);
-    let share = a_share(f32_at(s, o, layout::TONE_PRIOR));
-    let knots = byte_at(s, o, layout::TONE_KNOT_COUNT);
-    let curve = knots_fine(s, o + layout::TONE_KNOTS, knots);
-    let region = region_fine(s, o + layout::TONE_REGION);
-    let crowded = (limits::TONES <= st.tones) | (limits::KNOTS < knots);
-    let fine = (number != 0) & (share & (curve & region));
-    let new = !holds(s, &st.toneat[..st.tones], number);
-    in_turn(crowded, fine, new, true)
-}
-
-// Stays: a sheet's tone has other fields at other places, and an accent of a pack alone has a parent.
-// An accent: number, parent, tolerances.
-#[tactic(auto, using(crate::proofs::InOrder::order_length, crate::proofs::InOrder::order_take), unfolding(crate::specs::Pack::accent_verdict))]
-fn accent_verdict(s: &[u8], o: usize, st: &Pack) -> Result<(), Refusal>
-    requires { o + accent_size ≤ length s.now }
-    ensures { result ≡ accent_verdict s.now o (shown st.now) }
-{
-    let number = byte_at(s, o, layout::OWN_NUMBER);
-    let parent = byte_at(s, o, layout::ACCENT_PARENT);
-    let fine = (number != 0) & tolerances_fine(s, o + layout::ACCENT_CONTOUR);
-    let accents = &st.accentat[..st.accents];
-    let new = !holds(s, accents, number);
-    in_turn(
-        limits::ACCENTS <= st.accents,
-        fine,
-        new,
-        zero_or_held(s, accents, parent),
-    )
-}
-
-// A rule: tone, prev, final, form.
-#[tactic(auto, using(crate::proofs::InOrder::order_length, crate::proofs::InOrder::order_take), unfolding(crate::specs::Pack::rule_verdict))]
-fn rule_verdict(s: &[u8], o: usize, st: &Pack) -> Result<(), Refusal>
-    ensures { result ≡ rule_verdict s.now o (shown st.now) }
-{
-    let tones = &st.toneat[..st.tones];
-    let tone = byte_at(s, o, layout::RULE_TONE);
-    let prev = byte_at(s, o, layout::RULE_PREV);
-    let last = byte_at(s, o, layout::RULE_FINAL);
-    let form = byte_at(s, o, layout::RULE_FORM);
-    let fine = (last <= 2) & ((form == 2) | (form == 3));
-    let held = zero_or_held(s, tones, tone) & zero_or_held(s, tones, prev);
-    in_turn(limits::RULES <= st.rules, fine, true, held)
-}
-
-// Stays: a sheet's last list is read from an array of its own type, and one generic function would take the same two arguments.
-// The offset of the last rule, 0 where there is none.
-#[tactic(auto, using(crate::proofs::InOrder::last_none, crate::proofs::InOrder::last_read))]
-fn last_rule(st: &Pack) -> usize
-    ensures { result ≡ last_rule (shown st.now) }
-{
-    if st.rules == 0 {
-        return 0;
-    }
-    usize::from(st.ruleat[st.rules - 1])
-}
-
-// Whether the last rule's form is 2.
-fn single(s: &[u8], st: &Pack) -> bool
-    ensures { result ≡ single s.now (shown st.now) }
-{
-    byte_at(s, last_rule(st), layout::RULE_FORM) == 2
-}
-
-// A part: weight and knots; of a single rule the first alone, of weight 1.
-#[tactic(auto, unfolding(crate::specs::Pack::part_verdict))]
-fn part_verdict(s: &[u8], o: usize, st: &Pack) -> Result<(), Refusal>
-    requires { o + part_size ≤ length s.now }
-    ensures { result ≡ part_verdict s.now o (shown st.now) }
-{
-    let weight = u32_at(s, o, layout::PART_WEIGHT);
-    let knots = byte_at(s, o, layout::PART_KNOT_COUNT);
-    let one = single(s, st);
-    let curve = knots_fine(s, o + layout::PART_KNOTS, knots);
-    let crowded = (limits::PARTS_OF_A_RULE <= st.parts)
-        | ((limits::PARTS <= st.total) | ((one & (1 <= st.parts)) | (limits::KNOTS < knots)));
-    let fine = weight_fine(weight) & ((!one | (weight == 0x3f80_0000)) & ((knots != 0) & curve));
-    in_turn(crowded, fine, true, true)
-}
-
-// Stays: k is the format's byte of a kind, and a sheet's kinds have other records.
-// What is said of a record of kind k, by its kind; End has nothing to be wrong.
-#[tactic(auto, unfolding(crate::specs::Pack::body_verdict, crate::specs::Pack::size_of))]
-fn body_verdict(k: u8, s: &[u8], o: usize, st: &Pack) -> Result<(), Refusal>
-    requires { o + size_of k ≤ length s.now }
-    ensures { result ≡ body_verdict k s.now o (shown st.now) }
-{
-    match k {
-        layout::SETTINGS_KIND => settings_verdict(s, o),
-        layout::TONE_KIND => tone_verdict(s, o, st),
-        layout::ACCENT_KIND => accent_verdict(s, o, st),
-        layout::RULE_KIND => rule_verdict(s, o, st),
-        layout::PART_KIND => part_verdict(s, o, st),
-        _ => Ok(()),
-    }
-}
-
-// Stays: a sheet's records are tested in the same order, but by its own kinds, sizes and counts; a trait for these would be longer than both.
-// What is said of the record at o, after what st has.
-#[tactic(auto, unfolding(crate::specs::Pack::record_verdict))]
-pub fn record_verdict(s: &[u8], o: usize, st: &Pack) -> Result<(), Refusal>
-    ensures { result ≡ record_verdict s.now o (shown st.now) }
-{
-    if s.len() <= o {
-        return Err(Refusal::CutShort);
-    }
-    let k = s[o];
-    if !due(st.last, k) {
-        return Err(Refusal::Misplaced);
-    }
-    if s.len() - o < size_of(k) {
-        return Err(Refusal::CutShort);
-    }
-    body_verdict(k, s, o, st)
-}
-
-// Stays: a pack and a sheet begin with other counts and arrays.
-// Before the first record.
-#[tactic(auto, unfolding(crate::specs::Held::in_order))]
-pub fn nothing() -> Pack
-    ensures read { shown result ≡ start.st }
-    ensures tones { result.toneat ≡ replicate 8 0 }
-    ensures accents { (result.accentat ≡ replicate 8 0) × (result.firstrule ≡ replicate 8 0) }
-    ensures rules { result.ruleat ≡ replicate 64 0 }
-{
-    Pack {
-        last: 0,
-        tones: 0,
-        accents: 0,
-        rules: 0,
-        parts: 0,
-        total: 0,
-        toneat: [0; 8],
-        accentat: [0; 8],
-        firstrule: [0; 8],
-        ruleat: [0; 64],
-    }
-}
-
 impl Pack {
-    // Stays: k is the format's byte of a kind, which is kept as it was read.
-    // Keeps the record of kind k at o, once it is fine.
-    #[tactic(auto, using(crate::proofs::InOrder::order_length, crate::proofs::InOrder::order_set, crate::proofs::InOrder::set_bounded), unfolding(crate::specs::Pack::added))]
-    pub fn add(&mut self, k: u8, o: usize)
-        requires { (o < 65536) × (k ≡ tone_kind → self.old.tones < 8) × (k ≡ accent_kind → self.old.accents < 8)
-            × (k ≡ rule_kind → self.old.rules < 64) × (k ≡ part_kind → (self.old.parts < 4) × (self.old.total < 128)) }
-        ensures { shown self.new ≡ added k o (shown self.old) }
+    // Before the first record.
+    #[tactic(auto, unfolding(tonekit_bytes::specs::Places::in_order))]
+    pub fn nothing() -> Pack
+        ensures read { shown result ≡ start.st }
+        ensures tones { result.tones.at ≡ replicate 8 0 }
+        ensures accents { (result.accents.at ≡ replicate 8 0) × (result.firstrule ≡ replicate 8 0) }
+        ensures rules { result.rules.at ≡ replicate 64 0 }
     {
-        self.last = k;
+        Pack {
+            last: None,
+            tones: Offsets::none(),
+            accents: Offsets::none(),
+            rules: Offsets::none(),
+            firstrule: [0; 8],
+            parts: 0,
+            total: 0,
+        }
+    }
+
+    // A tone: number, prior, knots, region.
+    // Stays: a sheet's tone has no knots and its fields at other places, so one for both would take all places as arguments.
+    #[tactic(auto, unfolding(crate::specs::Pack::tone_verdict))]
+    fn tone_verdict(&self, s: &[u8], o: usize) -> Result<(), Refusal>
+        requires { o + tone_size ≤ length s.now }
+        ensures { result ≡ tone_verdict s.now o (shown self.now) }
+    {
+        let number = byte_at(s, o, layout::OWN_NUMBER);
+        let share = a_share(f32_at(s, o, layout::TONE_PRIOR));
+        let knots = byte_at(s, o, layout::TONE_KNOT_COUNT);
+        let curve = knots_fine(s, o + layout::TONE_KNOTS, knots);
+        let region = region_fine(s, o + layout::TONE_REGION);
+        let crowded = (limits::TONES <= self.tones.len()) | (limits::KNOTS < knots);
+        let fine = (number != 0) & (share & (curve & region));
+        let new = !holds(s, self.tones.offsets(), number);
+        in_turn(crowded, fine, new, true)
+    }
+
+    // An accent: number, parent, tolerances.
+    // Stays: a tone has other fields at other places, and an accent of a pack alone has a parent.
+    #[tactic(auto, unfolding(crate::specs::Pack::accent_verdict))]
+    fn accent_verdict(&self, s: &[u8], o: usize) -> Result<(), Refusal>
+        requires { o + accent_size ≤ length s.now }
+        ensures { result ≡ accent_verdict s.now o (shown self.now) }
+    {
+        let number = byte_at(s, o, layout::OWN_NUMBER);
+        let parent = byte_at(s, o, layout::ACCENT_PARENT);
+        let fine = (number != 0) & tolerances_fine(s, o + layout::ACCENT_CONTOUR);
+        let accents = self.accents.offsets();
+        let new = !holds(s, accents, number);
+        in_turn(
+            limits::ACCENTS <= self.accents.len(),
+            fine,
+            new,
+            zero_or_held(s, accents, parent),
+        )
+    }
+
+    // A rule: tone, prev, final, form.
+    #[tactic(auto, unfolding(crate::specs::Pack::rule_verdict))]
+    fn rule_verdict(&self, s: &[u8], o: usize) -> Result<(), Refusal>
+        ensures { result ≡ rule_verdict s.now o (shown self.now) }
+    {
+        let tones = self.tones.offsets();
+        let tone = byte_at(s, o, layout::RULE_TONE);
+        let prev = byte_at(s, o, layout::RULE_PREV);
+        let last = byte_at(s, o, layout::RULE_FINAL);
+        let form = byte_at(s, o, layout::RULE_FORM);
+        let fine = (last <= 2) & ((form == layout::SINGLE_FORM) | (form == layout::MIXTURE_FORM));
+        let held = zero_or_held(s, tones, tone) & zero_or_held(s, tones, prev);
+        in_turn(limits::RULES <= self.rules.len(), fine, true, held)
+    }
+
+    // Whether the last rule is single.
+    fn single(&self, s: &[u8]) -> bool
+        ensures { result ≡ single s.now (shown self.now) }
+    {
+        byte_at(s, self.rules.last(), layout::RULE_FORM) == layout::SINGLE_FORM
+    }
+
+    // A part: weight and knots; of a single rule the first alone, of weight 1.
+    #[tactic(auto, unfolding(crate::specs::Pack::part_verdict))]
+    fn part_verdict(&self, s: &[u8], o: usize) -> Result<(), Refusal>
+        requires { o + part_size ≤ length s.now }
+        ensures { result ≡ part_verdict s.now o (shown self.now) }
+    {
+        let weight = u32_at(s, o, layout::PART_WEIGHT);
+        let knots = byte_at(s, o, layout::PART_KNOT_COUNT);
+        let one = self.single(s);
+        let curve = knots_fine(s, o + layout::PART_KNOTS, knots);
+        let crowded = (limits::PARTS_OF_A_RULE <= self.parts)
+            | ((limits::PARTS <= self.total)
+                | ((one & (1 <= self.parts)) | (limits::KNOTS < knots)));
+        let fine = weight_fine(weight)
+            & ((!one | (weight == 0x3f80_0000)) & ((knots != 0) & curve));
+        in_turn(crowded, fine, true, true)
+    }
+
+    // Keeps the record of kind k at o, once it is fine.
+    #[tactic(auto, using(tonekit_bytes::proofs::InOrder::order_length, tonekit_bytes::proofs::InOrder::order_set, tonekit_bytes::proofs::InOrder::set_bounded), unfolding(crate::specs::Pack::added))]
+    pub fn keep(&mut self, k: Kind, o: usize)
+        requires { (o < 65536) × (number k ≡ tone_kind → self.old.tones.count < 8) × (number k ≡ accent_kind → self.old.accents.count < 8)
+            × (number k ≡ rule_kind → self.old.rules.count < 64) × (number k ≡ part_kind → (self.old.parts < 4) × (self.old.total < 128)) }
+        ensures { shown self.new ≡ added (number k) o (shown self.old) }
+    {
+        self.last = Some(k);
         match k {
-            layout::TONE_KIND => {
-                self.toneat[self.tones] = o as u16;
-                self.tones += 1;
+            Kind::Tone => self.tones.add(o as u16),
+            Kind::Accent => {
+                self.firstrule[self.accents.count] = self.rules.count as u8;
+                self.accents.add(o as u16);
             }
-            layout::ACCENT_KIND => {
-                self.accentat[self.accents] = o as u16;
-                self.firstrule[self.accents] = self.rules as u8;
-                self.accents += 1;
-            }
-            layout::RULE_KIND => {
-                self.ruleat[self.rules] = o as u16;
-                self.rules += 1;
+            Kind::Rule => {
+                self.rules.add(o as u16);
                 self.parts = 0;
             }
-            layout::PART_KIND => {
+            Kind::Part => {
                 self.parts += 1;
                 self.total += 1;
             }
-            _ => {}
+            Kind::Settings | Kind::End => {}
         }
+    }
+}
+
+impl Format for Pack {
+    type Kind = Kind;
+
+    ghost number = { number };
+
+    ghost last = { λ n. eqb n end_kind };
+
+    ghost due = { λ p n. due_after (last_of p.last) n };
+
+    ghost size = { size_of };
+
+    ghost tests = { λ p s o n. body_verdict n s o (shown p) };
+
+    ghost verdict = { λ s o p. record_verdict s o (shown p) };
+
+    ghost so_far = { λ s o p. Going s p o };
+
+    ghost reads = { λ s r. answered r ≡ read_pack s };
+
+    ghost judges = { λ s o p. judges s o (shown p) };
+
+    ghost refuses = { λ s o p r g v. refuses s p o g r v };
+
+    #[tactic(auto, using(crate::proofs::Reading::begins))]
+    fn nothing() -> Pack {
+        Pack::nothing()
+    }
+
+    #[tactic(auto, using(crate::proofs::ByKind::kind_number, crate::proofs::ByKind::no_kind))]
+    fn next(&self, n: u8) -> Option<Kind> {
+        match Kind::try_from(n) {
+            Ok(k) if k.due(self.last) => Some(k),
+            _ => None,
+        }
+    }
+
+    #[tactic(auto, using(crate::proofs::Records::size_pos))]
+    fn size(k: Kind) -> usize {
+        k.size()
+    }
+
+    #[tactic(auto, unfolding(crate::specs::Pack::body_verdict, crate::specs::Pack::size_of))]
+    fn tests(&self, k: Kind, s: &[u8], o: usize) -> Result<(), Refusal> {
+        match k {
+            Kind::Settings => settings_verdict(s, o),
+            Kind::Tone => self.tone_verdict(s, o),
+            Kind::Accent => self.accent_verdict(s, o),
+            Kind::Rule => self.rule_verdict(s, o),
+            Kind::Part => self.part_verdict(s, o),
+            Kind::End => Ok(()),
+        }
+    }
+
+    fn ends(k: Kind) -> bool {
+        matches!(k, Kind::End)
+    }
+
+    fn add(&mut self, k: Kind, s: &[u8], o: usize) {
+        self.keep(k, o);
+    }
+
+    fn finish(self, s: &[u8], o: usize) -> Result<Loaded<Pack>, Rejection> {
+        Ok(Loaded {
+            held: self,
+            end: o + layout::END_SIZE,
+        })
     }
 }

@@ -104,7 +104,7 @@ pub record Holds (s : List ℕ) (q : Query) : Type 0 where
   pub count : q.count ≤ 1024
   pub variants : q.variants ≤ 4
   pub issues : q.issues < 1024
-  pub last : q.last ≤ 1
+  pub last : byte_at s 4 ≤ 1
 
 after_verdict : (s : List ℕ) (q : Query) (v : Result Unit Refusal) → record_verdict s ≡ v → after_record s v ≡ Ok q → Holds s q
 unfolding range_to fields_of
@@ -118,7 +118,7 @@ after_verdict s q (Ok u) v e =
       count = rw (ap (λ (x : Query). x.count) o) f.count;
       variants = rw (ap (λ (x : Query). x.variants) o) f.variants;
       issues = rw (ap (λ (x : Query). x.issues) o) f.issues;
-      last = rw (ap (λ (x : Query). x.last) o) f.last;
+      last = f.last;
     }
 after_verdict s q (Err r) v e = absurd (no_query (record { why = r; place = 0 }) q e)
 

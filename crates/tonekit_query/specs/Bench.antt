@@ -1,5 +1,5 @@
 -- Worked queries, by computing: one that loads, and one refusal of each number with its place.
-use Rattle.std.specs.Prelude.{ℕ, ◌≡◌, refl, false, List, [], ◌∷◌, ◌++◌, pos, take, replicate, Ok, Err, Some, None}
+use Rattle.std.specs.Prelude.{ℕ, ◌≡◌, refl, true, false, List, [], ◌∷◌, ◌++◌, pos, take, drop, replicate, Ok, Err, Some, None}
 use Rattle.std.specs.Float.{fin, binary32}
 use Rattle.std.specs.Float.Ieee.{of_bits, lt}
 use Rattle.tonekit_core.specs.Loop.{turns, range, turns_to, range_to}
@@ -92,7 +92,7 @@ fields48 : (fields_of record48
       accent = 1;
       tone = 2;
       prev = 3;
-      last = 4;
+      last = true;
       start = 0x0807_0605;
       end = 0x0c0b_0a09;
       floor = of_bits binary32 0x100f_0e0d;
@@ -105,6 +105,14 @@ fields48 : (fields_of record48
     × (variant_tone record48 3 ≡ 39) × (variant_weight record48 3 ≡ of_bits binary32 0x2b2a_2928)
 unfolding fields_of
 fields48 = (refl, refl, refl, refl, refl)
+
+-- the same of a query that ends no phrase: one byte is 0, that of `last`
+abbrev within48 : List ℕ
+within48 = take 4 record48 ++ (0 ∷ drop 5 record48)
+
+not_last48 : (fields_of within48).last ≡ false
+unfolding fields_of
+not_last48 = refl
 
 -- the second of two frames
 abbrev record50 : List ℕ

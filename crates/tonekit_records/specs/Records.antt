@@ -6,7 +6,8 @@ use Rattle.tonekit_core.specs.Layout.{rule_kind, rule_tone, rule_prev, rule_form
 use Rattle.tonekit_core.specs.declared.Refusal.TheVariants.{Misplaced}
 use Rattle.tonekit_core.specs.declared.Refusal.{Refusal}
 use Rattle.tonekit_bytes.specs.Fields.{byte_at}
-use Rattle.tonekit_pack.specs.Pack.{Pst, in_turn, due_after, size_of, number_at, settings_verdict, tone_fine, accent_fine, rule_fine, part_fine, added}
+use Rattle.tonekit_bytes.specs.Places.{number_at}
+use Rattle.tonekit_pack.specs.Pack.{Pst, in_turn, due_after, size_of, settings_verdict, tone_fine, accent_fine, rule_fine, part_fine, added}
 
 -- all that the reader asks of the records before: the last kind; the numbers of tones and accents, in order; how many rules, the form of the last one and
 -- how many parts it has; all parts

@@ -11,13 +11,14 @@ use tonekit_core::{Rejection, layout};
 pub fn refusal_record(e: Rejection) -> [u8; layout::REFUSAL_SIZE]
     ensures { result ≡ refusal_bytes e.why e.place }
 {
+    let [first, second, third, fourth] = ((e.place % 0x1_0000_0000) as u32).to_le_bytes();
     [
         layout::REFUSAL_KIND,
         u8::from(e.why),
-        (e.place % 256) as u8,
-        (e.place / 256 % 256) as u8,
-        (e.place / 65536 % 256) as u8,
-        (e.place / 16777216 % 256) as u8,
+        first,
+        second,
+        third,
+        fourth,
     ]
 }
 

@@ -6,6 +6,8 @@ ghost use Rattle.std.specs.Float.Ieee as Ieee;
 ghost use Rattle.std.specs.Float.{binary64};
 ghost use Rattle.tonekit_root.specs.Root.{Near, root_of};
 
+use tonekit_float::Positive;
+
 // The whole number nearest to the root of a * 2^52: the whole root of a and 26 more binary digits,
 // each with what is left over, and then one more if what is left is past the half.
 fn digits_root(a: u64) -> u64
@@ -52,13 +54,12 @@ fn raised(x: u64) -> Scaled
     }
 }
 
-// The root of an x above 0 and below infinity.
-fn root_above(x: f64) -> f64
-    requires low { T (Ieee.lt (Ieee.fin false 0 (pos 0)) x) }
-    requires high { T (Ieee.lt x (Ieee.inf false)) }
-    ensures { result ≡ root_of x }
+// The root of a float above 0 and below infinity.
+fn root_above(x: Positive) -> f64
+    requires { T (Ieee.lt x.value (Ieee.inf false)) }
+    ensures { result ≡ root_of x.value }
 {
-    let b = f64::to_bits(x);
+    let b = f64::to_bits(x.value);
     let field = b / 0x10_0000_0000_0000;
     let digits = b % 0x10_0000_0000_0000;
     if field == 0 {
@@ -81,10 +82,14 @@ pub fn sqrt(x: f64) -> f64
     ensures { result ≡ root_of x }
 {
     if x > 0.0 {
-        if x < 1.0 / 0.0 { root_above(x) } else { x }
+        if x < f64::INFINITY {
+            root_above(Positive { value: x })
+        } else {
+            x
+        }
     } else if x == 0.0 {
         x
     } else {
-        0.0 / 0.0
+        f64::NAN
     }
 }

@@ -1,5 +1,5 @@
 -- score.rs: calibrated likelihoods of one shape under weighted components. The operations are the Rust's, in its order; sums begin at +0.
-use Rattle.std.specs.Prelude.{ℕ, ◌+◌, ◌*◌, Bool, false, cond, not, ◌&&◌, ◌||◌, Option, Some, None, List, pos, get_or, Float}
+use Rattle.std.specs.Prelude.{ℕ, Bool, false, cond, not, ◌&&◌, ◌||◌, Option, Some, None, List, pos, get_or, Float}
 use Rattle.std.specs.Float.{nan, binary32, binary64}
 use Rattle.std.specs.Float.Ieee.{is_nan, neg, add, sub, mul, div, lt, le, eq, of_int, of_bits}
 use Rattle.tonekit_core.specs.Loop.{range}
@@ -95,36 +95,32 @@ excused (Some r) k voiced = lt voiced (of_bits binary32 0x3f00_0000) && (le r.fr
 unfoldable pub point_weight : Option Region → ℕ → Float → Float
 point_weight r k voiced = cond (excused r k voiced) zero64 (greater voiced (of_bits binary32 0x3e80_0000))
 
--- point k of the component at a slot: ten points a slot
-abbrev pub point_at : List Float → ℕ → ℕ → Float
-point_at points slot k = get_or points (10 * slot + k) nan
-
--- `weighted_mean_square`: Σ w r² and Σ w
-abbrev pub square_turn : List Float → List Float → Option Region → List Float → ℕ → ℕ → Squares → Squares
-square_turn contour weights r points slot k s =
+-- `weighted_mean_square` of a component's ten points: Σ w r² and Σ w
+abbrev pub square_turn : List Float → List Float → Option Region → List Float → ℕ → Squares → Squares
+square_turn contour weights r ten k s =
     let w = point_weight r k (get_or weights k nan) in
-    let d = sub binary64 (get_or contour k nan) (point_at points slot k) in
+    let d = sub binary64 (get_or contour k nan) (get_or ten k nan) in
     record { weighted = add binary64 s.weighted (mul binary64 (mul binary64 w d) d); total = add binary64 s.total w }
 
-unfoldable pub squares_of : ToneShape → Option Region → List Float → ℕ → Squares
-squares_of x r points slot = range (square_turn x.contour x.weights r points slot) 0 10 (record { weighted = zero64; total = zero64 })
+unfoldable pub squares_of : ToneShape → Option Region → List Float → Squares
+squares_of x r ten = range (square_turn x.contour x.weights r ten) 0 10 (record { weighted = zero64; total = zero64 })
 
 -- ½ (Δ / σ)²
 unfoldable pub end_term : Float → Float → Float
 end_term d sigma = div binary64 (mul binary64 (mul binary64 half d) d) (mul binary64 sigma sigma)
 
 -- the ends' share of d²
-unfoldable pub ends_of : ToneShape → Scoring → List Float → ℕ → Float
-ends_of x s points slot =
-    let onset = sub binary64 (get_or x.contour 0 nan) (get_or points (10 * slot) nan) in
-    let offset = sub binary64 (get_or x.contour 9 nan) (point_at points slot 9) in
+unfoldable pub ends_of : ToneShape → Scoring → List Float → Float
+ends_of x s ten =
+    let onset = sub binary64 (get_or x.contour 0 nan) (get_or ten 0 nan) in
+    let offset = sub binary64 (get_or x.contour 9 nan) (get_or ten 9 nan) in
     add binary64 (end_term onset s.sigmaonset) (end_term offset s.sigmaoffset)
 
--- d² of the component at a slot: the ends, and the contour where it is evidence
-unfoldable pub distance_of : ToneShape → Scoring → Option Region → List Float → ℕ → Float
-distance_of x s r points slot =
-    let ends = ends_of x s points slot in
-    let q = squares_of x r points slot in
+-- d² of the component with these points: the ends, and the contour where it is evidence
+unfoldable pub distance_of : ToneShape → Scoring → Option Region → List Float → Float
+distance_of x s r ten =
+    let ends = ends_of x s ten in
+    let q = squares_of x r ten in
     cond (s.contour && lt zero64 q.total)
     (add binary64 ends (div binary64 (div binary64 q.weighted q.total) (mul binary64 s.sigmacontour s.sigmacontour)))
     ends

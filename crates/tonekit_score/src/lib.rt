@@ -1,7 +1,7 @@
 // `score` of the Rust: how likely one shape is under looked-up components.
 #![tactic(auto)]
 
-ghost use Rattle.std.specs.Prelude.{◌≡◌, ◌+◌, ◌*◌, ◌≤◌, ◌<◌, length};
+ghost use Rattle.std.specs.Prelude.{◌≡◌, ◌<◌};
 ghost use Rattle.std.specs.Float.{binary64};
 ghost use Rattle.std.specs.Float.Ieee.{mul};
 ghost use Rattle.tonekit_score.specs.Score.{widen_for, scoring_of, clamp_log, empty, add_to, value_of, excused};
@@ -11,6 +11,13 @@ ghost use Rattle.tonekit_score.specs.Terms.{term_of};
 
 use tonekit_core::MeasureIssue;
 use tonekit_shape::ToneShape;
+
+// The two settings that a judgement scores by: the temperature, and the posterior from which on a tone is heard.
+#[derive(Clone, Copy)]
+pub struct Settings {
+    pub temperature: f32,
+    pub threshold: f32,
+}
 
 // Gaussian scales of the graded accent, before any widening.
 #[derive(Clone, Copy)]
@@ -49,7 +56,7 @@ pub struct LogSumExp {
 
 // Either a scored mixture, with its log-likelihood, the index of its best component and that one's
 // squared distance; or nothing to score.
-// Stays: the Rust's own form of a mixture, which its readers look for.
+// Stays: docs/FORMATS.md fixes this form, an enum of what is scored and of nothing, which the Rust has.
 #[derive(Clone, Copy)]
 pub enum Mixture {
     Scored(f64, usize, f64),
@@ -190,6 +197,7 @@ impl LogSumExp {
 }
 
 // `add` on the pair lent for writing, as in the Rust.
+// Stays: docs/FORMATS.md fixes this form, to which the loops lend their own pair.
 pub fn add_to(s: &mut LogSumExp, v: f64)
     ensures { s.new ≡ add_to s.old v }
 {
@@ -221,22 +229,17 @@ fn point_weight(region: Option<Region>, k: usize, voiced: f32) -> f64
     f64::from(tonekit_float::greater(voiced, 0.25))
 }
 
-// The weighted squares of the shape's distances from the component at a slot.
-// Stays: a slice of the slot's ten points would carry its length through the same contracts.
-fn squares_of(x: ToneShape, region: Option<Region>, points: &[f32], slot: usize) -> Squares
-    requires { 10 * slot + 10 ≤ length points.now }
-    ensures { result ≡ squares_of x region points.now slot }
+// The weighted squares of the shape's distances from a component's ten points.
+fn squares_of(x: ToneShape, region: Option<Region>, ten: &[f32; 10]) -> Squares
+    ensures { result ≡ squares_of x region ten.now }
 {
-    let contour = x.contour;
-    let weights = x.weights;
     let mut q = Squares {
         weighted: 0.0,
         total: 0.0,
     };
-    // Stays: k is also the point's place in the region, and the lists are three.
-    for k in 0..10usize {
-        let w = point_weight(region, k, weights[k]);
-        let d = f64::from(contour[k]) - f64::from(points[10 * slot + k]);
+    for (k, point) in ten.iter().enumerate() {
+        let w = point_weight(region, k, x.weights[k]);
+        let d = f64::from(x.contour[k]) - f64::from(*point);
         q = Squares {
             weighted: q.weighted + w * d * d,
             total: q.total + w,
@@ -255,33 +258,22 @@ fn end_term(d: f64, sigma: f64) -> f64
 
 // The two ends' share of the squared distance.
 #[tactic(auto, unfolding(crate::specs::Score::ends_of))]
-fn ends_of(x: ToneShape, s: Scoring, points: &[f32], slot: usize) -> f64
-    requires { 10 * slot + 10 ≤ length points.now }
-    ensures { result ≡ ends_of x s points.now slot }
+fn ends_of(x: ToneShape, s: Scoring, ten: &[f32; 10]) -> f64
+    ensures { result ≡ ends_of x s ten.now }
 {
-    let contour = x.contour;
-    let first = 10 * slot;
-    let onset = f64::from(contour[0]) - f64::from(points[first]);
-    let offset = f64::from(contour[9]) - f64::from(points[first + 9]);
+    let onset = f64::from(x.contour[0]) - f64::from(ten[0]);
+    let offset = f64::from(x.contour[9]) - f64::from(ten[9]);
     end_term(onset, s.sigmaonset) + end_term(offset, s.sigmaoffset)
 }
 
-// The squared distance of a shape from the component at a slot, whose tone has that region or none. The points
-// of the slot are there: a caller that listed the component has put them.
+// The squared distance of a shape from a component's ten points, whose tone has that region or none.
 #[tactic(auto, unfolding(crate::specs::Score::distance_of))]
-pub fn distance_of(
-    x: ToneShape,
-    s: Scoring,
-    region: Option<Region>,
-    points: &[f32],
-    slot: usize,
-) -> f64
-    requires { 10 * slot + 10 ≤ length points.now }
-    ensures { result ≡ distance_of x s region points.now slot }
+pub fn distance_of(x: ToneShape, s: Scoring, region: Option<Region>, ten: &[f32; 10]) -> f64
+    ensures { result ≡ distance_of x s region ten.now }
 {
-    let ends = ends_of(x, s, points, slot);
+    let ends = ends_of(x, s, ten);
     if s.contour {
-        let q = squares_of(x, region, points, slot);
+        let q = squares_of(x, region, ten);
         if 0.0 < q.total {
             return ends + q.weighted / q.total / (s.sigmacontour * s.sigmacontour);
         }

@@ -1,4 +1,5 @@
 mod Fill
+mod Gap
 mod Smooth
 mod Found
 mod Built

@@ -2,6 +2,7 @@
 use Rattle.std.specs.Prelude.{ℕ, ◌≡◌, refl, true, false, List, [], ◌∷◌, ◌++◌, map, pos, negsuc, length, replicate, Float, Some, None}
 use Rattle.std.specs.Float.{nan, inf, fin, binary32, float_with_sign}
 use Rattle.std.specs.Float.Ieee.{add, sub, mul, div, lt, le, eq, neg, of_bits, to_bits, of_int, round, is_nan}
+use Rattle.tonekit_contour.specs.Range.{range_in}
 use Rattle.tonekit_core.specs.Calls.{refused}
 use Rattle.tonekit_core.specs.Loop.{range, range_to, while}
 use Rattle.tonekit_core.specs.Words.{with_issue}
@@ -51,7 +52,7 @@ smoothed_curve = refl
 
 -- a contour that is all NaN
 range_of_nans : range_of (replicate 10 nan) ≡ inf true
-unfolding range_of range lesser greater sub lt is_nan
+unfolding range_in range lesser greater sub lt is_nan
 range_of_nans = refl
 
 -- "n < 8 adds TooShort to the issues", a union
@@ -82,7 +83,7 @@ level : shape_of (tone ++ (tone ++ tone)) (record { count = 3; first = 0; last =
       confidence = num 1;
       frames = 3;
     }
-unfolding shape_of drawn semitones holes_filled chao_curve mean_with list_of mean_of range_of confidence half_width reach curve_at step_of mean_over rounded position whole_part round_up narrowed lesser greater float_with_sign total_le range range_to while hz_to_st width_of st_to_chao log2_of line_slope point_added moments_of normal_equations first_unknown lead_of quadratic_coefficient greatest first_near last_near extremum stands chosen turning_point frame_at add sub mul div lt le eq neg of_int of_bits round is_nan
+unfolding shape_of drawn semitones holes_filled chao_curve mean_with list_of mean_of range_in confidence half_width reach curve_at step_of mean_over rounded position whole_part round_up narrowed lesser greater float_with_sign total_le range range_to while hz_to_st width_of st_to_chao log2_of line_slope point_added moments_of normal_equations first_unknown lead_of quadratic_coefficient greatest first_near last_near extremum stands chosen turning_point frame_at add sub mul div lt le eq neg of_int of_bits round is_nan
 level = refl
 
 -- "Fewer than 3 voiced frames: 11", at place 0; no bytes at all: 2 at 0

@@ -1,9 +1,9 @@
 -- extract.rs, `extract` and `shape_of`: the shape of the syllable in a span of a query's frames.
-use Rattle.std.specs.Prelude.{ℕ, zero, suc, ◌+◌, ◌-◌, ◌≤◌, ◌<◌, ◌≡◌, true, false, cond, List, [], ◌∷◌, ◌++◌, eqb, min, pos, length, get_or, set, replicate, Float, Option, Some, None}
-use Rattle.std.specs.Float.{nan, inf, binary32, binary64}
+use Rattle.std.specs.Prelude.{ℕ, zero, suc, ◌+◌, ◌-◌, ◌≤◌, ◌<◌, ◌≡◌, cond, List, [], ◌∷◌, ◌++◌, eqb, min, pos, length, get_or, set, replicate, Float, Option, Some, None}
+use Rattle.std.specs.Float.{nan, binary32, binary64}
 use Rattle.std.specs.Float.Ieee.{add, sub, mul, div, of_int, of_bits}
+use Rattle.tonekit_contour.specs.Range.{range_in}
 use Rattle.tonekit_core.specs.Loop.{range}
-use Rattle.tonekit_float.specs.Pick.{lesser, greater}
 use Rattle.tonekit_float.specs.Narrow.{narrowed}
 use Rattle.tonekit_contour.specs.Position.{whole64}
 use Rattle.tonekit_contour.specs.Turning.{turning_point}
@@ -131,14 +131,8 @@ add_turn l k t = add binary32 t (get_or l k nan)
 unfoldable pub mean_of : List Float → Float
 mean_of l = div binary32 (range (add_turn l) 0 10 zero32) ten32
 
-abbrev pub lesser_turn : List Float → ℕ → Float → Float
-lesser_turn l k t = lesser t (get_or l k nan)
-
-abbrev pub greater_turn : List Float → ℕ → Float → Float
-greater_turn l k t = greater t (get_or l k nan)
-
-unfoldable pub range_of : List Float → Float
-range_of l = sub binary32 (range (greater_turn l) 0 10 (inf true)) (range (lesser_turn l) 0 10 (inf false))
+abbrev pub range_of : List Float → Float
+range_of l = range_in binary32 l
 
 -- the span's frames, unclamped: `saturating_sub`
 abbrev pub span_frames : ℕ → ℕ → Float

@@ -17,15 +17,15 @@ pub fn semitones(curve: &mut [f64], frames: Frames<'_>)
 }
 
 // The frames between prev and j, on the line from one to the other.
-#[tactic(auto, using(tonekit_core::specs::Loop::again, tonekit_core::specs::Loop::ended))]
 fn fill_gap(curve: &mut [f64], prev: usize, j: usize)
     requires { (prev < j) × (j < length curve.old) }
     ensures { curve.new ≡ gap_filled prev j curve.old }
 {
-    // Stays: each value written lies between two others that are read, at prev and at j.
-    for g in prev + 1..j {
-        let t = tonekit_float::f64_of(g - prev) / tonekit_float::f64_of(j - prev);
-        curve[g] = curve[prev] + t * (curve[j] - curve[prev]);
+    let low = curve[prev];
+    let rise = curve[j] - low;
+    for (k, value) in curve[prev + 1..j].iter_mut().enumerate() {
+        let t = tonekit_float::f64_of(k + 1) / tonekit_float::f64_of(j - prev);
+        *value = low + t * rise;
     }
 }
 
@@ -76,7 +76,8 @@ pub fn smooth(curve: &mut [f64])
     ensures { curve.new ≡ smoothed curve.old }
 {
     let mut before = 0.0;
-    // Stays: each value written is read with the one behind it, which an iterator that lends one at a time has not.
+    // Stays: each value written is read with the one behind it; an iterator lends one for writing and none
+    // beside it, and a second list would take 8 KB of stack.
     for j in 0..curve.len() {
         let here = curve[j];
         curve[j] = mean_with(curve, j, before);

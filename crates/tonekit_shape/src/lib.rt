@@ -5,7 +5,7 @@ ghost use Rattle.std.specs.Prelude.{◌≡◌, ℕ, ◌+◌, ◌≤◌, ◌<◌,
 ghost use Rattle.tonekit_contour.specs.Turning.{turning_point};
 ghost use Rattle.tonekit_core.specs.Calls.{Delivers};
 ghost use Rattle.tonekit_shape.specs.Record.{united, shaped, shape_outcome};
-ghost use Rattle.tonekit_shape.specs.Extract.{extent_turn, extent_of, contour_of, weights_of, mean_of, range_of, confidence_added, confidence, span_frames, frames_in, drawn, smoothed, shape_of, Lists, Extended, Voiced3};
+ghost use Rattle.tonekit_shape.specs.Extract.{extent_turn, extent_of, contour_of, weights_of, mean_of, confidence_added, confidence, span_frames, frames_in, drawn, smoothed, shape_of, Lists, Extended, Voiced3};
 
 mod curve;
 mod record;
@@ -37,7 +37,7 @@ pub struct Extent {
 }
 
 // A syllable's shape, as in the Rust.
-// Stays: the record has all points before all weights, and the mean, the range, the deltas and the scores' ends read the points alone.
+// Stays: ten pairs would be no plainer: the record has all points before all weights, and the mean, the range, the deltas and the ends' scores read the points alone.
 #[derive(Clone, Copy)]
 pub struct ToneShape {
     pub contour: [f32; 10],
@@ -125,21 +125,6 @@ fn mean_of(contour: &[f32; 10]) -> f32
     sum / 10.0
 }
 
-// The greatest of a contour less the least, from the infinities on.
-// Stays: beside tonekit_deltas' over f64, since one over both would subtract by the trait's own minus, with a law for what it gives.
-#[tactic(auto, using(tonekit_core::specs::Loop::again, tonekit_core::specs::Loop::ended), unfolding(crate::specs::Extract::range_of))]
-fn range_of(contour: &[f32; 10]) -> f32
-    ensures { result ≡ range_of contour.now }
-{
-    let mut lo = f32::INFINITY;
-    let mut hi = f32::NEG_INFINITY;
-    for x in contour {
-        lo = tonekit_float::lesser(lo, *x);
-        hi = tonekit_float::greater(hi, *x);
-    }
-    hi - lo
-}
-
 // sum and frame i's voiced_p, where that is voiced.
 #[tactic(auto, using(tonekit_query::proofs::Steps::frame_voiced_lem, tonekit_query::proofs::Steps::frame_then))]
 fn confidence_added(frames: &[u8], i: usize, sum: f32) -> f32
@@ -223,7 +208,7 @@ fn measured(chao: &mut [f64], bytes: &[u8], e: Extent, q: Query) -> ToneShape
         slope: tonekit_float::narrow(slope),
         curvature: tonekit_float::narrow(curvature),
         turning: turn.map(tonekit_float::narrow),
-        range: range_of(&contour),
+        range: tonekit_contour::range_of(&contour),
         duration: span * FRAME_MS,
         fraction,
         confidence,

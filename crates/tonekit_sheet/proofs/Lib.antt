@@ -3,3 +3,4 @@ pub mod Records
 pub mod Turns
 pub mod RowPlaces
 pub mod Every
+pub mod ByKind

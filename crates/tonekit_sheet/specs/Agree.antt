@@ -1,5 +1,5 @@
 -- Demand 3's words, of what two stations hold: held, agree, the same.
-use Rattle.std.specs.Prelude.{ℕ, ◌≤◌, ◌<◌, ◌≡◌, ◌⊎◌, true, List, get_or}
+use Rattle.std.specs.Prelude.{ℕ, ◌<◌, ◌≡◌, ◌⊎◌, true, List, get_or}
 use Rattle.std.proofs.Math.Option.{some}
 use Rattle.tonekit_expect.specs.Source.{Accent, Source, accent_in, tone_in}
 use Rattle.tonekit_expect.specs.declared.Context.{Context}
@@ -8,12 +8,11 @@ use Rattle.tonekit_expect.specs.declared.Context.{Context}
 abbrev pub Bytes : List ℕ → Type 0
 Bytes s = (i : ℕ) → get_or s i 0 < 256
 
--- "A lookup takes accent, tone, prev (a held tone or 0) and final (0 or 1)": of a held accent and a held tone
+-- "A lookup takes accent, tone, prev (a held tone or 0) and final (0 or 1)": of a held accent and a held tone, at either place of a phrase
 pub record Held (src : Source) (c : Context) : Type 0 where
   pub accent : (a : Accent) × (accent_in src.accents c.accent ≡ some a)
   pub tone : tone_in src.tones c.tone ≡ true
   pub prev : (c.prev ≡ 0) ⊎ (tone_in src.tones c.prev ≡ true)
-  pub final : c.last ≤ 1
 
 -- "Tones agree if equally many and, one by one in order, equal in number, prior, flag, from and to; accents if the same numbers are held, each with the same four tolerances, in any order"; "Two [lookups] give the same if both give nothing, or equally many components, equal one by one in all that they carry"
 pub record Agree (a b : Source) : Type 0 where

@@ -1,13 +1,12 @@
 -- What a station holds that was read from a sheet.
-use Rattle.std.specs.Prelude.{ℕ, zero, suc, ◌+◌, ◌*◌, cond, List, [], ◌∷◌, ◌++◌, Some, None, map, eqb, length, get_or}
+use Rattle.std.specs.Prelude.{ℕ, zero, suc, ◌+◌, ◌*◌, cond, List, [], ◌∷◌, ◌++◌, Option as Found, Some, None, map, eqb, length, get_or}
 use Rattle.std.proofs.Math.Option.{Option, none, some}
 use Rattle.tonekit_core.specs.Layout.{f32_size, sheet_tone_prior, sheet_tone_region, sheet_tone_from, sheet_tone_to}
 use Rattle.tonekit_core.specs.Layout.{sheet_accent_contour, sheet_accent_onset, sheet_accent_offset, sheet_accent_turning, sheet_row_list, sheet_row_final_list}
 use Rattle.tonekit_core.specs.Layout.{sheet_list_size, sheet_list_owner, sheet_list_form, sheet_list_label, sheet_list_count}
 use Rattle.tonekit_core.specs.Layout.{sheet_component_size, sheet_component_weight, sheet_component_points}
 use Rattle.tonekit_bytes.specs.Fields.{byte_at, u16_at, u32_at}
-use Rattle.tonekit_pack.specs.Pack.{number_at}
-use Rattle.tonekit_expect.specs.Lookup.{Found, index_of}
+use Rattle.tonekit_bytes.specs.Places.{number_at, index_of}
 use Rattle.tonekit_expect.specs.Source.{Tone, Accent, Carried, Source, settings_at}
 use Rattle.tonekit_expect.specs.declared.Context.{Context}
 use Rattle.tonekit_sheet.specs.Reader.{Sst, row_at}
@@ -61,16 +60,16 @@ abbrev pub row_place : Sst → ℕ → ℕ → ℕ → ℕ
 row_place st a t p = (a * length st.tones + t) * (length st.tones + 1) + p
 
 abbrev pub final_place : Context → ℕ
-final_place c = cond (eqb c.last 0) sheet_row_list sheet_row_final_list
+final_place c = cond c.last sheet_row_final_list sheet_row_list
 
-abbrev pub prev_found : List ℕ → Sst → ℕ → Found
+abbrev pub prev_found : List ℕ → Sst → ℕ → Found ℕ
 prev_found s st n = cond (eqb n 0) (Some 0) (after (index_of s st.tones n))
   where
-    after : Found → Found
+    after : Found ℕ → Found ℕ
     after (Some p) = Some (p + 1)
     after None = None
 
-abbrev pub look_placed : List ℕ → Sst → Context → Found → Found → Found → Option (List Carried)
+abbrev pub look_placed : List ℕ → Sst → Context → Found ℕ → Found ℕ → Found ℕ → Option (List Carried)
 look_placed s st c (Some a) (Some t) (Some p) = list_numbered s st (byte_at s (row_at st (row_place st a t p) + final_place c))
 look_placed s st c None t p = none
 look_placed s st c (Some a) None p = none

@@ -8,3 +8,4 @@ pub mod Fit
 pub mod Bench
 pub mod Written
 pub mod Marks
+pub mod Kinds

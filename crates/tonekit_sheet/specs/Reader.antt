@@ -13,7 +13,8 @@ use Rattle.tonekit_core.specs.declared.Refusal.TheVariants.{Misplaced, CutShort,
 use Rattle.tonekit_core.specs.declared.Rejection.{Rejection}
 use Rattle.tonekit_bytes.specs.Fields.{byte_at, u16_at, u32_at, f32_at}
 use Rattle.tonekit_pack.specs.Ranges.{a_share, weight_fine, region_fine, tolerances_fine}
-use Rattle.tonekit_pack.specs.Pack.{number_at, holds, zero_or_held, in_turn, settings_verdict}
+use Rattle.tonekit_bytes.specs.Places.{number_at}
+use Rattle.tonekit_pack.specs.Pack.{holds, zero_or_held, in_turn, settings_verdict}
 use Rattle.tonekit_sheet.specs.Sheet.{row_count, accent_place, tone_place, prev_place}
 
 -- what has been read: the last kind; the offsets of tones and accents; how many rows; the offsets of lists; the components that the last list is still due, and all components

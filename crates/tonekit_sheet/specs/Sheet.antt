@@ -1,5 +1,5 @@
 -- Document 01's section Sheet: the bytes of the sheet of whatever a station holds.
-use Rattle.std.specs.Prelude.{ℕ, zero, suc, ◌+◌, ◌*◌, ◌/◌, ◌%◌, List, [], ◌∷◌, ◌++◌, length, get_or}
+use Rattle.std.specs.Prelude.{ℕ, zero, suc, ◌+◌, ◌*◌, ◌/◌, ◌%◌, Bool, true, false, List, [], ◌∷◌, ◌++◌, length, get_or}
 use Rattle.std.proofs.Math.Option.{Option, none, some}
 use Rattle.tonekit_core.specs.Loop.{range}
 use Rattle.tonekit_core.specs.Layout.{sheet_settings_kind, sheet_tone_kind, sheet_accent_kind, sheet_row_kind}
@@ -46,8 +46,8 @@ abbrev pub prev_number : List Tone → ℕ → ℕ
 prev_number tones zero = 0
 prev_number tones (suc p) = (get_or tones p no_tone).number
 
--- the context of row r, at the end of a phrase (1) or not (0); accents stand in ascending order here
-unfoldable pub row_context : List Tone → List Accent → ℕ → ℕ → Context
+-- the context of row r, at the end of a phrase or not; accents stand in ascending order here
+unfoldable pub row_context : List Tone → List Accent → ℕ → Bool → Context
 row_context tones accents r last = record {
   accent = (get_or accents (accent_place (length tones) r) no_accent).number;
   tone = (get_or tones (tone_place (length tones) r) no_tone).number;
@@ -60,7 +60,7 @@ pub record View : Type 0 where
   pub settings : Settings
   pub tones : List Tone
   pub accents : List Accent
-  pub row : ℕ → ℕ → Option (List Carried)
+  pub row : ℕ → Bool → Option (List Carried)
 
 unfoldable pub view_of : Source → View
 view_of src =
@@ -72,7 +72,7 @@ rows_of v = row_count (length v.accents) (length v.tones)
 
 -- "numbered from 1 by first use along the rows": not final before final
 abbrev pub note_turn : View → ℕ → List (List Carried) → List (List Carried)
-note_turn v r lists = noted (noted lists (v.row r 0)) (v.row r 1)
+note_turn v r lists = noted (noted lists (v.row r false)) (v.row r true)
 
 unfoldable pub lists_of : View → List (List Carried)
 lists_of v = range (note_turn v) 0 (rows_of v) []
@@ -126,7 +126,7 @@ abbrev pub accent_piece : View → ℕ → List ℕ
 accent_piece v i = accent_bytes (get_or v.accents i no_accent)
 
 abbrev pub row_piece : View → List (List Carried) → ℕ → List ℕ
-row_piece v lists r = row_bytes (row_context v.tones v.accents r 0) (number_in lists (v.row r 0)) (number_in lists (v.row r 1))
+row_piece v lists r = row_bytes (row_context v.tones v.accents r false) (number_in lists (v.row r false)) (number_in lists (v.row r true))
 
 abbrev pub list_piece : List (List Carried) → ℕ → List ℕ
 list_piece lists i = list_bytes (i + 1) (get_or lists i [])

@@ -1,10 +1,10 @@
 -- Worked examples, computed: what is one list and what are two, and the sheet of a small source.
-use Rattle.std.specs.Prelude.{ℕ, ◌≡◌, refl, true, false, cond, List, [], ◌∷◌, ◌++◌, eqb, replicate}
+use Rattle.std.specs.Prelude.{ℕ, ◌≡◌, refl, Bool, true, false, cond, List, [], ◌∷◌, ◌++◌, eqb, replicate}
 use Rattle.std.proofs.Math.Option.{Option, none, some}
-use Rattle.std.proofs.Common.{inl, inr, arith}
+use Rattle.std.proofs.Common.{inl, inr}
 use Rattle.tonekit_core.specs.Loop.{turns, range, turns_to, range_to}
 use Rattle.tonekit_expect.specs.Source.{Settings, Tone, Accent, Carried, Source, accent_in, tone_in, settings_at}
-use Rattle.tonekit_expect.specs.Lookup.{index_of}
+use Rattle.tonekit_bytes.specs.Places.{index_of}
 use Rattle.tonekit_expect.specs.declared.Context.{Context}
 use Rattle.tonekit_sheet.specs.Agree.{Held}
 use Rattle.tonekit_sheet.specs.Number.{same_numbers, same_carried, same, seen_in, place_in, noted, number_in}
@@ -51,7 +51,7 @@ abbrev accent : ℕ → Accent
 accent n = record { number = n; contour = 0; onset = 0; offset = 0; turning = 0 }
 
 abbrev looked : Context → Option (List Carried)
-looked c = cond (eqb c.prev 0) (cond (eqb c.last 0) (some (lone 3 7 0 0)) (some (lone 3 8 0 0))) (some (lone 3 8 0 0))
+looked c = cond (eqb c.prev 0) (cond c.last (some (lone 3 8 0 0)) (some (lone 3 7 0 0))) (some (lone 3 8 0 0))
 
 abbrev small : Source
 small = record { settings = record { temperature = 0; threshold = 0 }; tones = tone ∷ []; accents = accent 5 ∷ accent 3 ∷ []; look = looked }
@@ -79,7 +79,7 @@ toned n = record { number = n; prior = 0; flag = 0; from = 0; to = 0 }
 abbrev sought : Context → Option (List Carried)
 sought c =
     cond (eqb c.tone 7)
-    (cond (eqb c.prev 4) (cond (eqb c.last 0) (some (lone 3 9 0 0)) none) (some (lone 3 7 0 0)))
+    (cond (eqb c.prev 4) (cond c.last none (some (lone 3 9 0 0))) (some (lone 3 7 0 0)))
     (cond (eqb c.prev 0) (some (lone 3 8 0 0)) (some (lone 3 7 0 0)))
 
 abbrev pair : Source
@@ -104,13 +104,13 @@ unfolding sheet bytes_of bytes_with view_of ascending asc_from accent_in lists_o
 pair_sheet = refl
 
 -- "A lookup takes accent, tone, prev (a held tone or 0) and final (0 or 1)": after none at the end of a phrase, after tone 4 elsewhere
-held_after_none : Held pair (record { accent = 3; tone = 7; prev = 0; last = 1 })
+held_after_none : Held pair (record { accent = 3; tone = 7; prev = 0; last = true })
 unfolding accent_in tone_in
-held_after_none = record { accent = (accent 3, refl); tone = refl; prev = inl refl; final = omega arith }
+held_after_none = record { accent = (accent 3, refl); tone = refl; prev = inl refl }
 
-held_after_tone : Held pair (record { accent = 3; tone = 7; prev = 4; last = 0 })
+held_after_tone : Held pair (record { accent = 3; tone = 7; prev = 4; last = false })
 unfolding accent_in tone_in
-held_after_tone = record { accent = (accent 3, refl); tone = refl; prev = inr refl; final = omega arith }
+held_after_tone = record { accent = (accent 3, refl); tone = refl; prev = inr refl }
 
 -- a sheet of one tone and of accents 3 and 5, with those two lists, looked up by position
 abbrev lists : List ℕ
@@ -128,22 +128,22 @@ printed =
 abbrev read : Sst
 read = record { last = 22; tones = 9 ∷ []; accents = 24 ∷ 42 ∷ []; rows = 4; lists = 84 ∷ 136 ∷ []; due = 0; total = 2 }
 
-abbrev at : ℕ → ℕ → ℕ → Context
+abbrev at : ℕ → ℕ → Bool → Context
 at accent prev last = record { accent = accent; tone = 1; prev = prev; last = last }
 
-not_final : look_sheet printed read (at 3 0 0) ≡ some (lone 3 7 0 0)
+not_final : look_sheet printed read (at 3 0 false) ≡ some (lone 3 7 0 0)
 unfolding look_sheet index_of range_to turns_to carried_from carried_at bits_at
 not_final = refl
 
-final : look_sheet printed read (at 3 0 1) ≡ some (lone 3 8 0 0)
+final : look_sheet printed read (at 3 0 true) ≡ some (lone 3 8 0 0)
 unfolding look_sheet index_of range_to turns_to carried_from carried_at bits_at
 final = refl
 
-second_accent : look_sheet printed read (at 5 0 0) ≡ some (lone 3 8 0 0)
+second_accent : look_sheet printed read (at 5 0 false) ≡ some (lone 3 8 0 0)
 unfolding look_sheet index_of range_to turns_to carried_from carried_at bits_at
 second_accent = refl
 
-after_tone : look_sheet printed read (at 5 1 0) ≡ none
+after_tone : look_sheet printed read (at 5 1 false) ≡ none
 unfolding look_sheet index_of range_to turns_to carried_from carried_at bits_at
 after_tone = refl
 
@@ -180,7 +180,7 @@ abbrev record20 : List ℕ
 record20 = 20 ∷ 1 ∷ 2 ∷ 3 ∷ 4 ∷ 5 ∷ []
 
 abbrev context20 : Context
-context20 = record { accent = 1; tone = 2; prev = 3; last = 0 }
+context20 = record { accent = 1; tone = 2; prev = 3; last = false }
 
 abbrev before20 : List ℕ
 before20 = replicate 9 0 ++ ((18 ∷ 2 ∷ replicate 13 0) ++ ((18 ∷ 3 ∷ replicate 13 0) ++ ((19 ∷ 1 ∷ replicate 16 0) ++ replicate 12 0)))

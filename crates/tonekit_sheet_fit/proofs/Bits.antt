@@ -78,14 +78,14 @@ module _ (s : List ℕ) (l : Listing) (j : ℕ) where
   component_held : AllHeld (component_of s l j).points
   unfolding component_of
   component_held k =
-      split (eqb l.form 1)
+      split (eqb l.name.form 1)
       (λ t. rw t (points_held (knots_at s (l.at + 7) (byte_at s (l.at + 6))) (knots_held s (l.at + 7) (byte_at s (l.at + 6))) 10 k))
       (λ t. rw t (points_held (knots_at s (l.at + 46 * j + 6) (byte_at s (l.at + 46 * j + 5))) (knots_held s (l.at + 46 * j + 6) (byte_at s (l.at + 46 * j + 5))) 10 k))
 
   component_ten : length (component_of s l j).points ≡ 10
   unfolding component_of
   component_ten =
-      split (eqb l.form 1)
+      split (eqb l.name.form 1)
       (λ t. rw t (ten_points (knots_at s (l.at + 7) (byte_at s (l.at + 6))) 10))
       (λ t. rw t (ten_points (knots_at s (l.at + 46 * j + 6) (byte_at s (l.at + 46 * j + 5))) 10))
 

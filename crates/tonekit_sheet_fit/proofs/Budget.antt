@@ -1,5 +1,5 @@
 -- Lists noted once each weigh no more than any pool that they all come from. Assumes nothing.
-use Rattle.std.proofs.Common.{ℕ, zero, suc, ◌+◌, ◌*◌, ◌≤◌, ◌<◌, ◌≡◌, refl, ap₂, false, cond, List, [], ◌∷◌, ◌++◌, ◌⊎◌, ⊎_elim, mul-zero, mul-suc, mul-add, arith, eqb, eqb-true}
+use Rattle.std.proofs.Common.{ℕ, zero, suc, ◌+◌, ◌*◌, ◌≤◌, ◌<◌, ◌≡◌, refl, ap₂, Bool, true, false, cond, List, [], ◌∷◌, ◌++◌, ◌⊎◌, ⊎_elim, mul-zero, mul-suc, mul-add, arith, eqb, eqb-true}
 use mathlib.Core.Option.{Option, none, some}
 use borrow.Author.Tests.{eqb-false}
 use Rattle.tonekit_expect.specs.Source.{Carried}
@@ -113,9 +113,9 @@ module _ (f : ℕ → List Carried) (n : ℕ) (g : ℕ → List Carried) (m : �
     room_noted seen none p r = r
     room_noted seen (some v) p r = split (seen_in v seen) (λ e. rw e r) (λ e. rw e (room_one seen v (p v refl) e r))
 
-    pub budget : (v : View) → ((r last : ℕ) (cs : List Carried) → v.row r last ≡ some cs → Pooled cs) → weigh w (lists_of v) ≤ whole
+    pub budget : (v : View) → ((r : ℕ) (last : Bool) (cs : List Carried) → v.row r last ≡ some cs → Pooled cs) → weigh w (lists_of v) ≤ whole
     unfolding lists_of
     budget v p =
         let r = range_keeps (note_turn v) (λ i seen. Room seen) 0 (rows_of v) [] (omega arith)
-        (λ j seen l r. room_noted (noted seen (v.row j 0)) (v.row j 1) (λ cs e. p j 1 cs e) (room_noted seen (v.row j 0) (λ cs e. p j 0 cs e) r)) room_first in
+        (λ j seen l r. room_noted (noted seen (v.row j false)) (v.row j true) (λ cs e. p j true cs e) (room_noted seen (v.row j false) (λ cs e. p j false cs e) r)) room_first in
         omega arith

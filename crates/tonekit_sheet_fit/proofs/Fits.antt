@@ -62,7 +62,7 @@ components_are [] = refl
 components_are (x ∷ xs) = ap (λ (n : ℕ). length x + n) (components_are xs)
 
 module _ (s : List ℕ) (st : Pst) (e : ℕ) (p : read_pack s ≡ loaded st e) where
-  few_lists : length (lists_of (view_of (source_of_pack s st))) ≤ 128
+  pub few_lists : length (lists_of (view_of (source_of_pack s st))) ≤ 128
   few_lists =
       let l = loads s st e p in
       omega (

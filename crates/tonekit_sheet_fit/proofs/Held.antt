@@ -4,8 +4,9 @@ use mathlib.Core.Option.{some}
 use lib.ListN.{length-map}
 use Rattle.tonekit_bytes.specs.Fields.{f32_at}
 use Rattle.tonekit_bytes.proofs.Fields.{u32_below}
+use Rattle.tonekit_bytes.specs.Places.{number_at}
 use Rattle.tonekit_pack.specs.Ranges.{above_zero, region_fine, tolerances_fine}
-use Rattle.tonekit_pack.specs.Pack.{Pst, number_at}
+use Rattle.tonekit_pack.specs.Pack.{Pst}
 use Rattle.tonekit_core.proofs.Split.{split, both}
 use Rattle.tonekit_pack.proofs.Loads.{ToneFine, AccentFine, Loads, tones_once, accents_once}
 use Rattle.tonekit_expect.specs.Source.{Tone, Accent, settings_at, tone_at, accent_at, accent_in}

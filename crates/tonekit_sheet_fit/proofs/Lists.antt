@@ -3,8 +3,9 @@ use Rattle.std.proofs.Common.{ℕ, ◌+◌, ◌*◌, ◌≤◌, ◌<◌, ◌≡�
 use mathlib.Core.Option.{some}
 use Rattle.tonekit_bytes.specs.Fields.{u32_at}
 use Rattle.tonekit_bytes.proofs.Fields.{u16_below}
+use Rattle.tonekit_bytes.specs.Places.{number_at}
 use Rattle.tonekit_pack.specs.Ranges.{weight_fine}
-use Rattle.tonekit_pack.specs.Pack.{Pst, loaded, read_pack, number_at}
+use Rattle.tonekit_pack.specs.Pack.{Pst, loaded, read_pack}
 use Rattle.tonekit_pack.proofs.Loads.{RuleFine, Loads, loads}
 use Rattle.std.specs.Prelude.{Some, None}
 use Rattle.tonekit_expect.specs.declared.Context.{Context}
@@ -24,24 +25,24 @@ use Rattle.tonekit_sheet_fit.proofs.Held.{accent_there}
 record Fine (s accents : List ℕ) (m : Listing) : Type 0 where
   any : 1 ≤ m.count
   few : m.count ≤ 4
-  owner : (a : Accent) × (accent_in (map (accent_at s) accents) m.owner ≡ some a)
-  least : 1 ≤ m.form
-  most : m.form ≤ 3
-  label : m.label < 65536
-  plain : m.form ≡ 1 → m.label ≡ 0
-  lone : (m.form ≡ 3 → ⊥) → m.count ≡ 1
+  owner : (a : Accent) × (accent_in (map (accent_at s) accents) m.name.owner ≡ some a)
+  least : 1 ≤ m.name.form
+  most : m.name.form ≤ 3
+  label : m.name.label < 65536
+  plain : m.name.form ≡ 1 → m.name.label ≡ 0
+  lone : (m.name.form ≡ 3 → ⊥) → m.count ≡ 1
   weight : (j : ℕ) → j < m.count → weight_fine (carried (component_of s m j)).weight ≡ true
-  unit : (m.form ≡ 3 → ⊥) → (carried (component_of s m 0)).weight ≡ 0x3f80_0000
+  unit : (m.name.form ≡ 3 → ⊥) → (carried (component_of s m 0)).weight ≡ 0x3f80_0000
 
 -- a part's weight is that of its bytes
-part_weight_lem : (s : List ℕ) (m : Listing) (j : ℕ) → (m.form ≡ 1 → ⊥) → weight_fine (u32_at s (m.at + 46 * j + 1)) ≡ true → (carried (component_of s m j)).weight ≡ u32_at s (m.at + 46 * j + 1)
+part_weight_lem : (s : List ℕ) (m : Listing) (j : ℕ) → (m.name.form ≡ 1 → ⊥) → weight_fine (u32_at s (m.at + 46 * j + 1)) ≡ true → (carried (component_of s m j)).weight ≡ u32_at s (m.at + 46 * j + 1)
 unfolding carried component_of
-part_weight_lem s m j n w = rw (ne_eqb m.form 1 n) (weight_again (u32_at s (m.at + 46 * j + 1)) w)
+part_weight_lem s m j n w = rw (ne_eqb m.name.form 1 n) (weight_again (u32_at s (m.at + 46 * j + 1)) w)
 
 rule_fine_lem : (s : List ℕ) (b : Bytes s) (tones accents : List ℕ) (i r : ℕ) → i < length accents → RuleFine s tones r → Fine s accents (rule_listing s (number_at s (get_or accents i 0)) r)
 rule_fine_lem s b tones accents i r h R =
     let m = rule_listing s (number_at s (get_or accents i 0)) r in
-    let form : m.form ≡ 1 → ⊥ = λ q. omega (arith, R.least) in
+    let form : m.name.form ≡ 1 → ⊥ = λ q. omega (arith, R.least) in
     record {
       any = R.some_parts;
       few = R.few_parts;

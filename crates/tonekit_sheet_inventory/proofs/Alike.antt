@@ -2,12 +2,13 @@
 use Rattle.std.proofs.Common.{ℕ, zero, suc, ◌+◌, ◌≤◌, ◌<◌, ◌≡◌, refl, List, arith, length, get_or}
 use mathlib.Core.Option.{some}
 use Rattle.tonekit_bytes.specs.Fields.{byte_at}
-use Rattle.tonekit_expect.specs.Lookup.{index_of}
+use Rattle.tonekit_bytes.specs.Places.{index_of}
 use Rattle.tonekit_expect.specs.Source.{Carried}
 use Rattle.tonekit_expect.specs.declared.Context.{Context}
 use Rattle.tonekit_expect.specs.Lookup.{Found}
 use Rattle.std.specs.Prelude.{Some, None}
 use Rattle.tonekit_expect.proofs.Walk.{index_found}
+use Rattle.tonekit_judge.specs.Judge.{name_in}
 use Rattle.tonekit_inventory.specs.Gather.{named_of}
 use Rattle.tonekit_inventory.proofs.Going.{first_named}
 use Rattle.tonekit_inventory.proofs.Alike.{Under, Alike}
@@ -23,7 +24,7 @@ module _ (s : List ℕ) (o n : ℕ) (few : n ≤ 4) where
   abbrev cs : List Carried
   cs = carried_from s o n
 
-  under : (k : ℕ) → k < n → Under (named_of cs) k (get_or cs k no_carried)
+  under : (k : ℕ) → k < n → Under (name_in (named_of cs)) k (get_or cs k no_carried)
   unfolding carried_at bits_at
   under k h =
       let m = first_named cs no_carried (omega (arith, carried_count s o n)) in

@@ -3,19 +3,18 @@ use Rattle.std.proofs.Common.{ℕ, zero, suc, ◌+◌, ◌-◌, ◌*◌, ◌≤�
 use mathlib.Core.Option.{none}
 use Rattle.tonekit_bytes.specs.Fields.{byte_at}
 use Rattle.tonekit_core.proofs.Split.{split}
-use Rattle.tonekit_pack.proofs.InOrder.{order_get}
-use Rattle.tonekit_expect.specs.Lookup.{index_of}
+use Rattle.tonekit_bytes.specs.Places.{index_of}
 use Rattle.tonekit_expect.specs.declared.Context.{Context}
 use Rattle.tonekit_expect.specs.Lookup.{Found}
 use Rattle.std.specs.Prelude.{Some, None}
 use Rattle.tonekit_expect.proofs.Walk.{index_found}
-use Rattle.tonekit_sheet.specs.Reader.{Sst, loaded, row_at, read_sheet}
+use Rattle.tonekit_sheet.specs.Reader.{Sst, Out, loaded, refused, row_at, read_sheet}
 use Rattle.tonekit_sheet.specs.FromSheet.{list_numbered, row_place, final_place, prev_found, look_sheet}
 use Rattle.tonekit_sheet_read.specs.declared.Sheet.{Sheet}
-use Rattle.tonekit_sheet_read.specs.Held.{shown}
-use Rattle.tonekit_sheet_read.proofs.Stepped.{stepped_length}
+use Rattle.tonekit_sheet_read.specs.Held.{shown, ReadFrom}
+use Rattle.tonekit_bytes.proofs.Stepped.{stepped_length}
 use Rattle.tonekit_sheet_inverse.proofs.Loads.{reads}
-use Rattle.tonekit_sheet_inventory.specs.Look.{list_place, Placed, told, ShortList, Looks}
+use Rattle.tonekit_sheet_inventory.specs.Look.{list_place, sheet_in, Placed, told, ShortList, Looks}
 use Rattle.tonekit_sheet_inventory.proofs.Few.{lists_few}
 
 -- ---- what stood before
@@ -46,6 +45,11 @@ module _ (s : List ℕ) (st : Sheet) (n : ℕ) where
 
   pub prev_held : (p : ℕ) → prev_found s (shown st) n ≡ Some p → p ≤ st.tones
   prev_held p e = omega (arith, prev_inside s (shown st) n p e, stepped_length 9 15 st.tones)
+
+-- ---- a sheet that is held was read from its bytes
+pub read_from : (s : List ℕ) (p : Sheet) (o : Out) → read_sheet s ≡ o → sheet_in o ≡ Some (shown p) → ReadFrom s p
+read_from s p (loaded st e) q h = let is : st ≡ shown p = cc in record { end = e; reads = q ∙ ap (λ (x : Sst). loaded x e) is }
+read_from s p (refused r place) q h = let n : ◌≡◌ {A = ℕ} 0 1 = cc in absurd (omega arith)
 
 -- ---- the ways
 pub not_there : {P : Type 0} (o : ℕ) → None ≡ Some o → P
@@ -79,9 +83,9 @@ place_told : (s : List ℕ) (st : Sst) (n : ℕ) → list_numbered s st n ≡ to
 place_told s st zero = refl
 place_told s st (suc i) = refl
 
-pub place_is : (st : Sheet) (n : ℕ) → (n ≡ 0 → ⊥) → n ≤ st.lists → Some (get_or st.listat (n - 1) 0) ≡ list_place (shown st) n
-place_is st zero h l = absurd (h refl)
-place_is st (suc i) h l = rw (sub-one, order_get st.listat st.lists i l)
+pub place_is : (st : Sst) (n : ℕ) → (n ≡ 0 → ⊥) → Some (get_or st.lists (n - 1) 0) ≡ list_place st n
+place_is st zero h = absurd (h refl)
+place_is st (suc i) h = rw sub-one refl
 
 module _ (s : List ℕ) (st : Sst) (e : ℕ) (h : read_sheet s ≡ loaded st e) where
   short : (n o : ℕ) → n ≤ length st.lists → list_place st n ≡ Some o → o < 65536 → ShortList s o

@@ -1,5 +1,5 @@
 -- The row of an accent, a tone and what stood before it is there, and names lists that are. Assumes nothing.
-use Rattle.std.proofs.Common.{ℕ, ◌+◌, ◌*◌, ◌≤◌, ◌<◌, ◌≡◌, List, arith, mul-le-mul, le_refl, eqb, length}
+use Rattle.std.proofs.Common.{ℕ, ◌+◌, ◌*◌, ◌≤◌, ◌<◌, ◌≡◌, List, arith, mul-le-mul, le_refl, length}
 use Rattle.tonekit_bytes.specs.Fields.{byte_at}
 use Rattle.tonekit_core.proofs.Split.{split}
 use Rattle.tonekit_expect.specs.declared.Context.{Context}
@@ -34,4 +34,4 @@ module _ (s : List ℕ) (st : Sst) (e : ℕ) (h : read_sheet s ≡ loaded st e) 
       let r = row_place st a t p in
       let b : r < st.rows = omega (arith, l.all_rows, inside (length st.accents) (length st.tones) a t p ha ht hp) in
       let o = (ordered s st e e l.fine).rows r b in
-      split (eqb c.last 0) (λ w. rw w o.first_held) (λ w. rw w o.final_held)
+      split c.last (λ w. rw w o.final_held) (λ w. rw w o.first_held)

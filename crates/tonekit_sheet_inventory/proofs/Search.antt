@@ -2,7 +2,7 @@
 use Rattle.std.proofs.Common.{ℕ, ◌+◌, ◌*◌, ◌<◌, ◌≡◌, refl, ap, ◌∙◌, List, arith}
 use Rattle.std.specs.Prelude.{Some, None}
 use Rattle.tonekit_core.specs.Layout.{sheet_accent_at}
-use Rattle.tonekit_expect.specs.Lookup.{index_of}
+use Rattle.tonekit_bytes.specs.Places.{index_of}
 use Rattle.tonekit_expect.specs.Source.{accent_in}
 use Rattle.std.specs.Prelude.{Some, None}
 use Rattle.tonekit_score.specs.declared.Tolerance.{Tolerance}
@@ -12,7 +12,7 @@ use Rattle.tonekit_inventory.proofs.Search.{accent_found, accent_none}
 use Rattle.tonekit_sheet.specs.FromSheet.{accent_at, source_of_sheet}
 use Rattle.tonekit_sheet_read.specs.declared.Sheet.{Sheet}
 use Rattle.tonekit_sheet_read.specs.Held.{shown}
-use Rattle.tonekit_sheet_read.proofs.Stepped.{stepped_get}
+use Rattle.tonekit_bytes.proofs.Stepped.{stepped_get}
 
 -- the tolerances stand behind an accent's kind and number
 tolerance : (s : List ℕ) (o : ℕ) → tolerance_at s (o + 2) ≡ tolerance_of (accent_at s o)

@@ -1,15 +1,16 @@
 -- A sheet's tones, as what a station holds: they are its records'. Assumes nothing.
-use Rattle.std.proofs.Common.{ℕ, ◌+◌, ◌*◌, ◌<◌, ◌≡◌, sym, ap, ◌∙◌, List, [], length, get_or, arith}
+use Rattle.std.specs.Prelude.{None}
+use Rattle.std.proofs.Common.{ℕ, ◌+◌, ◌*◌, ◌<◌, ◌≡◌, sym, ap, ◌∙◌, List, length, get_or, arith}
 use Rattle.std.proofs.lemmas.List.{length-map}
 use Rattle.tonekit_core.specs.Layout.{sheet_tone_at}
 use Rattle.tonekit_bytes.specs.Fields.{byte_at, f32_at}
 use Rattle.tonekit_inventory.specs.Fields.{region_at}
-use Rattle.tonekit_inventory.specs.Gather.{region_of, entry_of, named_of, no_tone}
+use Rattle.tonekit_inventory.specs.Gather.{region_of, entry_of, no_tone}
 use Rattle.tonekit_inventory.proofs.Going.{map_at}
 use Rattle.tonekit_sheet.specs.FromSheet.{tone_at, source_of_sheet}
 use Rattle.tonekit_sheet_read.specs.declared.Sheet.{Sheet}
-use Rattle.tonekit_sheet_read.specs.Held.{stepped}
-use Rattle.tonekit_sheet_read.proofs.Stepped.{stepped_length, stepped_get}
+use Rattle.tonekit_bytes.specs.Places.{stepped}
+use Rattle.tonekit_bytes.proofs.Stepped.{stepped_length, stepped_get}
 use Rattle.tonekit_sheet_inventory.specs.Look.{source_in}
 
 -- ---- a tone's values in its record
@@ -31,6 +32,6 @@ module _ (s : List ℕ) (st : Sheet) where
       map_at (tone_at s) (stepped 9 15 st.tones) t 0 no_tone (rw (stepped_length 9 15 st.tones) h)
       ∙ ap (tone_at s) (stepped_get 9 15 st.tones t h)
 
-  pub entry_is : (t : ℕ) → t < st.tones → (o : ℕ) → o ≡ sheet_tone_at t → record { number = byte_at s (o + 1); prior = f32_at s (o + 2); region = region_at s (o + 6); count = 0; owner = 0; form = 0; label = 0 }
-      ≡ entry_of (get_or (source_in s st).tones t no_tone) (named_of [])
+  pub entry_is : (t : ℕ) → t < st.tones → (o : ℕ) → o ≡ sheet_tone_at t → record { number = byte_at s (o + 1); prior = f32_at s (o + 2); region = region_at s (o + 6); listing = None }
+      ≡ entry_of (get_or (source_in s st).tones t no_tone) None
   entry_is t h o e = rw (tone_is t h ∙ ap (tone_at s) (sym e), region_is s o)

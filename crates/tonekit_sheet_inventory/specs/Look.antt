@@ -1,13 +1,14 @@
 -- What a lookup in a sheet answers: the offset of the list that a context takes, or nothing.
-use Rattle.std.specs.Prelude.{ℕ, zero, suc, ◌+◌, ◌≤◌, ◌<◌, ◌≡◌, List, get_or, Some, None, Result, Ok, Err}
-use Rattle.std.proofs.Math.Option.{Option, none, some}
+use Rattle.std.specs.Prelude.{ℕ, zero, suc, ◌+◌, ◌≤◌, ◌<◌, ◌≡◌, List, get_or, Option, Some, None, Result, Ok, Err}
+use Rattle.std.proofs.Math.Option as math
+use Rattle.std.proofs.Math.Option.{none, some}
 use Rattle.tonekit_core.specs.declared.Rejection.{Rejection}
 use Rattle.tonekit_core.specs.Layout.{sheet_list_owner, sheet_list_form, sheet_list_label, sheet_list_count}
 use Rattle.tonekit_bytes.specs.Fields.{byte_at, u16_at}
 use Rattle.tonekit_expect.specs.Source.{Carried, Source}
 use Rattle.tonekit_expect.specs.declared.Context.{Context}
 use Rattle.tonekit_expect.specs.Lookup.{Found}
-use Rattle.tonekit_inventory.specs.declared.Named.{Named}
+use Rattle.tonekit_judge.specs.declared.Listed.{Listed}
 use Rattle.tonekit_sheet.specs.Reader.{Sst, Out, loaded, refused, load_sheet}
 use Rattle.tonekit_sheet.specs.FromSheet.{carried_from, look_sheet, source_of_sheet}
 use Rattle.tonekit_sheet_read.specs.Held.{shown}
@@ -25,6 +26,11 @@ source_or s (refused r place) = Err (record { why = r; place = place })
 abbrev pub load_source : List ℕ → Result Source Rejection
 load_source s = source_or s (load_sheet s)
 
+-- the sheet that was read, if one was
+abbrev pub sheet_in : Out → Option Sst
+sheet_in (loaded st end) = Some st
+sheet_in (refused r place) = None
+
 -- where the list with a number stands: "0 nothing", else the list at that place, from 1
 abbrev pub list_place : Sst → ℕ → Found
 list_place st zero = None
@@ -35,7 +41,7 @@ pub record Placed (st : Sst) (n : ℕ) (f : Found) : Type 0 where
   pub near : (o : ℕ) → f ≡ Some o → o < 65536
 
 -- what the list at an offset gives
-abbrev pub told : List ℕ → Found → Option (List Carried)
+abbrev pub told : List ℕ → Found → math.Option (List Carried)
 told s (Some o) = some (carried_from s o (byte_at s (o + sheet_list_count)))
 told s None = none
 
@@ -54,5 +60,8 @@ pub record Looks (s : List ℕ) (st : Sst) (c : Context) (f : Found) : Type 0 wh
   pub list : ListThere s f
 
 -- "21 list: number u8, owner u8, form u8, label u16, count u8": its name, and how many components it has
-unfoldable pub name_at : List ℕ → ℕ → Named
-name_at s o = record { owner = byte_at s (o + sheet_list_owner); form = byte_at s (o + sheet_list_form); label = u16_at s (o + sheet_list_label); count = byte_at s (o + sheet_list_count) }
+unfoldable pub name_at : List ℕ → ℕ → Listed
+name_at s o = record {
+  name = record { owner = byte_at s (o + sheet_list_owner); form = byte_at s (o + sheet_list_form); label = u16_at s (o + sheet_list_label) };
+  count = byte_at s (o + sheet_list_count);
+}

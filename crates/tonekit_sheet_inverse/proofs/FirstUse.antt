@@ -1,5 +1,5 @@
 -- The lists of a sheet are those of first use along its rows, in their order, and each row's lists have the numbers that it names. Assumes nothing.
-use Rattle.std.proofs.Common.{ℕ, zero, suc, ◌+◌, ◌-◌, ◌≤◌, ◌<◌, max, ◌≡◌, refl, sym, ap, ◌∙◌, ◌⊎◌, ⊎_elim, true, false, List, [], ◌∷◌, ◌++◌, arith, ltb, length, get_or, length-append, ltb-true, ltb-false}
+use Rattle.std.proofs.Common.{ℕ, zero, suc, ◌+◌, ◌-◌, ◌≤◌, ◌<◌, max, ◌≡◌, refl, sym, ap, ◌∙◌, ◌⊎◌, ⊎_elim, Bool, true, false, List, [], ◌∷◌, ◌++◌, arith, ltb, length, get_or, length-append, ltb-true, ltb-false}
 use mathlib.Core.Option.{Option}
 use lib.ListN.{get_or-append}
 use lib.Seq.{get_or-append_seam}
@@ -116,33 +116,33 @@ module _ (s : List ℕ) (st : Sst) (different : (i j : ℕ) → j < i → i < le
 
   module _ (o : Ordered s st) where
     -- rows whose lookups give the lists that they name: after r of them the lists are those up to the greatest number
-    module _ (row : ℕ → ℕ → Option (List Carried))
-        (first_is : (r : ℕ) → r < st.rows → row r 0 ≡ list_numbered s st (first_list s st r))
-        (final-is : (r : ℕ) → r < st.rows → row r 1 ≡ list_numbered s st (final_list s st r)) where
+    module _ (row : ℕ → Bool → Option (List Carried))
+        (first_is : (r : ℕ) → r < st.rows → row r false ≡ list_numbered s st (first_list s st r))
+        (final-is : (r : ℕ) → r < st.rows → row r true ≡ list_numbered s st (final_list s st r)) where
       record Upto (r : ℕ) (l : List (List Carried)) : Type 0 where
         is : l ≡ contents s st (greatest s st r)
         few : greatest s st r ≤ length st.lists
 
-      upto_next : (r : ℕ) (l : List (List Carried)) → r < st.rows → Upto r l → Upto (r + 1) (noted (noted l (row r 0)) (row r 1))
+      upto_next : (r : ℕ) (l : List (List Carried)) → r < st.rows → Upto r l → Upto (r + 1) (noted (noted l (row r false)) (row r true))
       upto_next r l h u =
           let q = o.rows r h in
           let m = greatest s st r in
           let a = first_list s st r in
           let b = final_list s st r in
-          let x : noted l (row r 0) ≡ contents s st (max m a) = rw (u.is, first_is r h) (noted_list m a q.first_next q.first_held) in
+          let x : noted l (row r false) ≡ contents s st (max m a) = rw (u.is, first_is r h) (noted_list m a q.first_next q.first_held) in
           record {
             is = rw (x, final-is r h, range_last (most_turn s st) r 0) (noted_list (max m a) b q.final_next q.final_held);
             few = rw (range_last (most_turn s st) r 0) (omega (arith, u.few, q.first_held, q.final_held));
           }
 
-      upto_all : Upto st.rows (range (λ r l. noted (noted l (row r 0)) (row r 1)) 0 st.rows [])
+      upto_all : Upto st.rows (range (λ r l. noted (noted l (row r false)) (row r true)) 0 st.rows [])
       unfolding contents
       upto_all =
-          range_keeps (λ (r : ℕ) (l : List (List Carried)). noted (noted l (row r 0)) (row r 1)) Upto 0 st.rows [] (omega arith) upto_next
+          range_keeps (λ (r : ℕ) (l : List (List Carried)). noted (noted l (row r false)) (row r true)) Upto 0 st.rows [] (omega arith) upto_next
           (let z = range_done (most_turn s st) 0 0 0 (omega arith) in record { is = rw z; few = rw z (omega arith) })
 
       -- and every list is named
-      pub lists_are : range (λ r l. noted (noted l (row r 0)) (row r 1)) 0 st.rows [] ≡ contents s st (length st.lists)
+      pub lists_are : range (λ r l. noted (noted l (row r false)) (row r true)) 0 st.rows [] ≡ contents s st (length st.lists)
       lists_are =
           let u = upto_all in
           u.is ∙ ap (contents s st) (greatest_is s st o u.few)

@@ -1,8 +1,8 @@
 -- A sheet that loads is the sheet of what it holds: reading and writing are inverse. Assumes nothing.
 use Rattle.std.proofs.lemmas.List.{get_or-map}
-use Rattle.std.proofs.Common.{ℕ, ◌+◌, ◌*◌, ◌<◌, ◌≡◌, refl, sym, ap, ◌∙◌, List, map, arith, add-one, length, get_or}
+use Rattle.std.proofs.Common.{ℕ, ◌+◌, ◌*◌, ◌<◌, ◌≡◌, refl, sym, ap, ◌∙◌, true, false, List, map, arith, add-one, length, get_or}
 use lib.ListN.{length-map}
-use Rattle.tonekit_pack.specs.Pack.{number_at}
+use Rattle.tonekit_bytes.specs.Places.{number_at}
 use Rattle.tonekit_core.proofs.Split.{absurd_bool}
 use Rattle.tonekit_expect.specs.Source.{Tone, Accent, settings_at}
 use Rattle.tonekit_sheet.specs.Agree.{Bytes}
@@ -61,7 +61,7 @@ module _ (s : List ℕ) (b : Bytes s) (st : Sst) (e : ℕ) (l : Loads s st e) (o
 
   lists_same : lists_of (view_at s st) ≡ contents s st (length st.lists)
   unfolding lists_of
-  lists_same = rw rows_are (lists_are s st different o (view_at s st).row (λ r h. look_row s st e l o r 0 h) (λ r h. look_row s st e l o r 1 h))
+  lists_same = rw rows_are (lists_are s st different o (view_at s st).row (λ r h. look_row s st e l o r false h) (λ r h. look_row s st e l o r true h))
 
   -- ---- its pieces
   tones_span : Spans s 9 (9 + 15 * length st.tones) (gather (tone_piece (view_at s st)) 0 (length (tones_of s st)))
@@ -87,9 +87,9 @@ module _ (s : List ℕ) (b : Bytes s) (st : Sst) (e : ℕ) (l : Loads s st e) (o
   row_span : (r : ℕ) → r < st.rows → Spans s (row_at st r) (row_at st (r + 1)) (row_piece (view_at s st) (contents s st (length st.lists)) r)
   row_span r h =
       let q = o.rows r h in
-      let n : number_in (contents s st (length st.lists)) ((view_at s st).row r 0) ≡ first_list s st r = rw (look_row s st e l o r 0 h) (number_is s st different (first_list s st r) q.first_held) in
-      let m : number_in (contents s st (length st.lists)) ((view_at s st).row r 1) ≡ final_list s st r = rw (look_row s st e l o r 1 h) (number_is s st different (final_list s st r) q.final_held) in
-      rw (n, m, row_context_lem s st e l o r 0 h) (row_spans s b (row_at st r) (row_at st (r + 1)) (context_at s st r 0) (omega arith) (l.rows r h) q.accent q.tone q.prev)
+      let n : number_in (contents s st (length st.lists)) ((view_at s st).row r false) ≡ first_list s st r = rw (look_row s st e l o r false h) (number_is s st different (first_list s st r) q.first_held) in
+      let m : number_in (contents s st (length st.lists)) ((view_at s st).row r true) ≡ final_list s st r = rw (look_row s st e l o r true h) (number_is s st different (final_list s st r) q.final_held) in
+      rw (n, m, row_context_lem s st e l o r false h) (row_spans s b (row_at st r) (row_at st (r + 1)) (context_at s st r false) (omega arith) (l.rows r h) q.accent q.tone q.prev)
 
   rows_span : Spans s (rows_from st) (lists_from st) (gather (row_piece (view_at s st) (contents s st (length st.lists))) 0 (rows_of (view_at s st)))
   rows_span = rw rows_are (gather_spans s (row_piece (view_at s st) (contents s st (length st.lists))) (row_at st) st.rows row_span (rows_from st) (lists_from st) (omega arith) refl)

@@ -1,7 +1,8 @@
 -- What the sheet reader keeps at every turn: where each record stands, and its kind. Assumes nothing.
 use Rattle.std.proofs.Common.{ℕ, suc, ◌+◌, ◌*◌, ◌≤◌, ◌<◌, ◌≡◌, refl, ap, ◌∙◌, false, List, [], ◌∷◌, ◌++◌, arith, length, length-append, leb, ltb, leb-true, leb-false, ltb-true, ltb-false, Ok}
 use Rattle.tonekit_bytes.specs.Fields.{byte_at}
-use Rattle.tonekit_pack.specs.Pack.{number_at, holds}
+use Rattle.tonekit_bytes.specs.Places.{number_at}
+use Rattle.tonekit_pack.specs.Pack.{holds}
 use Rattle.tonekit_core.proofs.Split.{split}
 use Rattle.tonekit_pack.proofs.Each.{Each, each_snoc}
 use Rattle.tonekit_sheet.specs.Reader.{Sst, rows_due, size_of, body_verdict, added, rows_from, row_at}

@@ -3,7 +3,7 @@ use Rattle.std.proofs.Common.{ℕ, zero, suc, ◌+◌, ◌≤◌, ◌<◌, ◌�
 use borrow.Author.Tests.{eqb-false}
 use Rattle.tonekit_core.specs.declared.Refusal.TheVariants.{CutShort}
 use Rattle.tonekit_bytes.specs.Fields.{byte_at}
-use Rattle.tonekit_pack.specs.Pack.{number_at}
+use Rattle.tonekit_bytes.specs.Places.{number_at}
 use Rattle.tonekit_core.proofs.Split.{split}
 use Rattle.tonekit_pack.proofs.Numbers.{none_before}
 use Rattle.tonekit_sheet.specs.Reader.{Sst, loaded, refused, rows_due, size_of, added, row_at, start, read_sheet, load_sheet}

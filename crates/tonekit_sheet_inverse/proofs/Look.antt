@@ -1,11 +1,10 @@
 -- A lookup by row: in the source that a sheet holds, a row's context gives the lists that the row names. Assumes nothing.
 use Rattle.std.proofs.lemmas.List.{get_or-map}
-use Rattle.std.proofs.Common.{ℕ, zero, suc, ◌+◌, ◌≤◌, ◌<◌, ◌≡◌, refl, sym, ap, ◌∙◌, cond, List, map, arith, add-one, eqb, length, get_or, eq-eqb, ne_eqb, Some, None}
+use Rattle.std.proofs.Common.{ℕ, zero, suc, ◌+◌, ◌≤◌, ◌<◌, ◌≡◌, refl, sym, ap, ◌∙◌, cond, Bool, List, map, arith, add-one, length, get_or, eq-eqb, ne_eqb, Some, None}
 use lib.ListN.{length-map}
 use Rattle.tonekit_core.specs.Loop.{range_to, to_again, to_stop}
 use Rattle.tonekit_bytes.specs.Fields.{byte_at}
-use Rattle.tonekit_pack.specs.Pack.{number_at}
-use Rattle.tonekit_expect.specs.Lookup.{index_turn, index_of}
+use Rattle.tonekit_bytes.specs.Places.{number_at, index_turn, index_of}
 use Rattle.tonekit_expect.specs.Source.{Tone}
 use Rattle.tonekit_expect.specs.declared.Context.{Context}
 use Rattle.tonekit_sheet.specs.Sheet.{no_tone, no_accent, accent_place, tone_place, prev_place, prev_number, row_context}
@@ -31,7 +30,7 @@ module _ (s os : List ℕ) (n i : ℕ) (b : i < length os) (e : number_at s (get
   index_at = searched i 0 (omega arith)
 
 -- the context of row r, by the records that are due there
-abbrev pub context_at : List ℕ → Sst → ℕ → ℕ → Context
+abbrev pub context_at : List ℕ → Sst → ℕ → Bool → Context
 context_at s st r last = record {
   accent = accent_number_of s st (accent_place (length st.tones) r);
   tone = number_at s (get_or st.tones (tone_place (length st.tones) r) 0);
@@ -62,18 +61,18 @@ module _ (s : List ℕ) (st : Sst) (e : ℕ) (l : Loads s st e) (o : Ordered s s
       let h : r < rows_due st = omega (arith, l.all_rows) in
       row_places (length st.accents) (length st.tones) r (some_tone (length st.accents) (length st.tones) r h) h
 
-  pub row_context_lem : (r last : ℕ) → r < st.rows → row_context (map (tone_at s) st.tones) (map (accent_at s) st.accents) r last ≡ context_at s st r last
+  pub row_context_lem : (r : ℕ) (last : Bool) → r < st.rows → row_context (map (tone_at s) st.tones) (map (accent_at s) st.accents) r last ≡ context_at s st r last
   unfolding row_context
   row_context_lem r last b =
       let p = places r b in
       rw (length-map st.tones (tone_at s), get_or-map (accent_at s) st.accents (accent_place (length st.tones) r) 0 no_accent p.accent, get_or-map (tone_at s) st.tones (tone_place (length st.tones) r) 0 no_tone p.tone, prev_number_lem (prev_place (length st.tones) r) p.prev)
 
-  look_placed_lem : (r last : ℕ) → r < st.rows → look_sheet s st (context_at s st r last) ≡ list_numbered s st (byte_at s (row_at st r + cond (eqb last 0) 4 5))
+  look_placed_lem : (r : ℕ) (last : Bool) → r < st.rows → look_sheet s st (context_at s st r last) ≡ list_numbered s st (byte_at s (row_at st r + cond last 5 4))
   unfolding look_sheet
   look_placed_lem r last b =
       let p = places r b in
       rw (accent_at_lem (accent_place (length st.tones) r) p.accent, tone_at_lem (tone_place (length st.tones) r) p.tone, prev_at (prev_place (length st.tones) r) p.prev, row_back (length st.tones) r)
 
-  pub look_row : (r last : ℕ) → r < st.rows
-      → look_sheet s st (row_context (map (tone_at s) st.tones) (map (accent_at s) st.accents) r last) ≡ list_numbered s st (byte_at s (row_at st r + cond (eqb last 0) 4 5))
+  pub look_row : (r : ℕ) (last : Bool) → r < st.rows
+      → look_sheet s st (row_context (map (tone_at s) st.tones) (map (accent_at s) st.accents) r last) ≡ list_numbered s st (byte_at s (row_at st r + cond last 5 4))
   look_row r last b = ap (look_sheet s st) (row_context_lem r last b) ∙ look_placed_lem r last b

@@ -3,7 +3,8 @@ use Rattle.std.proofs.Common.{ℕ, zero, suc, ◌+◌, ◌-◌, ◌≤◌, ◌<�
 use borrow.Author.Tests.{not-true}
 use Rattle.tonekit_core.specs.Loop.{range}
 use Rattle.tonekit_bytes.specs.Fields.{byte_at}
-use Rattle.tonekit_pack.specs.Pack.{number_at, zero_or_held}
+use Rattle.tonekit_bytes.specs.Places.{number_at}
+use Rattle.tonekit_pack.specs.Pack.{zero_or_held}
 use Rattle.tonekit_core.proofs.Split.{either, both}
 use Rattle.tonekit_pack.proofs.Numbers.{zero_or_at}
 use Rattle.tonekit_sheet.specs.Sheet.{accent_place, tone_place, prev_place}

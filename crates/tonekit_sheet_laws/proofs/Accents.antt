@@ -2,7 +2,8 @@
 use Rattle.std.proofs.Common.{ℕ, zero, suc, ◌+◌, ◌≤◌, ◌<◌, ◌≡◌, refl, sym, ◌∙◌, true, not, List, arith, leb, length, get_or, ne_eqb}
 use borrow.Author.Tests.{lt-leb}
 use Rattle.tonekit_pack.specs.Ranges.{tolerances_fine}
-use Rattle.tonekit_pack.specs.Pack.{number_at, holds}
+use Rattle.tonekit_bytes.specs.Places.{number_at}
+use Rattle.tonekit_pack.specs.Pack.{holds}
 use Rattle.tonekit_expect.specs.Source.{Accent, Source}
 use Rattle.tonekit_sheet.specs.Sheet.{View, no_accent, lists_of}
 use Rattle.tonekit_sheet.specs.Reader.{Sst, Out, size_of, due_next, accent_fine, accent_verdict, body_verdict, added}

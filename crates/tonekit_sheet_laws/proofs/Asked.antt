@@ -1,5 +1,5 @@
 -- The rows of a sheet ask only contexts that are held: held accent, held tone, prev a held tone or 0. Assumes nothing.
-use Rattle.std.proofs.Common.{ℕ, zero, suc, ◌≤◌, ◌<◌, ◌≡◌, refl, ◌⊎◌, inl, inr, true, List, [], ◌∷◌, arith, eqb, length, get_or, eq-eqb, eqb-true}
+use Rattle.std.proofs.Common.{ℕ, zero, suc, ◌≤◌, ◌<◌, ◌≡◌, refl, ◌⊎◌, inl, inr, Bool, true, List, [], ◌∷◌, arith, eqb, length, get_or, eq-eqb, eqb-true}
 use Rattle.tonekit_core.proofs.Split.{split, absurd_bool}
 use Rattle.tonekit_expect.specs.Source.{Tone, Source, tone_in}
 use Rattle.tonekit_sheet.specs.Sheet.{no_tone, no_accent, row_count, accent_place, tone_place, prev_place, prev_number, row_context, ascending, view_of, rows_of}
@@ -27,24 +27,23 @@ prev_held tones zero h = inl refl
 prev_held tones (suc p) h = inr (tone_found tones p h)
 
 -- what a row of a source's view asks
-pub row_asks : (src : Source) (r last : ℕ) → (view_of src).row r last ≡ src.look (row_context src.tones (ascending src.accents) r last)
+pub row_asks : (src : Source) (r : ℕ) (last : Bool) → (view_of src).row r last ≡ src.look (row_context src.tones (ascending src.accents) r last)
 unfolding view_of
 row_asks src r last = refl
 
 module _ (src : Source) (some_tones : 1 ≤ length src.tones) where
-  asked : (r last : ℕ) → r < row_count (length (ascending src.accents)) (length src.tones) → last ≤ 1
+  asked : (r : ℕ) (last : Bool) → r < row_count (length (ascending src.accents)) (length src.tones)
       → Held src (row_context src.tones (ascending src.accents) r last)
   unfolding row_context
-  asked r last h f =
+  asked r last h =
       let t = length src.tones in
       let p = row_places (length (ascending src.accents)) t r some_tones h in
       record {
         accent = (get_or (ascending src.accents) (accent_place t r) no_accent, ascending_held src.accents (accent_place t r) p.accent);
         tone = tone_found src.tones (tone_place t r) p.tone;
         prev = prev_held src.tones (prev_place t r) p.prev;
-        final = f;
       }
 
-  pub row_held_lem : (r last : ℕ) → r < rows_of (view_of src) → last ≤ 1 → Held src (row_context src.tones (ascending src.accents) r last)
+  pub row_held_lem : (r : ℕ) (last : Bool) → r < rows_of (view_of src) → Held src (row_context src.tones (ascending src.accents) r last)
   unfolding view_of
-  row_held_lem r last h f = asked r last h f
+  row_held_lem r last h = asked r last h

@@ -1,10 +1,10 @@
 -- A station that was read from the sheet of a source holds what the source holds: settings, tones, accents, and every lookup of a held context. Assumes nothing.
 use Rattle.std.proofs.lemmas.List.{get_or-map}
-use Rattle.std.proofs.Common.{ℕ, suc, ◌≤◌, ◌<◌, ◌≡◌, ap, ◌∙◌, ⊎_elim, List, map, true, arith, length, get_or, ext_get_or}
+use Rattle.std.proofs.Common.{ℕ, suc, ◌≤◌, ◌<◌, ◌≡◌, ap, ◌∙◌, ⊎_elim, List, map, Bool, true, arith, length, get_or, ext_get_or}
 use mathlib.Core.Option.{some}
 use lib.ListN.{length-map}
 use Rattle.tonekit_expect.specs.Source.{Accent, Source, settings_at, accent_in, tone_in}
-use Rattle.tonekit_expect.specs.Lookup.{index_of}
+use Rattle.tonekit_bytes.specs.Places.{index_of}
 use Rattle.tonekit_expect.specs.declared.Context.{Context}
 use Rattle.tonekit_sheet.specs.Sheet.{View, no_tone, no_accent, prev_number, row_context, ascending, view_of, rows_of, lists_of, sheet}
 use Rattle.tonekit_sheet.specs.Reader.{Sst, Out, refused}
@@ -60,15 +60,15 @@ module _ (s : List ℕ) (d : Out) (src : Source) (v : View) (fit : ViewFit src v
       → FoundAt (index_of s (up_to (accent_at v) (length v.accents)) c.accent) (length v.accents) (λ i. (get_or v.accents i no_accent).number) c.accent
       → FoundAt (index_of s (up_to tone_at (length v.tones)) c.tone) (length v.tones) (λ i. (get_or v.tones i no_tone).number) c.tone
       → FoundAt (prev_found s (read_to v (lists_of v) last (length v.tones) (length v.accents) (rows_of v) (length (lists_of v)) 0 total) c.prev) (suc (length v.tones)) (prev_number v.tones) c.prev
-      → c.last ≤ 1 → Looked (read_to v (lists_of v) last (length v.tones) (length v.accents) (rows_of v) (length (lists_of v)) 0 total) c
+      → Looked (read_to v (lists_of v) last (length v.tones) (length v.accents) (rows_of v) (length (lists_of v)) 0 total) c
   unfolding look_sheet row_context
-  looked last total c a t p f =
+  looked last total c a t p =
       let m = length v.accents in
       let n = length v.tones in
       let lp : p.at ≤ n = omega (arith, p.there) in
       record {
         row = place m n a.at t.at p.at a.there t.there lp;
-        look = rw (a.is, t.is, p.is) (look_back s d src v fit laid last total c a.at t.at p.at a.there t.there lp f);
+        look = rw (a.is, t.is, p.is) (look_back s d src v fit laid last total c a.at t.at p.at a.there t.there lp);
         context = λ i. record {
           accent = (ap (λ (k : ℕ). (get_or v.accents k no_accent).number) (accent_back m n a.at t.at p.at a.there t.there lp) ∙ a.same) i;
           tone = (ap (λ (k : ℕ). (get_or v.tones k no_tone).number) (tone_back m n a.at t.at p.at a.there t.there lp) ∙ t.same) i;
@@ -111,7 +111,7 @@ module _ (src : Source) (fit : Fit src) where
   unfolding view_of
   tone_of n h = tone_at_lem src.tones n h
 
-  row_look : (row last : ℕ) (c : Context) → row_context (view_of src).tones (view_of src).accents row last ≡ c → (view_of src).row row last ≡ src.look c
+  row_look : (row : ℕ) (last : Bool) (c : Context) → row_context (view_of src).tones (view_of src).accents row last ≡ c → (view_of src).row row last ≡ src.look c
   unfolding view_of
   row_look row last c e = ap src.look e
 
@@ -128,5 +128,5 @@ module _ (src : Source) (fit : Fit src) where
       let t = tone_of c.tone h.tone in
       let r =
       looked s d src v f l last total c (accent_place_lem s d src v f l last total c.accent a.0 a.1 a.2) (tone_place_lem s d src v f l last total c.tone t.0 t.1 t.2)
-      (⊎_elim (λ e. prev_none s d src v f l last total c.prev e) (λ e. let p = tone_of c.prev e in prev_tone s d src v f l last total c.prev p.0 p.1 p.2) h.prev) h.final in
+      (⊎_elim (λ e. prev_none s d src v f l last total c.prev e) (λ e. let p = tone_of c.prev e in prev_tone s d src v f l last total c.prev p.0 p.1 p.2) h.prev) in
       r.look ∙ row_look r.row c.last c r.context

@@ -1,5 +1,5 @@
 -- The sheets of two sources that fit are equal in every bit exactly when settings, tones, accents and the lookups of all held contexts agree. Assumes nothing.
-use Rattle.std.proofs.Common.{ℕ, zero, suc, ◌≤◌, ◌<◌, ◌≡◌, refl, sym, ap, ap₂, ◌∙◌, subst, ◌⊎◌, ◌↔◌, true, List, [], arith, length}
+use Rattle.std.proofs.Common.{ℕ, zero, suc, ◌<◌, ◌≡◌, refl, sym, ap, ap₂, ◌∙◌, subst, ◌⊎◌, ◌↔◌, Bool, true, false, List, [], arith, length}
 use mathlib.Core.Option.{Option}
 use Rattle.tonekit_expect.specs.Source.{Tone, Accent, Carried, Source, accent_in, tone_in}
 use Rattle.tonekit_expect.specs.declared.Context.{Context}
@@ -26,7 +26,7 @@ asc_same a b h (suc k) n = ap₂ or_skip (h n) (asc_same a b h k (suc n))
 
 -- views that differ in their rows alone, and those give the same
 module _ (v w : View) (settings : v.settings ≡ w.settings) (tones : v.tones ≡ w.tones) (accents : v.accents ≡ w.accents)
-    (same : (r last : ℕ) → r < rows_of v → last ≤ 1 → v.row r last ≡ w.row r last) where
+    (same : (r : ℕ) (last : Bool) → r < rows_of v → v.row r last ≡ w.row r last) where
   mixed : View
   mixed = record { settings = v.settings; tones = v.tones; accents = v.accents; row = w.row }
 
@@ -38,13 +38,13 @@ module _ (v w : View) (settings : v.settings ≡ w.settings) (tones : v.tones �
   unfolding mixed lists_of
   lists_same =
       range_same (note_turn v) (note_turn mixed) 0 (rows_of v) [] (omega arith)
-      (λ r l h. ap₂ (λ (x y : Option (List Carried)). noted (noted l x) y) (same r 0 h (omega arith)) (same r 1 h (omega arith)))
+      (λ r l h. ap₂ (λ (x y : Option (List Carried)). noted (noted l x) y) (same r false h) (same r true h))
 
   rows_same : (lists : List (List Carried)) → gather (row_piece v lists) 0 (rows_of v) ≡ gather (row_piece mixed lists) 0 (rows_of v)
   unfolding mixed
   rows_same lists =
       gather_same (row_piece v lists) (row_piece mixed lists) (rows_of v)
-      (λ r h. ap₂ (λ (x y : Option (List Carried)). row_bytes (row_context v.tones v.accents r 0) (number_in lists x) (number_in lists y)) (same r 0 h (omega arith)) (same r 1 h (omega arith)))
+      (λ r h. ap₂ (λ (x y : Option (List Carried)). row_bytes (row_context v.tones v.accents r false) (number_in lists x) (number_in lists y)) (same r false h) (same r true h))
 
   pub views_same : bytes_of v ≡ bytes_of w
   unfolding mixed bytes_of bytes_with
@@ -56,10 +56,10 @@ module _ (a b : Source) (agree : Agree a b) where
   unfolding ascending
   accents_same = asc_same a.accents b.accents agree.accents 255 1
 
-  row_same : (r last : ℕ) → r < rows_of (view_of a) → last ≤ 1 → (view_of a).row r last ≡ (view_of b).row r last
+  row_same : (r : ℕ) (last : Bool) → r < rows_of (view_of a) → (view_of a).row r last ≡ (view_of b).row r last
   unfolding view_of
-  row_same r last h f =
-      agree.lookups (row_context a.tones (ascending a.accents) r last) (row_held_lem a (some_tone (length (ascending a.accents)) (length a.tones) r h) r last h f)
+  row_same r last h =
+      agree.lookups (row_context a.tones (ascending a.accents) r last) (row_held_lem a (some_tone (length (ascending a.accents)) (length a.tones) r h) r last h)
       ∙ ap₂ (λ (x : List Tone) (y : List Accent). b.look (row_context x y r last)) agree.tones accents_same
 
   pub agree_same : sheet a ≡ sheet b
@@ -85,7 +85,6 @@ module _ (a b : Source) (fa : Fit a) (fb : Fit b) (e : sheet a ≡ sheet b) wher
     accent = (h.accent.0, sym (numbers_agree c.accent) ∙ h.accent.1);
     tone = subst (λ (l : List Tone). tone_in l c.tone ≡ true) tones_agree h.tone;
     prev = subst (λ (l : List Tone). (c.prev ≡ 0) ⊎ (tone_in l c.prev ≡ true)) tones_agree h.prev;
-    final = h.final;
   }
 
   agrees : Agree a b

@@ -2,7 +2,8 @@
 use Rattle.std.proofs.Common.{ℕ, zero, suc, ◌+◌, ◌*◌, ◌≤◌, ◌<◌, ◌≡◌, refl, sym, ap, ◌∙◌, Bool, true, false, ◌||◌, List, arith, add-one, eqb, length, get_or, eq-eqb, eqb-true, le-leb, lt-ltb, None}
 use Rattle.tonekit_core.specs.Loop.{next}
 use Rattle.tonekit_bytes.specs.Fields.{byte_at}
-use Rattle.tonekit_pack.specs.Pack.{number_at, zero_or_held}
+use Rattle.tonekit_bytes.specs.Places.{number_at}
+use Rattle.tonekit_pack.specs.Pack.{zero_or_held}
 use Rattle.tonekit_core.proofs.Split.{split}
 use Rattle.tonekit_expect.specs.Source.{Carried, Source}
 use Rattle.tonekit_sheet.specs.Number.{number_in}
@@ -41,10 +42,10 @@ module _ (s : List ℕ) (d : Out) (src : Source) (v : View) (fit : ViewFit src v
   row_in_lem r = rw (up_to_length tone_at (length v.tones), up_to_length (accent_at v) (length v.accents))
 
   -- its two list numbers
-  pub first_number : (r : ℕ) → r < rows_of v → byte_at s (row_in st r + 4) ≡ number_in lists (v.row r 0)
+  pub first_number : (r : ℕ) → r < rows_of v → byte_at s (row_in st r + 4) ≡ number_in lists (v.row r false)
   first_number r h = ap (λ (o : ℕ). byte_at s (o + 4)) (row_in_lem r) ∙ (row_read s d src v fit laid r h).first
 
-  pub final_number : (r : ℕ) → r < rows_of v → byte_at s (row_in st r + 5) ≡ number_in lists (v.row r 1)
+  pub final_number : (r : ℕ) → r < rows_of v → byte_at s (row_in st r + 5) ≡ number_in lists (v.row r true)
   final_number r h = ap (λ (o : ℕ). byte_at s (o + 5)) (row_in_lem r) ∙ (row_read s d src v fit laid r h).final
 
   -- ---- no row is loose
@@ -57,8 +58,8 @@ module _ (s : List ℕ) (d : Out) (src : Source) (v : View) (fit : ViewFit src v
   none_loose =
       to_through (loose_turn s st) (λ u. None) (λ r. 0) (rows_of v)
       (λ r h. rw (
-        number_there (byte_at s (row_in st r + 4)) (number_in lists (v.row r 0)) (first_number r h) (listed_first v r h).below,
-        number_there (byte_at s (row_in st r + 5)) (number_in lists (v.row r 1)) (final_number r h) (listed_final v r h).below,
+        number_there (byte_at s (row_in st r + 4)) (number_in lists (v.row r false)) (first_number r h) (listed_first v r h).below,
+        number_there (byte_at s (row_in st r + 5)) (number_in lists (v.row r true)) (final_number r h) (listed_final v r h).below,
       ))
 
   -- ---- accents ascend
@@ -110,8 +111,8 @@ module _ (s : List ℕ) (d : Out) (src : Source) (v : View) (fit : ViewFit src v
   unfolding row_names
   row_names_lem r h =
       let n = row_numbers v r h in
-      rw (first_number r h, final_number r h, n.first_most, le-leb (number_in lists (v.row r 0)) (length (so_far v r) + 1) n.first)
-      (le-leb (number_in lists (v.row r 1)) (length (half v r) + 1) n.final)
+      rw (first_number r h, final_number r h, n.first_most, le-leb (number_in lists (v.row r false)) (length (so_far v r) + 1) n.first)
+      (le-leb (number_in lists (v.row r true)) (length (half v r) + 1) n.final)
 
   row_turn_lem : (r : ℕ) → r < rows_of v → row_turn s st r (length (so_far v r)) ≡ next (length (so_far v (r + 1)))
   row_turn_lem r h =
@@ -124,16 +125,15 @@ module _ (s : List ℕ) (d : Out) (src : Source) (v : View) (fit : ViewFit src v
       rw (ap length (so_none v)) at (to_through (row_turn s st) (λ m. None) (λ r. length (so_far v r)) (rows_of v) row_turn_lem)
 
   -- ---- every list has its place as its number, is named, and is equal to none before it
-  last_number : (r last n : ℕ) → r < rows_of v → last ≤ 1 → number_in lists (v.row r last) ≡ n → (eqb (byte_at s (row_in st r + 4)) n || eqb (byte_at s (row_in st r + 5)) n) ≡ true
-  last_number r zero n h f e = or_left (eqb (byte_at s (row_in st r + 4)) n) (eqb (byte_at s (row_in st r + 5)) n) (eq-eqb (byte_at s (row_in st r + 4)) n (first_number r h ∙ e))
-  last_number r (suc zero) n h f e = or_right (eqb (byte_at s (row_in st r + 4)) n) (eqb (byte_at s (row_in st r + 5)) n) (eq-eqb (byte_at s (row_in st r + 5)) n (final_number r h ∙ e))
-  last_number r (suc (suc k)) n h f e = absurd (omega arith)
+  last_number : (r : ℕ) (last : Bool) (n : ℕ) → r < rows_of v → number_in lists (v.row r last) ≡ n → (eqb (byte_at s (row_in st r + 4)) n || eqb (byte_at s (row_in st r + 5)) n) ≡ true
+  last_number r false n h e = or_left (eqb (byte_at s (row_in st r + 4)) n) (eqb (byte_at s (row_in st r + 5)) n) (eq-eqb (byte_at s (row_in st r + 4)) n (first_number r h ∙ e))
+  last_number r true n h e = or_right (eqb (byte_at s (row_in st r + 4)) n) (eqb (byte_at s (row_in st r + 5)) n) (eq-eqb (byte_at s (row_in st r + 5)) n (final_number r h ∙ e))
 
   list_named : (i : ℕ) → i < length lists → named s st (i + 1) ≡ true
   unfolding named
   list_named i h =
       let u = list_used v i h in
-      range_any (λ r. eqb (byte_at s (row_in st r + 4)) (i + 1) || eqb (byte_at s (row_in st r + 5)) (i + 1)) (rows_of v) u.row u.there (last_number u.row u.last (i + 1) u.there u.final (used_number v i h))
+      range_any (λ r. eqb (byte_at s (row_in st r + 4)) (i + 1) || eqb (byte_at s (row_in st r + 5)) (i + 1)) (rows_of v) u.row u.there (last_number u.row u.last (i + 1) u.there (used_number v i h))
 
   equal_bytes : (a b : ℕ) → same_lists s a b ≡ true → (k : ℕ) → 2 ≤ k → k < 7 + 45 * byte_at s (a + 6) → byte_at s (a + k) ≡ byte_at s (b + k)
   unfolding same_lists

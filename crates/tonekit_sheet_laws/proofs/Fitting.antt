@@ -52,7 +52,7 @@ module _ (src : Source) (fit : Fit src) where
   list_fit i h =
       let u = list_used (view_of src) i h in
       fit.lists (row_context src.tones (ascending src.accents) u.row u.last) (get_or (lists_of (view_of src)) i [])
-      (row_held_lem src fit.some_tones u.row u.last u.there u.final) (sym (row_asks src u.row u.last) ∙ u.gives)
+      (row_held_lem src fit.some_tones u.row u.last u.there) (sym (row_asks src u.row u.last) ∙ u.gives)
 
   pub view_fit : ViewFit src (view_of src)
   unfolding view_of

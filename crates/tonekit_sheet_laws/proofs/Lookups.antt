@@ -1,13 +1,12 @@
 -- A lookup by position in a sheet gives what the row's own lookup gave. Assumes nothing.
-use Rattle.std.proofs.Common.{ℕ, zero, suc, ◌+◌, ◌*◌, ◌≤◌, ◌<◌, ◌≡◌, refl, sym, ap, ◌∙◌, List, arith, add-one, eqb, length, get_or, eq-eqb, ne_eqb, eqb-true, Some, None}
+use Rattle.std.proofs.Common.{ℕ, zero, suc, ◌+◌, ◌*◌, ◌≤◌, ◌<◌, ◌≡◌, refl, sym, ap, ◌∙◌, Bool, true, false, List, arith, add-one, eqb, length, get_or, eq-eqb, ne_eqb, eqb-true, Option as Found, Some, None}
 use mathlib.Core.Option.{Option, none, some}
 use borrow.Author.Tests.{eqb-false}
 use Rattle.tonekit_core.specs.Loop.{range_to, to_again, to_stop}
 use Rattle.tonekit_bytes.specs.Fields.{byte_at}
-use Rattle.tonekit_pack.specs.Pack.{number_at}
 use Rattle.tonekit_core.proofs.Split.{split}
 use Rattle.tonekit_expect.specs.Source.{Carried, Source}
-use Rattle.tonekit_expect.specs.Lookup.{Found, index_turn, index_of}
+use Rattle.tonekit_bytes.specs.Places.{number_at, index_turn, index_of}
 use Rattle.tonekit_expect.proofs.Walk.{index_found}
 use Rattle.tonekit_expect.specs.declared.Context.{Context}
 use Rattle.tonekit_sheet.specs.Number.{place_in, number_in}
@@ -46,7 +45,7 @@ module _ (s os : List ℕ) (n : ℕ) where
   index_is m h q = index_from (length os) 0 m (omega arith) (omega arith) h q
 
 -- found at a place, below a count, that has the number
-pub record FoundAt (f : Found) (count : ℕ) (number : ℕ → ℕ) (n : ℕ) : Type 0 where
+pub record FoundAt (f : Found ℕ) (count : ℕ) (number : ℕ → ℕ) (n : ℕ) : Type 0 where
   pub at : ℕ
   pub is : f ≡ Some at
   pub there : at < count
@@ -98,17 +97,16 @@ module _ (s : List ℕ) (d : Out) (src : Source) (v : View) (fit : ViewFit src v
       let i = place_in w lists in
       rw (up_to_get (list_at v lists) (length lists) i l.below) (ap some (list_back s d src v fit laid i l.below ∙ l.gives w refl))
 
-  row_back : (r final : ℕ) → r < rows_of v → (c : Context) → c.last ≡ final → final ≤ 1 → list_numbered s st (byte_at s (row_in st r + final_place c)) ≡ v.row r final
-  row_back r zero h c e f = rw (eq-eqb c.last 0 e, first_number s d src v fit laid last total r h) (numbered_back (v.row r 0) (listed_first v r h))
-  row_back r (suc zero) h c e f = rw (ne_eqb c.last 0 (λ z. omega arith), final_number s d src v fit laid last total r h) (numbered_back (v.row r 1) (listed_final v r h))
-  row_back r (suc (suc k)) h c e f = absurd (omega arith)
+  row_back : (r : ℕ) (final : Bool) → r < rows_of v → (c : Context) → c.last ≡ final → list_numbered s st (byte_at s (row_in st r + final_place c)) ≡ v.row r final
+  row_back r false h c e = rw (e, first_number s d src v fit laid last total r h) (numbered_back (v.row r false) (listed_first v r h))
+  row_back r true h c e = rw (e, final_number s d src v fit laid last total r h) (numbered_back (v.row r true) (listed_final v r h))
 
   -- the row of a context's places
-  pub look_back : (c : Context) (a t p : ℕ) → a < length v.accents → t < length v.tones → p ≤ length v.tones → c.last ≤ 1
+  pub look_back : (c : Context) (a t p : ℕ) → a < length v.accents → t < length v.tones → p ≤ length v.tones
       → look_placed s st c (Some a) (Some t) (Some p) ≡ v.row ((a * length v.tones + t) * (length v.tones + 1) + p) c.last
-  look_back c a t p la lt lp lc =
+  look_back c a t p la lt lp =
       let e = up_to_length tone_at (length v.tones) in
       let r = (a * length v.tones + t) * (length v.tones + 1) + p in
       let q : row_place st a t p ≡ r = rw e in
       ap (λ (x : ℕ). list_numbered s st (byte_at s (row_in st x + final_place c))) q
-      ∙ row_back r c.last (place_below (length v.accents) (length v.tones) a t p la lt lp) c refl lc
+      ∙ row_back r c.last (place_below (length v.accents) (length v.tones) a t p la lt lp) c refl

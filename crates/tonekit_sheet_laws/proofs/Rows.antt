@@ -20,10 +20,10 @@ use Rattle.tonekit_sheet_laws.proofs.Accents.{accent_read}
 module _ (s : List ℕ) (d : Out) (src : Source) (v : View) (fit : ViewFit src v) (laid : Laid s v (lists_of v)) where
   -- the context of row r
   abbrev pub asks : ℕ → Context
-  asks r = row_context v.tones v.accents r 0
+  asks r = row_context v.tones v.accents r false
 
-  pub row_read : (r : ℕ) → r < rows_of v → RowThere s (row_at v r) (asks r) (number_in (lists_of v) (v.row r 0)) (number_in (lists_of v) (v.row r 1))
-  row_read r h = row_there s (row_at v r) (asks r) (number_in (lists_of v) (v.row r 0)) (number_in (lists_of v) (v.row r 1)) (laid.row r h)
+  pub row_read : (r : ℕ) → r < rows_of v → RowThere s (row_at v r) (asks r) (number_in (lists_of v) (v.row r false)) (number_in (lists_of v) (v.row r true))
+  row_read r h = row_there s (row_at v r) (asks r) (number_in (lists_of v) (v.row r false)) (number_in (lists_of v) (v.row r true)) (laid.row r h)
 
   pub places : (r : ℕ) → r < rows_of v → Places (length v.accents) (length v.tones) r
   places r h = row_places (length v.accents) (length v.tones) r fit.some_tones h

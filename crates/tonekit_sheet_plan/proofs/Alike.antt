@@ -1,5 +1,5 @@
 -- Lists of curves that are the same in every bit, compared step by step. Assumes nothing.
-use Rattle.std.proofs.Common.{ℕ, zero, suc, ◌+◌, ◌-◌, ◌<◌, ◌≡◌, refl, sym, ◌∙◌, ap, Bool, true, false, cond, ◌&&◌, List, [], ◌∷◌, ◌++◌, map, arith, add-one, eqb, length, length-append, Float, to_bits, eq-eqb, ne_eqb, eqb-true}
+use Rattle.std.proofs.Common.{ℕ, zero, suc, ◌+◌, ◌-◌, ◌<◌, ◌≡◌, refl, sym, ◌∙◌, ap, Bool, true, false, not, cond, ◌&&◌, List, [], ◌∷◌, ◌++◌, map, arith, add-one, eqb, length, length-append, Float, to_bits, eq-eqb, ne_eqb, eqb-true}
 use lib.Ieee.{binary32}
 use Rattle.tonekit_core.proofs.Split.{split, both}
 use Rattle.tonekit_expect.specs.declared.Component.{Component}
@@ -36,39 +36,44 @@ and_false : (b : Bool) → (b && false) ≡ false
 and_false true = refl
 and_false false = refl
 
-module _ (s : List ℕ) (a b : Listing) (j : ℕ) where
+module _ (s : List ℕ) (a : Listing) (r : List ℕ) (b : Listing) (j : ℕ) where
   abbrev pub same_name : Bool
-  same_name = eqb a.owner b.owner && (eqb a.form b.form && eqb a.label b.label)
+  same_name = eqb a.name.owner b.name.owner && (eqb a.name.form b.name.form && eqb a.name.label b.name.label)
 
   abbrev one : Carried
   one = carried (component_of s a j)
 
   abbrev two : Carried
-  two = carried (component_of s b j)
+  two = carried (component_of r b j)
 
   abbrev rest : Bool
   rest = eqb one.weight two.weight && same_numbers one.points two.points
 
-  behind_names : same_carried one two ≡ (eqb a.owner b.owner && (eqb a.form b.form && (eqb a.label b.label && (eqb one.part two.part && rest))))
+  behind_names : same_carried one two ≡ (eqb a.name.owner b.name.owner && (eqb a.name.form b.name.form && (eqb a.name.label b.name.label && (eqb one.part two.part && rest))))
   unfolding same_carried
   behind_names =
-      rw ((named s a j).owner, (named s b j).owner, (named s a j).form, (named s b j).form, (named s a j).label, (named s b j).label)
+      rw ((named s a j).owner, (named r b j).owner, (named s a j).form, (named r b j).form, (named s a j).label, (named r b j).label)
 
-  pub names_differ : same_name ≡ false → false ≡ same_carried one two
-  names_differ e = sym (behind_names ∙ off (eqb a.owner b.owner) (eqb a.form b.form) (eqb a.label b.label) (eqb one.part two.part && rest) e)
+  pub names_differ : true ≡ not same_name → false ≡ same_carried one two
+  names_differ e = sym (behind_names ∙ off (eqb a.name.owner b.name.owner) (eqb a.name.form b.name.form) (eqb a.name.label b.name.label) (eqb one.part two.part && rest) e)
     where
-      off : (x y z w : Bool) → (x && (y && z)) ≡ false → (x && (y && (z && w))) ≡ false
-      off true true z w e = rw e
+      off : (x y z w : Bool) → true ≡ not (x && (y && z)) → (x && (y && (z && w))) ≡ false
+      off true true true w e = absurd (cc)
+      off true true false w e = refl
       off true false z w e = refl
       off false y z w e = refl
 
-  pub names_agree : same_name ≡ true → same_carried one two ≡ rest
+  pub names_agree : false ≡ not same_name → same_carried one two ≡ rest
   names_agree e =
-      let p = both (eqb a.owner b.owner) (eqb a.form b.form && eqb a.label b.label) e in
-      let q = both (eqb a.form b.form) (eqb a.label b.label) p.1 in
-      let f : a.form ≡ b.form = eqb-true a.form b.form q.0 in
-      let n : one.part ≡ two.part = part_number s a j ∙ ap (λ (x : ℕ). cond (eqb x 3) j 0) f ∙ sym (part_number s b j) in
+      let p = both (eqb a.name.owner b.name.owner) (eqb a.name.form b.name.form && eqb a.name.label b.name.label) (on same_name e) in
+      let q = both (eqb a.name.form b.name.form) (eqb a.name.label b.name.label) p.1 in
+      let f : a.name.form ≡ b.name.form = eqb-true a.name.form b.name.form q.0 in
+      let n : one.part ≡ two.part = part_number s a j ∙ ap (λ (x : ℕ). cond (eqb x 3) j 0) f ∙ sym (part_number r b j) in
       behind_names ∙ rw (p.0, q.0, q.1, eq-eqb one.part two.part n)
+    where
+      on : (b : Bool) → false ≡ not b → b ≡ true
+      on true e = refl
+      on false e = absurd (cc)
 
 -- ---- lists
 same_snoc : (xs ys : List Carried) (x y : Carried) → length xs ≡ length ys → same (xs ++ (x ∷ [])) (ys ++ (y ∷ [])) ≡ (same xs ys && same_carried x y)
@@ -90,31 +95,31 @@ unequal [] (y ∷ ys) h = refl
 unequal (x ∷ xs) [] h = refl
 unequal (x ∷ xs) (y ∷ ys) h = rw (unequal xs ys (λ e. h (ap suc e))) (and_false (same_carried x y))
 
-module _ (s : List ℕ) (a b : Listing) where
+module _ (s : List ℕ) (a : Listing) (r : List ℕ) (b : Listing) where
   abbrev pub same_first : ℕ → Bool
-  same_first n = same (components s a n) (components s b n)
+  same_first n = same (components s a n) (components r b n)
 
-  first_more : (n : ℕ) → same_first (suc n) ≡ (same_first n && same_carried (carried (component_of s a n)) (carried (component_of s b n)))
+  first_more : (n : ℕ) → same_first (suc n) ≡ (same_first n && same_carried (carried (component_of s a n)) (carried (component_of r b n)))
   unfolding components
   first_more n =
-      same_snoc (components s a n) (components s b n) (carried (component_of s a n)) (carried (component_of s b n)) (components_length s a n ∙ sym (components_length s b n))
+      same_snoc (components s a n) (components r b n) (carried (component_of s a n)) (carried (component_of r b n)) (components_length s a n ∙ sym (components_length r b n))
 
-  pub counts_differ : (a.count ≡ b.count → ⊥) → false ≡ same (components s a a.count) (components s b b.count)
+  pub counts_differ : (a.count ≡ b.count → ⊥) → false ≡ same (components s a a.count) (components r b b.count)
   counts_differ h =
-      sym (unequal (components s a a.count) (components s b b.count) (λ e. h (sym (components_length s a a.count) ∙ e ∙ components_length s b b.count)))
+      sym (unequal (components s a a.count) (components r b b.count) (λ e. h (sym (components_length s a a.count) ∙ e ∙ components_length r b b.count)))
 
   pub first_none : same_first 0 ≡ true
   unfolding components same
   first_none = refl
 
-  pub first_on : (n : ℕ) → same_first n ≡ true → same_carried (carried (component_of s a n)) (carried (component_of s b n)) ≡ true → same_first (n + 1) ≡ true
+  pub first_on : (n : ℕ) → same_first n ≡ true → same_carried (carried (component_of s a n)) (carried (component_of r b n)) ≡ true → same_first (n + 1) ≡ true
   first_on n e h = rw (add-one, first_more n, e, h)
 
   still : (d n : ℕ) → same_first n ≡ false → same_first (n + d) ≡ false
   still zero n e = let q : n + zero ≡ n = omega arith in rw q e
   still (suc d) n e = let q : n + suc d ≡ suc (n + d) = omega arith in rw (q, first_more (n + d), still d n e)
 
-  pub first_off : (n m : ℕ) → n < m → same_carried (carried (component_of s a n)) (carried (component_of s b n)) ≡ false → false ≡ same_first m
+  pub first_off : (n m : ℕ) → n < m → same_carried (carried (component_of s a n)) (carried (component_of r b n)) ≡ false → false ≡ same_first m
   first_off n m h e =
       let q : suc n + (m - suc n) ≡ m = omega arith in
       sym (ap same_first (sym q) ∙ still (m - suc n) (suc n) (first_more n ∙ rw e (and_false (same_first n))))
@@ -127,18 +132,18 @@ points_length knots (suc n) = simp (length-append, points_length knots n, add-on
 
 ten_points : (s : List ℕ) (l : Listing) (j : ℕ) → length (component_of s l j).points ≡ 10
 unfolding component_of
-ten_points s l j = split (eqb l.form 1) (λ t. rw t (points_length _ 10)) (λ t. rw t (points_length _ 10))
+ten_points s l j = split (eqb l.name.form 1) (λ t. rw t (points_length _ 10)) (λ t. rw t (points_length _ 10))
 
 -- ---- two components that were read, under one name
-module _ (s : List ℕ) (a b : Listing) (j : ℕ) {x y : Component} (ex : x ≡ component_of s a j) (ey : y ≡ component_of s b j) (n : same_name s a b j ≡ true) where
-  pub weights_differ : (to_bits binary32 x.weight ≡ to_bits binary32 y.weight → ⊥) → false ≡ same_carried (carried (component_of s a j)) (carried (component_of s b j))
+module _ (s : List ℕ) (a : Listing) (r : List ℕ) (b : Listing) (j : ℕ) {x y : Component} (ex : x ≡ component_of s a j) (ey : y ≡ component_of r b j) (n : false ≡ not (same_name s a r b j)) where
+  pub weights_differ : (to_bits binary32 x.weight ≡ to_bits binary32 y.weight → ⊥) → false ≡ same_carried (carried (component_of s a j)) (carried (component_of r b j))
   unfolding carried
-  weights_differ h = sym (names_agree s a b j n ∙ rw (← ex, ← ey, ne_eqb _ _ h))
+  weights_differ h = sym (names_agree s a r b j n ∙ rw (← ex, ← ey, ne_eqb _ _ h))
 
   pub weights_agree : to_bits binary32 x.weight ≡ to_bits binary32 y.weight
-      → same_numbers (bits x.points) (bits y.points) ≡ same_carried (carried (component_of s a j)) (carried (component_of s b j))
+      → same_numbers (bits x.points) (bits y.points) ≡ same_carried (carried (component_of s a j)) (carried (component_of r b j))
   unfolding carried
-  weights_agree h = sym (names_agree s a b j n ∙ rw (← ex, ← ey, eq-eqb _ _ h))
+  weights_agree h = sym (names_agree s a r b j n ∙ rw (← ex, ← ey, eq-eqb _ _ h))
 
 pub points_ten : (s : List ℕ) (a : Listing) (j : ℕ) {x : Component} → x ≡ component_of s a j → length x.points ≡ 10
 points_ten s a j e = ap (λ (c : Component). length c.points) e ∙ ten_points s a j

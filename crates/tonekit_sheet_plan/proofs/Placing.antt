@@ -2,7 +2,7 @@
 use Rattle.std.proofs.Common.{ℕ, zero, suc, ◌+◌, ◌≤◌, ◌<◌, ◌≡◌, refl, sym, ◌∙◌, ap, true, false, List, [], arith, add-zero, zero-add, add-one, length, get_or, drop, drop_of_length-le, drop-cons, lt-ltb, le-ltb}
 use Rattle.tonekit_expect.specs.Source.{Carried}
 use Rattle.tonekit_sheet.specs.Number.{same, seen_in, place_in}
-use Rattle.tonekit_sheet_plan.specs.Plans.{FirstPlace}
+use Rattle.tonekit_sheet_plan.specs.Entries.{FirstPlace}
 
 module _ (v : List Carried) (xs : List (List Carried)) where
   -- what is left has the list where the whole has it
@@ -24,7 +24,7 @@ module _ (v : List Carried) (xs : List (List Carried)) where
     seen = p.seen ∙ rw (drop-cons xs i [] h, e, add-one);
   }
 
-  pub placing_hit : {i : ℕ} → Placing i → i < length xs → same v (get_or xs i []) ≡ true → FirstPlace v xs (length xs) i
+  pub placing_hit : {i : ℕ} → Placing i → i < length xs → same v (get_or xs i []) ≡ true → FirstPlace v xs i
   unfolding place_in seen_in
   placing_hit {i} p h e = record {
     first = sym (p.place ∙ rw (drop-cons xs i [] h, e) (add-zero i));
@@ -32,7 +32,7 @@ module _ (v : List Carried) (xs : List (List Carried)) where
     few = p.few;
   }
 
-  pub placing_out : {i : ℕ} → Placing i → length xs ≤ i → FirstPlace v xs (length xs) (length xs)
+  pub placing_out : {i : ℕ} → Placing i → length xs ≤ i → FirstPlace v xs (length xs)
   unfolding place_in seen_in
   placing_out {i} p h = record {
     first = sym (p.place ∙ rw (drop_of_length-le xs {i = i} h) (let q : i + zero ≡ length xs = omega (arith, p.few) in q));

@@ -2,13 +2,14 @@
 use Rattle.std.proofs.Common.{ℕ, ◌+◌, ◌-◌, ◌≤◌, ◌<◌, ◌≡◌, refl, subst, List, arith, eqb, ltb, length, get_or, eq-eqb, ne_eqb, ltb-true}
 use Rattle.tonekit_core.specs.Layout.{tone_knot_count, rule_kind, rule_size, rule_form}
 use Rattle.tonekit_bytes.specs.Fields.{byte_at}
-use Rattle.tonekit_pack.specs.Pack.{Pst, loaded, read_pack, number_at}
+use Rattle.tonekit_bytes.specs.Places.{index_of, number_at}
+use Rattle.tonekit_pack.specs.Pack.{Pst, loaded, read_pack}
 use Rattle.tonekit_core.proofs.Split.{split}
 use Rattle.tonekit_pack.proofs.Loads.{RuleFine, Loads, loads, firsts_bound}
 use Rattle.std.specs.Prelude.{Some, None}
 use Rattle.tonekit_expect.specs.declared.Context.{Context}
 use Rattle.tonekit_expect.specs.declared.Listing.{Listing}
-use Rattle.tonekit_expect.specs.Lookup.{Found, Walked, index_of, to_rule, find_rule, rule_listing, citation, listed, look_at, look_up}
+use Rattle.tonekit_expect.specs.Lookup.{Found, Walked, to_rule, find_rule, rule_listing, citation, listed, look_at, look_up}
 use Rattle.tonekit_expect.proofs.Walk.{index_found, winner_is}
 use Rattle.tonekit_expect.proofs.Curves.{listed_fine}
 use Rattle.tonekit_sheet_plan.specs.Listings.{record_of, listing_from, LookKept}
@@ -16,8 +17,8 @@ use Rattle.tonekit_sheet_plan.specs.Listings.{record_of, listing_from, LookKept}
 -- found again
 record Again (s : List ℕ) (l : Listing) : Type 0 where
   near : record_of l < 65536
-  behind : (l.form ≡ 1 → ⊥) → rule_size ≤ l.at
-  same : listing_from s l.owner (record_of l) ≡ l
+  behind : (l.name.form ≡ 1 → ⊥) → rule_size ≤ l.at
+  same : listing_from s l.name.owner (record_of l) ≡ l
   some : 1 ≤ l.count
   few : l.count ≤ 4
 

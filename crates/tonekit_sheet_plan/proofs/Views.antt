@@ -1,21 +1,19 @@
 -- What a pack's sheet is made of, and the room that its lists need on the way. Assumes nothing.
-use Rattle.std.proofs.Common.{ℕ, zero, suc, ◌+◌, ◌-◌, ◌≤◌, ◌<◌, ◌≡◌, refl, sym, ◌∙◌, ap, List, [], ◌∷◌, map, arith, length, length-append}
+use Rattle.std.proofs.Common.{ℕ, zero, suc, ◌+◌, ◌-◌, ◌≤◌, ◌<◌, ◌≡◌, refl, sym, ◌∙◌, ap, Bool, true, false, List, [], ◌∷◌, map, arith, length, length-append}
 use mathlib.Core.Option.{Option, none, some}
 use lib.ListN.{length-map}
 use Rattle.tonekit_core.specs.Loop.{turns, range, range_step}
-use Rattle.tonekit_pack.specs.Pack.{Pst}
-use Rattle.tonekit_pack.specs.Held.{in_order, shown}
+use Rattle.tonekit_pack.specs.Pack.{Pst, read_pack}
+use Rattle.tonekit_pack.specs.Held.{shown}
 use Rattle.tonekit_pack.specs.declared.Pack.{Pack}
 use Rattle.tonekit_core.proofs.Split.{split}
-use Rattle.tonekit_pack.proofs.InOrder.{order_length}
+use Rattle.tonekit_bytes.proofs.InOrder.{order_length}
 use Rattle.tonekit_pack.proofs.Loads.{loads, some_tones}
 use Rattle.tonekit_expect.specs.Lookup.{look_up}
 use Rattle.tonekit_expect.specs.Source.{Carried, given, accent_at, tone_at, source_of_pack}
 use Rattle.tonekit_sheet.specs.Number.{seen_in, noted}
 use Rattle.tonekit_sheet.specs.Sheet.{View, view_of, ascending, row_context, row_count, rows_of, note_turn, lists_of}
-use Rattle.tonekit_sheet_plan.specs.declared.order.Sorted.{Sorted}
-use Rattle.tonekit_sheet_plan.specs.Listings.{Reads}
-use Rattle.tonekit_sheet_plan.specs.Rows.{pack_view, tones_of, accents_of, Ordered}
+use Rattle.tonekit_sheet_plan.specs.Rows.{pack_view, tones_of, accents_at, Ordered, end_of, Reads}
 
 -- ---- the parts of a pack's view
 module _ (s : List ℕ) (st : Pst) where
@@ -27,25 +25,25 @@ module _ (s : List ℕ) (st : Pst) where
   unfolding view_of source_of_pack
   view_accents = refl
 
-  view_look : (r last : ℕ) → (pack_view s st).row r last ≡ given s (look_up s st (row_context (tones_of s st) (ascending (map (accent_at s) st.accents)) r last))
+  view_look : (r : ℕ) (last : Bool) → (pack_view s st).row r last ≡ given s (look_up s st (row_context (tones_of s st) (ascending (map (accent_at s) st.accents)) r last))
   unfolding view_of source_of_pack
   view_look r last = refl
 
-  module _ (a : Sorted) (o : Ordered s st a) where
+  module _ (os : List ℕ) (o : Ordered s st os) where
     -- by the accents that are sorted
-    pub view_sorted : (pack_view s st).accents ≡ accents_of s a
+    pub view_sorted : (pack_view s st).accents ≡ accents_at s os
     view_sorted = view_accents ∙ sym o.same
 
-    pub view_row : (r last : ℕ) → given s (look_up s st (row_context (tones_of s st) (accents_of s a) r last)) ≡ (pack_view s st).row r last
+    pub view_row : (r : ℕ) (last : Bool) → given s (look_up s st (row_context (tones_of s st) (accents_at s os) r last)) ≡ (pack_view s st).row r last
     view_row r last = rw o.same (sym (view_look r last))
 
-    accent_count : length (pack_view s st).accents ≡ a.count
-    accent_count = ap length view_sorted ∙ length-map (in_order a.at a.count) (accent_at s) ∙ order_length a.at a.count
+    accent_count : length (pack_view s st).accents ≡ length os
+    accent_count = ap length view_sorted ∙ length-map os (accent_at s)
 
     tone_count : length (pack_view s st).tones ≡ length st.tones
     tone_count = ap length view_tones ∙ length-map st.tones (tone_at s)
 
-    pub view_rows : rows_of (pack_view s st) ≡ row_count a.count (length st.tones)
+    pub view_rows : rows_of (pack_view s st) ≡ row_count (length os) (length st.tones)
     view_rows = rw (accent_count, tone_count)
 
 -- ---- no turn makes the lists fewer
@@ -56,11 +54,11 @@ noted_grows lists (some v) =
     split (seen_in v lists) (λ e. rw e (omega arith)) (λ e. rw e (omega (arith, length-append lists (v ∷ []))))
 
 module _ (v : View) where
-  pub first_room : (r n : ℕ) (lists : List (List Carried)) → length (note_turn v r lists) ≤ n → length (noted lists (v.row r 0)) ≤ n
-  first_room r n lists h = omega (arith, h, noted_grows (noted lists (v.row r 0)) (v.row r 1))
+  pub first_room : (r n : ℕ) (lists : List (List Carried)) → length (note_turn v r lists) ≤ n → length (noted lists (v.row r false)) ≤ n
+  first_room r n lists h = omega (arith, h, noted_grows (noted lists (v.row r false)) (v.row r true))
 
   turn_grows : (r : ℕ) (lists : List (List Carried)) → length lists ≤ length (note_turn v r lists)
-  turn_grows r lists = omega (arith, noted_grows lists (v.row r 0), noted_grows (noted lists (v.row r 0)) (v.row r 1))
+  turn_grows r lists = omega (arith, noted_grows lists (v.row r false), noted_grows (noted lists (v.row r false)) (v.row r true))
 
   turns_grow : (k i : ℕ) (lists : List (List Carried)) → length lists ≤ length (turns (note_turn v) k i lists)
   unfolding turns
@@ -78,13 +76,13 @@ module _ (v : View) where
       omega (arith, l, range_grows (i + 1) hi (note_turn v i lists), ap length e)
 
 -- ---- the loop over the rows begins with no list
-pub lists_begun : (s : List ℕ) (p : Pack) (a : Sorted) → Ordered s (shown p) a → (n : ℕ) (lists : List (List Carried)) → n ≡ row_count a.count p.tones → lists ≡ []
+pub lists_begun : (s : List ℕ) (p : Pack) (os : List ℕ) → Ordered s (shown p) os → (n : ℕ) (lists : List (List Carried)) → n ≡ row_count (length os) p.tones.count → lists ≡ []
     → range (note_turn (pack_view s (shown p))) 0 n lists ≡ lists_of (pack_view s (shown p))
 unfolding lists_of
-lists_begun s p a o n lists e z =
-    let h : rows_of (pack_view s (shown p)) ≡ n = view_rows s (shown p) a o ∙ ap (row_count a.count) (order_length p.toneat p.tones) ∙ sym e in
+lists_begun s p os o n lists e z =
+    let h : rows_of (pack_view s (shown p)) ≡ n = view_rows s (shown p) os o ∙ ap (row_count (length os)) (order_length p.tones.at p.tones.count) ∙ sym e in
     rw (z, h)
 
 -- ---- a pack that was read has a tone
-pub some_tone : (s : List ℕ) (p : Pack) → Reads s (shown p) → 1 ≤ p.tones
-some_tone s p r = omega (arith, some_tones s (shown p) r.end (loads s (shown p) r.end r.loads), order_length p.toneat p.tones)
+pub some_tone : (s : List ℕ) (p : Pack) → Reads s (shown p) → 1 ≤ p.tones.count
+some_tone s p r = omega (arith, some_tones s (shown p) (end_of (read_pack s)) (loads s (shown p) (end_of (read_pack s)) r.loads), order_length p.tones.at p.tones.count)

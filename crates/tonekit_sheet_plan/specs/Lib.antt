@@ -1,4 +1,5 @@
 pub mod Rows
 pub mod Listings
 pub mod Marks
+pub mod Entries
 pub mod Plans

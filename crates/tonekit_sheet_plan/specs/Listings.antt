@@ -1,9 +1,7 @@
 -- The curves of a context, found again from their owner and the record that they stand in.
-use Rattle.std.specs.Prelude.{ℕ, ◌-◌, ◌≤◌, ◌<◌, ◌≡◌, cond, List, eqb}
-use Rattle.tonekit_core.specs.Layout.{rule_kind, rule_size}
+use Rattle.std.specs.Prelude.{ℕ, ◌-◌, ◌≤◌, ◌<◌, ◌≡◌, cond, List, Some, eqb}
+use Rattle.tonekit_core.specs.Layout.{citation_form, rule_kind, rule_size}
 use Rattle.tonekit_bytes.specs.Fields.{byte_at}
-use Rattle.tonekit_pack.specs.Pack.{Pst, loaded, read_pack}
-use Rattle.std.specs.Prelude.{Some}
 use Rattle.tonekit_expect.specs.Lookup.{Look, rule_listing, citation, Listed}
 use Rattle.tonekit_expect.specs.Source.{Carried, components}
 use Rattle.tonekit_expect.specs.declared.Listing.{Listing}
@@ -14,7 +12,7 @@ carried_by s l = components s l l.count
 
 -- the record of a listing: a citation's tone, else the rule before the parts
 abbrev pub record_of : Listing → ℕ
-record_of l = cond (eqb l.form 1) l.at (l.at - rule_size)
+record_of l = cond (eqb l.name.form citation_form) l.at (l.at - rule_size)
 
 -- a rule's record; any other record of a listing is a tone's
 unfoldable pub listing_from : List ℕ → ℕ → ℕ → Listing
@@ -23,8 +21,8 @@ listing_from s owner o = cond (eqb (byte_at s o) rule_kind) (rule_listing s owne
 -- a listing that is found again, and whose components can be read
 pub record Kept (s : List ℕ) (l : Listing) : Type 0 where
   pub near : record_of l < 65536
-  pub behind : (l.form ≡ 1 → ⊥) → rule_size ≤ l.at
-  pub same : listing_from s l.owner (record_of l) ≡ l
+  pub behind : (l.name.form ≡ citation_form → ⊥) → rule_size ≤ l.at
+  pub same : listing_from s l.name.owner (record_of l) ≡ l
   pub some : 1 ≤ l.count
   pub few : l.count ≤ 4
   pub each : (j : ℕ) → j < l.count → Listed s l j
@@ -32,8 +30,3 @@ pub record Kept (s : List ℕ) (l : Listing) : Type 0 where
 -- what a lookup gives is such a listing, or nothing
 abbrev pub LookKept : List ℕ → Look → Type 0
 LookKept s x = (l : Listing) → x ≡ Some l → Kept s l
-
--- the bytes begin with a pack of which this was read
-pub record Reads (s : List ℕ) (st : Pst) : Type 0 where
-  pub end : ℕ
-  pub loads : read_pack s ≡ loaded st end

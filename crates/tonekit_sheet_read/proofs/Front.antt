@@ -7,7 +7,8 @@ use Rattle.tonekit_core.proofs.LoopLaws.{range_same, to_same}
 use Rattle.tonekit_core.specs.declared.Refusal.TheVariants.{CutShort}
 use Rattle.tonekit_bytes.specs.Fields.{byte_at}
 use Rattle.tonekit_bytes.proofs.Agreeing.{Agree, taken_agrees, two, four, float}
-use Rattle.tonekit_pack.specs.Pack.{number_at, settings_verdict}
+use Rattle.tonekit_bytes.specs.Places.{number_at}
+use Rattle.tonekit_pack.specs.Pack.{settings_verdict}
 use Rattle.tonekit_core.proofs.Split.{split}
 use Rattle.tonekit_pack.proofs.Turns.{by_verdict}
 use Rattle.tonekit_pack.proofs.Front.{region_same, tolerances_same, holds_same, zero_or_same}

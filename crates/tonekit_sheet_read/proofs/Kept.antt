@@ -7,7 +7,8 @@ use Rattle.tonekit_core.proofs.Split.{split}
 use Rattle.tonekit_sheet.specs.Reader.{Sst, size_of, last_list, body_verdict, added, start}
 use Rattle.tonekit_sheet.proofs.Every.{every_snoc}
 use Rattle.tonekit_sheet.proofs.Records.{Complete, rows_done, list_done, Due, settings, tone, accent, row, list, component, finish, tone_room, accent_room, list_room, list_some, component_room}
-use Rattle.tonekit_sheet_read.proofs.Reading.{Placed, placed_start, placed_next, after_list}
+use Rattle.tonekit_sheet_read.specs.Going.{Placed}
+use Rattle.tonekit_sheet_read.proofs.Reading.{placed_start, placed_next, after_list}
 
 -- the list at o as far as it was read at a place: so many of its components are still due
 pub record ListRead (s : List ℕ) (o due at : ℕ) : Type 0 where

@@ -1,5 +1,4 @@
 pub mod Roomy
-pub mod Stepped
 pub mod Rows
 pub mod Loops
 pub mod Lists
@@ -7,3 +6,4 @@ pub mod Marks
 pub mod Reading
 pub mod Kept
 pub mod Front
+pub mod Bounds

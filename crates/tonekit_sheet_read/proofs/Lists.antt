@@ -1,15 +1,11 @@
--- The lists at a sheet's end: one that is there, two that differ, and a list's turn with its offset read from the array. Assumes nothing.
-use Rattle.std.proofs.Common.{ℕ, ◌+◌, ◌≤◌, ◌<◌, ◌≡◌, refl, sym, ◌∙◌, true, false, cond, not, ◌&&◌, List, arith, eqb, ne_eqb, length, get_or, take, length-take-le, get_or-take, ext_get_or, Some}
+-- The lists at a sheet's end: one that is there, two that differ, and a list's turn with its offset. Assumes nothing.
+use Rattle.std.proofs.Common.{ℕ, ◌+◌, ◌≤◌, ◌<◌, ◌≡◌, refl, sym, true, false, cond, not, ◌&&◌, List, arith, eqb, ne_eqb, length, get_or, take, length-take-le, get_or-take, Some}
 use Rattle.tonekit_core.specs.Loop.{next, stop, range}
 use Rattle.tonekit_bytes.specs.Fields.{byte_at}
-use Rattle.tonekit_pack.specs.Held.{in_order}
 use Rattle.tonekit_pack.specs.Pack.{holds, zero_or_held}
-use Rattle.tonekit_pack.proofs.InOrder.{order_length, order_get}
 use Rattle.tonekit_pack.proofs.Numbers.{not_held}
 use Rattle.tonekit_core.proofs.Split.{split}
-use Rattle.tonekit_sheet.specs.Reader.{named, list_size, same_turn, same_lists, equal_turn, repeated, list_turn}
-use Rattle.tonekit_sheet_read.specs.declared.Sheet.{Sheet}
-use Rattle.tonekit_sheet_read.specs.Held.{shown}
+use Rattle.tonekit_sheet.specs.Reader.{Sst, named, list_size, same_turn, same_lists, equal_turn, repeated, list_turn}
 use Rattle.tonekit_core.proofs.LoopLaws.{range_same}
 use Rattle.tonekit_sheet_read.proofs.Loops.{settled, range_parts}
 
@@ -35,22 +31,22 @@ unfolding repeated
 repeated_same s os xs n o h =
     range_same (equal_turn s os o) (equal_turn s xs o) 0 n false (omega arith) (λ j t l. rw (h j l))
 
--- the first n of an array are its part of that length
-pub order_take : (xs : List ℕ) (n : ℕ) → n ≤ length xs → in_order xs n ≡ take n xs
-order_take xs n h =
-    let e : length (in_order xs n) ≡ length (take n xs) = order_length xs n ∙ sym (length-take-le n xs h) in
-    ext_get_or 0 (in_order xs n) (take n xs) e
-    (λ i l. let b : i < n = omega (arith, order_length xs n) in order_get xs n i b ∙ sym (get_or-take n xs i 0 b))
+-- a list's turn, with those before it as a part of their own
+module _ (s : List ℕ) (st : Sst) where
+  turn_at : (i o : ℕ) → i < length st.lists → o ≡ get_or st.lists i 0
+      → list_turn s st i 0
+      ≡ cond (eqb (byte_at s (o + 1)) (i + 1) && (named s st (i + 1) && not (repeated s (take i st.lists) (length (take i st.lists)) o)))
+      (next 0)
+      (stop (Some o))
+  turn_at i o h e =
+      let n : length (take i st.lists) ≡ i = length-take-le i st.lists (omega arith) in
+      let r : repeated s st.lists i o ≡ repeated s (take i st.lists) i o =
+      repeated_same s st.lists (take i st.lists) i o (λ j l. sym (get_or-take i st.lists j 0 l)) in
+      rw (n, ← e, r) refl
 
--- a list's turn, with its offset and those before it read from the array
-pub list_turn_at : (s : List ℕ) (st : Sheet) (i o : ℕ) → i < length (take st.lists st.listat) → o ≡ get_or (take st.lists st.listat) i 0
-    → list_turn s (shown st) i 0
-    ≡ cond (eqb (byte_at s (o + 1)) (i + 1) && (named s (shown st) (i + 1) && not (repeated s (take i st.listat) (length (take i st.listat)) o)))
-    (next 0)
-    (stop (Some o))
-list_turn_at s st i o h e =
-    let n : length (take i st.listat) ≡ i = length-take-le i st.listat (omega (arith, length-take-le st.lists st.listat (omega (arith, st.few_lists, st.list_slots)), st.few_lists, st.list_slots)) in
-    let r : repeated s (take st.lists st.listat) i o ≡ repeated s (take i st.listat) i o =
-    repeated_same s (take st.lists st.listat) (take i st.listat) i o
-    (λ j l. get_or-take st.lists st.listat j 0 (omega (arith, length-take-le st.lists st.listat (omega (arith, st.few_lists, st.list_slots)))) ∙ sym (get_or-take i st.listat j 0 l)) in
-    rw (order_take st.listat st.lists (omega (arith, st.few_lists, st.list_slots)), n, ← e, r) refl
+  pub list_turn_at : (os : List ℕ) → os ≡ st.lists → (i o : ℕ) → i < length os → o ≡ get_or os i 0
+      → list_turn s st i 0
+      ≡ cond (eqb (byte_at s (o + 1)) (i + 1) && (named s st (i + 1) && not (repeated s (take i os) (length (take i os)) o)))
+      (next 0)
+      (stop (Some o))
+  list_turn_at os q i o h e = rw q (turn_at i o (rw q at h) (rw q at e))

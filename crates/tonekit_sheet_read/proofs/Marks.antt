@@ -1,9 +1,10 @@
 -- Marks of a sheet's lists: equal lists have one mark, and one more mark is kept with the others. Assumes nothing.
-use Rattle.std.proofs.Common.{ℕ, ◌+◌, ◌*◌, ◌≤◌, ◌<◌, ◌≡◌, sym, ◌∙◌, ap, true, false, List, arith, eqb, length, get_or, set, take, length-take-le, get_or-take, eqb-true}
+use Rattle.std.proofs.Common.{ℕ, ◌+◌, ◌*◌, ◌≤◌, ◌<◌, ◌≡◌, sym, ◌∙◌, ap, true, false, List, [], ◌∷◌, ◌++◌, arith, eqb, ltb, ltb-true, ltb-false, length, get_or, take, get_or-take, eqb-true}
 use borrow.Author.Tests.{eqb-false}
 use Rattle.tonekit_core.specs.Loop.{range}
 use Rattle.tonekit_core.proofs.LoopLaws.{range_same}
-use Rattle.tonekit_core.proofs.Entries.{entries_more}
+use lib.ListN.{get_or-append}
+use lib.Seq.{get_or_at}
 use Rattle.tonekit_bytes.specs.Fields.{byte_at, u32_at}
 use Rattle.tonekit_core.proofs.Split.{split, absurd_bool}
 use Rattle.tonekit_sheet.specs.Marks.{mixed}
@@ -43,11 +44,14 @@ pub marked_apart : (s : List ℕ) (a b : ℕ) → (mark_at s a ≡ mark_at s b �
 marked_apart s a b h = split (same_lists s a b) (λ e. absurd (h (mark_same s a b e))) (λ e. sym e)
 
 -- ---- one more mark
-pub marked_more : (s at marks : List ℕ) (n m : ℕ) → Marked s at marks n → n < length marks → m ≡ mark_at s (get_or at n 0) → Marked s at (set marks n m) (n + 1)
-marked_more s at marks n m g l e = entries_more (λ i x. x ≡ mark_at s (get_or at i 0)) marks n m l g e
+pub marked_more : (s at marks : List ℕ) (n m : ℕ) → length marks ≡ n → Marked s at marks n → m ≡ mark_at s (get_or at n 0) → Marked s at (marks ++ (m ∷ [])) (n + 1)
+marked_more s at marks n m l g e i h =
+    split (ltb i n)
+    (λ b. get_or-append marks (m ∷ []) 0 i (rw l (ltb-true i n b)) ∙ g i (ltb-true i n b))
+    (λ b. let q : i ≡ n = omega (arith, ltb-false i n b) in rw q (get_or_at marks m [] 0 n l ∙ e))
 
 -- the marks of the first n lists, beside those lists alone
-pub marked_part : (s at marks : List ℕ) (n : ℕ) → n ≤ length at → n ≤ length marks → Marked s at marks n → Marked s (take n at) (take n marks) (length (take n marks))
+pub marked_part : (s at marks : List ℕ) (n : ℕ) → n ≤ length at → length marks ≡ n → Marked s at marks n → Marked s (take n at) marks (length marks)
 marked_part s at marks n h l g i b =
-    let c : i < n = omega (arith, length-take-le n marks l) in
-    rw (get_or-take n marks i 0 c, get_or-take n at i 0 c) (g i c)
+    let c : i < n = omega (arith, l) in
+    rw (get_or-take n at i 0 c) (g i c)

@@ -1,32 +1,20 @@
 -- What the reader's loop keeps: from here it gives what it gives of the whole, and its place is the one that the counts give. Assumes nothing.
-use Rattle.std.proofs.Common.{ℕ, ◌+◌, ◌-◌, ◌*◌, ◌≤◌, ◌<◌, ◌≡◌, refl, List, arith, length, length-append, leb, ne_eqb, leb-true, leb-false, Ok, Err}
-use Rattle.tonekit_core.specs.Loop.{loop_to, loop_again, loop_stop}
-use Rattle.tonekit_core.specs.declared.Refusal.{Refusal}
+use Rattle.std.proofs.Common.{ℕ, ◌+◌, ◌-◌, ◌*◌, ◌≤◌, ◌<◌, ◌≡◌, refl, List, arith, length, Result, length-append, leb, ltb, ne_eqb, leb-true, leb-false, Ok, Err}
+use Rattle.tonekit_core.specs.Loop.{loop_again, loop_stop}
 use Rattle.tonekit_core.specs.declared.Refusal.TheVariants.{CutShort}
 use Rattle.tonekit_bytes.specs.Fields.{byte_at}
 use Rattle.tonekit_core.proofs.Split.{split}
-use Rattle.tonekit_pack.proofs.InOrder.{order_length}
-use Rattle.tonekit_sheet.specs.Reader.{Sst, refused, rows_due, size_of, added, finished, body_verdict, record_verdict, record_turn, start, read_sheet}
+use Rattle.tonekit_bytes.proofs.InOrder.{order_length}
+use Rattle.tonekit_sheet.specs.Reader.{Sst, refused, rows_due, size_of, added, finished, body_verdict, record_verdict, record_turn, start, read_sheet, load_sheet, check_sheet}
 use Rattle.tonekit_sheet_read.specs.declared.Sheet.{Sheet}
-use Rattle.tonekit_sheet_read.specs.Held.{shown, Follows}
-use Rattle.tonekit_sheet_read.proofs.Stepped.{stepped_length}
+use Rattle.tonekit_sheet_read.specs.Held.{shown, answered, Follows}
+use Rattle.tonekit_sheet_read.specs.Going.{Placed, Going}
+use Rattle.tonekit_pack.specs.declared.Loaded.{Loaded}
+use Rattle.tonekit_pack.specs.Format.{alone, told}
+use Rattle.tonekit_core.specs.declared.Rejection.{Rejection}
+use Rattle.tonekit_bytes.proofs.Stepped.{stepped_length}
 use Rattle.tonekit_sheet_read.proofs.Rows.{due_few}
 use Rattle.tonekit_sheet.proofs.Records.{Complete, rows_done, list_done, Due, settings, tone, accent, row, list, component, finish, Sound, sound, size_pos, tone_room, accent_room, list_room, component_room}
-
--- where the counts put the next record
-abbrev pub place_of : Sst → ℕ
-place_of st = 9 + 15 * length st.tones + 18 * length st.accents + 6 * st.rows + 7 * length st.lists + 45 * st.total
-
--- before the first record all counts are 0; later kinds have come only after the earlier ones, and lists only after all rows
-pub record Placed (at : ℕ) (st : Sst) : Type 0 where
-  pub first : st.last ≡ 0 → at ≡ 0
-  pub place : 1 ≤ st.last → at ≡ place_of st
-  pub no_tones : st.last ≤ 17 → length st.tones ≡ 0
-  pub no_accents : st.last ≤ 18 → length st.accents ≡ 0
-  pub no_rows : st.last ≤ 19 → st.rows ≡ 0
-  pub no_lists : st.last ≤ 20 → (length st.lists ≡ 0) × (st.total ≡ 0) × (st.due ≡ 0)
-  pub few_rows : st.rows ≤ rows_due st
-  pub all_rows : 21 ≤ st.last → st.rows ≡ rows_due st
 
 pub placed_start : Placed 0 start.st
 placed_start = record {
@@ -121,14 +109,6 @@ placed_next at count st (component d) n p =
     }
 placed_next at count st (finish d) n p = absurd (n refl)
 
--- from here the reader gives what it gives of the whole
-pub record Going (s : List ℕ) (st : Sheet) (at : ℕ) : Type 0 where
-  pub placed : Placed at (shown st)
-  pub inside : at ≤ length s
-  pub fuel : ℕ
-  pub enough : length s < fuel + at
-  pub same : loop_to (record_turn s) (refused CutShort (length s)) fuel (record { at = at; st = shown st }) ≡ read_sheet s
-
 -- what a kind that is due and fine shows of the counts
 module _ (s : List ℕ) (st : Sheet) (at : ℕ) (g : Going s st at) where
   tones_are : length (shown st).tones ≡ st.tones
@@ -137,14 +117,15 @@ module _ (s : List ℕ) (st : Sheet) (at : ℕ) (g : Going s st at) where
   accents_are : length (shown st).accents ≡ st.accents
   accents_are = stepped_length (9 + 15 * st.tones) 18 st.accents
 
-  lists_are : length (shown st).lists ≡ st.lists
-  lists_are = order_length st.listat st.lists
+  lists_are : length (shown st).lists ≡ st.lists.count
+  lists_are = order_length st.lists.at st.lists.count
 
   pub near_end : at ≤ 13265
   near_end =
-      split (leb 1 st.last)
-      (λ a. omega (arith, g.placed.place (leb-true 1 st.last a), tones_are, accents_are, lists_are))
-      (λ a. omega (arith, g.placed.first (omega (arith, leb-false 1 st.last a))))
+      let last = (shown st).last in
+      split (leb 1 last)
+      (λ a. omega (arith, g.placed.place (leb-true 1 last a), tones_are, accents_are, lists_are))
+      (λ a. omega (arith, g.placed.first (omega (arith, leb-false 1 last a))))
 
   pub few_rows : rows_due (shown st) ≤ 576
   few_rows = due_few st
@@ -192,9 +173,6 @@ module _ (s : List ℕ) (st : Sheet) (at : ℕ) (g : Going s st at) where
   }
   follows_of (finish d) b = other (λ q. omega arith) (λ q. omega arith) (λ q. omega arith) (λ q. omega arith) (λ q. omega arith) (byte_at s (at + 6))
 
-  pub refuses : (r : Refusal) → record_verdict s at (shown st) ≡ Err r → refused r at ≡ read_sheet s
-  refuses r v = loop_stop (record_turn s) (refused CutShort (length s)) g.same (omega arith) (rw v)
-
   module _ (v : record_verdict s at (shown st) ≡ Ok tt) where
     pub ok : Sound s at (shown st)
     ok = sound s at (shown st) v
@@ -213,3 +191,25 @@ module _ (s : List ℕ) (st : Sheet) (at : ℕ) (g : Going s st at) where
       enough = omega (arith, size_pos (byte_at s at));
       same = rw e (loop_again (record_turn s) (refused CutShort (length s)) g.same (omega arith) (rw (v, ne_eqb (byte_at s at) 23 n)));
     }
+
+-- before the first record
+pub begins : (s : List ℕ) (p : Sheet) → shown p ≡ start.st → Going s p 0
+unfolding read_sheet
+begins s p e = record {
+  placed = rw e placed_start;
+  inside = omega arith;
+  fuel = length s + 1;
+  enough = omega arith;
+  same = rw e refl;
+}
+
+-- an input that is one sheet, and the check of it
+pub alone_is : (s : List ℕ) (r : Result (Loaded Sheet) Rejection) → answered r ≡ read_sheet s → answered (alone (length s) r) ≡ load_sheet s
+unfolding load_sheet
+alone_is s (Ok l) e = rw (← e) (split (ltb l.end (length s)) (λ b. rw b refl) (λ b. rw b refl))
+alone_is s (Err x) e = rw (← e) refl
+
+pub told_is : (s : List ℕ) (r : Result (Loaded Sheet) Rejection) → answered r ≡ read_sheet s → told (alone (length s) r) ≡ check_sheet s
+unfolding check_sheet load_sheet
+told_is s (Ok l) e = rw (← e) (split (ltb l.end (length s)) (λ b. rw b refl) (λ b. rw b refl))
+told_is s (Err x) e = rw (← e) refl

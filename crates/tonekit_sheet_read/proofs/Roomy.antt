@@ -7,8 +7,8 @@ roomy p = record {
   few_tones = p.few_tones;
   few_accents = p.few_accents;
   few_rows = p.few_rows;
-  few_lists = p.few_lists;
+  few_lists = p.lists.few;
   few_due = p.few_due;
   few_in_all = p.few_in_all;
-  list_slots = p.list_slots;
+  list_slots = p.lists.slots;
 }

@@ -5,7 +5,7 @@ use Rattle.tonekit_sheet.specs.Sheet.{row_count}
 use Rattle.tonekit_sheet.specs.Reader.{rows_due, row_at, prev_due, row_due}
 use Rattle.tonekit_sheet_read.specs.declared.Sheet.{Sheet}
 use Rattle.tonekit_sheet_read.specs.Held.{shown}
-use Rattle.tonekit_sheet_read.proofs.Stepped.{stepped_length, stepped_get}
+use Rattle.tonekit_bytes.proofs.Stepped.{stepped_length, stepped_get}
 use Rattle.tonekit_sheet.proofs.RowPlaces.{rows_few, some_tone, Places, row_places}
 
 pub prev_some : (s : List ℕ) (st : Sheet) (p : ℕ) → 0 < p → p ≤ st.tones → prev_due s (shown st) p ≡ byte_at s (9 + 15 * (p - 1) + 1)

@@ -1,32 +1,28 @@
 -- What the reader's struct and answer stand for.
-use Rattle.std.specs.Prelude.{ℕ, zero, suc, ◌+◌, ◌*◌, ◌≤◌, ◌<◌, ◌≡◌, List, [], ◌∷◌, ◌++◌, length, Result, Ok, Err}
+use Rattle.std.specs.Prelude.{ℕ, ◌≤◌, ◌<◌, ◌≡◌, List, length, Result, Ok, Err}
 use Rattle.tonekit_core.specs.declared.Rejection.{Rejection}
 use Rattle.tonekit_core.specs.Layout.{settings_size, sheet_tone_kind, sheet_tone_size, sheet_accent_kind, sheet_accent_size, sheet_row_kind}
 use Rattle.tonekit_core.specs.Layout.{sheet_list_kind, sheet_component_kind, sheet_tone_at, sheet_accent_at}
-use Rattle.tonekit_pack.specs.Held.{in_order}
+use Rattle.tonekit_bytes.specs.Places.{in_order, stepped}
+use Rattle.tonekit_pack.specs.declared.Loaded.{Loaded}
 use Rattle.tonekit_sheet_read.specs.declared.Sheet.{Sheet}
-use Rattle.tonekit_sheet_read.specs.declared.Loaded.{Loaded}
+use Rattle.tonekit_sheet.specs.Kinds.{last_of}
 use Rattle.tonekit_sheet.specs.Reader.{Sst, Out, loaded, refused, read_sheet}
-
--- n offsets from o on, each step behind the one before
-unfoldable pub stepped : ℕ → ℕ → ℕ → List ℕ
-stepped o step zero = []
-stepped o step (suc n) = stepped o step n ++ ((o + step * n) ∷ [])
 
 -- tones and accents stand one behind the other, after the settings
 abbrev pub shown : Sheet → Sst
 shown p = record {
-  last = p.last;
+  last = last_of p.last;
   tones = stepped settings_size sheet_tone_size p.tones;
   accents = stepped (sheet_tone_at p.tones) sheet_accent_size p.accents;
   rows = p.rows;
-  lists = in_order p.listat p.lists;
+  lists = in_order p.lists.at p.lists.count;
   due = p.due;
   total = p.total;
 }
 
-abbrev pub answered : Result Loaded Rejection → Out
-answered (Ok l) = loaded (shown l.sheet) l.end
+abbrev pub answered : Result (Loaded Sheet) Rejection → Out
+answered (Ok l) = loaded (shown l.held) l.end
 answered (Err e) = refused e.why e.place
 
 -- what every Sheet keeps: the format's limits, and the length of its array
@@ -34,10 +30,10 @@ pub record Roomy (p : Sheet) : Type 0 where
   pub few_tones : p.tones ≤ 8
   pub few_accents : p.accents ≤ 8
   pub few_rows : p.rows ≤ 576
-  pub few_lists : p.lists ≤ 128
+  pub few_lists : p.lists.count ≤ 128
   pub few_due : p.due ≤ 4
   pub few_in_all : p.total ≤ 192
-  pub list_slots : length p.listat ≡ 128
+  pub list_slots : length p.lists.at ≡ 128
 
 -- a sheet as its reader handed it back for these bytes, which load
 pub record ReadFrom (s : List ℕ) (p : Sheet) : Type 0 where
@@ -49,5 +45,5 @@ pub record Follows (k o count : ℕ) (p : Sheet) : Type 0 where
   pub tone : k ≡ sheet_tone_kind → (o ≡ sheet_tone_at p.tones) × (p.tones < 8) × (p.accents ≡ 0)
   pub accent : k ≡ sheet_accent_kind → (o ≡ sheet_accent_at p.tones p.accents) × (p.accents < 8)
   pub row : k ≡ sheet_row_kind → p.rows < 576
-  pub list : k ≡ sheet_list_kind → (o < 65536) × (p.lists < 128) × (count ≤ 4)
+  pub list : k ≡ sheet_list_kind → (o < 65536) × (p.lists.count < 128) × (count ≤ 4)
   pub component : k ≡ sheet_component_kind → (1 ≤ p.due) × (p.total < 192)

@@ -1,75 +1,133 @@
-// The calls of the reader: a sheet at the front of a longer input, an input that is one sheet, and the check of it.
-ghost use Rattle.std.specs.Prelude.{◌≡◌, ◌≤◌};
-ghost use Rattle.tonekit_sheet.specs.Reader.{rows_due, finished, read_sheet, load_sheet, check_sheet};
+// A sheet as a file of records, and the calls that read one.
+ghost use Rattle.std.specs.Prelude.{◌≡◌, ◌≤◌, eqb};
+ghost use Rattle.tonekit_core.specs.Layout.{sheet_end_kind};
+ghost use Rattle.tonekit_sheet.specs.Kinds.{number};
+ghost use Rattle.tonekit_sheet.specs.Reader.{rows_due, due_next, size_of, body_verdict, record_verdict, finished, read_sheet, load_sheet, check_sheet};
 ghost use Rattle.tonekit_sheet_read.specs.Held.{shown, answered};
+ghost use Rattle.tonekit_sheet_read.specs.Going.{Going, judges, refuses};
 
-use crate::{Loaded, Sheet, order, read};
+use crate::{Sheet, SheetView};
 use tonekit_bytes::byte_at;
 use tonekit_core::{Refusal, Rejection, layout};
+use tonekit_pack::Loaded;
+use tonekit_pack::format::{self, Format};
+use tonekit_sheet::Kind;
 
-// What is judged once the end is read, which stands before `end`: a row that names a list that is not
-// there, then what is out of order. All rows are there.
-#[tactic(auto, unfolding(tonekit_sheet::specs::Reader::finished))]
-fn finish(s: &[u8], st: Sheet, end: usize) -> Result<Loaded, Rejection>
-    requires { st.rows ≤ rows_due (shown st) }
-    ensures { answered result ≡ finished s.now (shown st) end }
-{
-    if let Some(o) = order::loose_row(s, st) {
-        return Err(Refusal::Loose.at(o));
+impl SheetView<'_> {
+    // What is judged once the end is read, which stands before `end`: a row that names a list that is
+    // not there, then what is out of order. All rows are there.
+    #[tactic(auto, unfolding(tonekit_sheet::specs::Reader::finished))]
+    fn judged(&self, end: usize) -> Result<Loaded<Sheet>, Rejection>
+        requires { self.now.sheet.rows ≤ rows_due (shown self.now.sheet) }
+        ensures { answered result ≡ finished self.now.bytes.now (shown self.now.sheet) end }
+    {
+        if let Some(o) = self.loose_row() {
+            return Err(Refusal::Loose.at(o));
+        }
+        if let Some(o) = self.accent_down() {
+            return Err(Refusal::Unordered.at(o));
+        }
+        if let Some(o) = self.row_wrong() {
+            return Err(Refusal::Unordered.at(o));
+        }
+        if let Some(o) = self.list_wrong() {
+            return Err(Refusal::Unordered.at(o));
+        }
+        Ok(Loaded {
+            held: self.sheet,
+            end,
+        })
     }
-    if let Some(o) = order::accent_down(s, st) {
-        return Err(Refusal::Unordered.at(o));
-    }
-    if let Some(o) = order::row_wrong(s, st) {
-        return Err(Refusal::Unordered.at(o));
-    }
-    if let Some(o) = order::list_wrong(s, st) {
-        return Err(Refusal::Unordered.at(o));
-    }
-    Ok(Loaded { sheet: st, end })
 }
 
-// Stays: beside tonekit_pack's, since a sheet is judged once more at its end, and one over both would take a trait of readers with its laws.
+impl Format for Sheet {
+    type Kind = Kind;
+
+    ghost number = { number };
+
+    ghost last = { λ n. eqb n sheet_end_kind };
+
+    ghost due = { λ p n. due_next (shown p) n };
+
+    ghost size = { size_of };
+
+    ghost tests = { λ p s o n. body_verdict n s o (shown p) };
+
+    ghost verdict = { λ s o p. record_verdict s o (shown p) };
+
+    ghost so_far = { λ s o p. Going s p o };
+
+    ghost reads = { λ s r. answered r ≡ read_sheet s };
+
+    ghost judges = { λ s o p. judges s o (shown p) };
+
+    ghost refuses = { λ s o p r g v. refuses s p o g r v };
+
+    #[tactic(auto, using(crate::proofs::Reading::begins))]
+    fn nothing() -> Sheet {
+        Sheet::nothing()
+    }
+
+    #[tactic(auto, using(tonekit_sheet::proofs::ByKind::kind_number, tonekit_sheet::proofs::ByKind::no_kind))]
+    fn next(&self, n: u8) -> Option<Kind> {
+        match Kind::try_from(n) {
+            Ok(k) if self.due_next(k) => Some(k),
+            _ => None,
+        }
+    }
+
+    #[tactic(auto, using(tonekit_sheet::proofs::Records::size_pos))]
+    fn size(k: Kind) -> usize {
+        k.size()
+    }
+
+    fn tests(&self, k: Kind, s: &[u8], o: usize) -> Result<(), Refusal> {
+        let view = SheetView {
+            bytes: s,
+            sheet: *self,
+        };
+        view.body_verdict(k, o)
+    }
+
+    fn ends(k: Kind) -> bool {
+        matches!(k, Kind::End)
+    }
+
+    fn add(&mut self, k: Kind, s: &[u8], o: usize) {
+        self.keep(k, o, byte_at(s, o, layout::SHEET_LIST_COUNT));
+    }
+
+    fn finish(self, s: &[u8], o: usize) -> Result<Loaded<Sheet>, Rejection> {
+        let view = SheetView {
+            bytes: s,
+            sheet: self,
+        };
+        view.judged(o + layout::SHEET_END_SIZE)
+    }
+}
+
 // Reads the sheet at the front of a longer input: the sheet and where it ends, or the refusal and its place.
-#[tactic(auto, using(crate::proofs::Reading::refuses, crate::proofs::Reading::ends, crate::proofs::Reading::follows, crate::proofs::Reading::goes), unfolding(tonekit_sheet::specs::Reader::read_sheet))]
-pub fn read_sheet(sheet: &[u8]) -> Result<Loaded, Rejection>
+// Stays: beside `format::read`, since its contract is the definition `read_sheet`, of which `load_sheet` of the demands is made.
+pub fn read_sheet(sheet: &[u8]) -> Result<Loaded<Sheet>, Rejection>
     ensures { answered result ≡ read_sheet sheet.now }
 {
-    let mut st = read::nothing();
-    let mut at: usize = 0;
-    loop {
-        if let Err(why) = read::record_verdict(sheet, at, st) {
-            return Err(why.at(at));
-        }
-        let k = sheet[at];
-        if k == layout::SHEET_END_KIND {
-            return finish(sheet, st, at + layout::SHEET_END_SIZE);
-        }
-        let count = byte_at(sheet, at, layout::SHEET_LIST_COUNT);
-        st = read::add(k, at, count, st);
-        at += tonekit_sheet::size_of(k);
-    }
+    format::read(sheet)
 }
 
-// Stays: beside tonekit_pack's, since one over both would take a trait of readers, with its laws, for these few lines.
 // Reads an input that is one sheet: what read_sheet answers, and Overrun at the first byte behind it.
-#[tactic(auto, unfolding(tonekit_sheet::specs::Reader::load_sheet))]
-pub fn load_sheet(sheet: &[u8]) -> Result<Loaded, Rejection>
+// Stays: the name by which the inventory and sheet_text call `format::load`, with the definition `load_sheet` as its contract.
+#[tactic(auto, using(crate::proofs::Reading::alone_is), unfolding(tonekit_sheet::specs::Reader::load_sheet))]
+pub fn load_sheet(sheet: &[u8]) -> Result<Loaded<Sheet>, Rejection>
     ensures { answered result ≡ load_sheet sheet.now }
 {
-    let loaded = read_sheet(sheet)?;
-    if loaded.end < sheet.len() {
-        return Err(Refusal::Overrun.at(loaded.end));
-    }
-    Ok(loaded)
+    format::load(sheet)
 }
 
-// Stays: beside tonekit_pack's, since one over both would take a trait of readers, with its laws, for these few lines.
 // Whether an input loads as one sheet, or its refusal and place.
-#[tactic(auto, unfolding(tonekit_sheet::specs::Reader::check_sheet))]
+// Stays: the name by which the C interface and the programs call `format::check`, with the definition `check_sheet` as its contract.
+#[tactic(auto, using(crate::proofs::Reading::told_is), unfolding(tonekit_sheet::specs::Reader::check_sheet))]
 pub fn check_sheet(sheet: &[u8]) -> Result<(), Rejection>
     ensures { result ≡ check_sheet sheet.now }
 {
-    load_sheet(sheet)?;
-    Ok(())
+    format::check::<Sheet>(sheet)
 }

@@ -6,172 +6,15 @@ ghost use Rattle.tonekit_sheet.specs.Reader.{rows_due, row_at, loose_row, accent
 ghost use Rattle.tonekit_sheet_read.specs.Held.{shown};
 ghost use Rattle.tonekit_sheet_read.specs.Marks.{mark_at, Marked};
 
-use crate::Sheet;
+use crate::{Sheet, SheetView};
+use arrayvec::ArrayVec;
+use tonekit_bytes::places::index_of;
 use tonekit_bytes::{byte_at, u32_at};
 use tonekit_core::layout;
 use tonekit_sheet::mix;
 
 // The weight of a list's first component, from the list on.
 const FIRST_WEIGHT: usize = layout::SHEET_LIST_SIZE + layout::SHEET_COMPONENT_WEIGHT;
-
-// The offset of row r, of at most 576.
-#[tactic(auto, using(crate::proofs::Stepped::stepped_length))]
-fn row_at(st: Sheet, r: usize) -> usize
-    requires { r ≤ 576 }
-    ensures { (result ≡ row_at (shown st) r) × (result ≤ 4000) }
-{
-    layout::sheet_row_at(st.tones, st.accents, r)
-}
-
-// Stays: beside tonekit_pack's search, since this one looks first where list x stands in a sheet in order.
-// Whether x is 0, or the number of one of the lists at these offsets: in a sheet in order, of list x.
-#[tactic(auto, using(crate::proofs::Lists::there, tonekit_pack::proofs::Numbers::miss, tonekit_pack::proofs::Numbers::none_left), unfolding(tonekit_pack::specs::Pack::zero_or_held))]
-fn list_there(s: &[u8], lists: &[u16], x: u8) -> bool
-    ensures { result ≡ zero_or_held s.now lists.now x }
-{
-    if x == 0 {
-        return true;
-    }
-    let p = usize::from(x) - 1;
-    if p < lists.len() {
-        if byte_at(s, usize::from(lists[p]), layout::OWN_NUMBER) == x {
-            return true;
-        }
-    }
-    for o in lists {
-        if byte_at(s, usize::from(*o), layout::OWN_NUMBER) == x {
-            return true;
-        }
-    }
-    false
-}
-
-// The first row that names a list that is not there.
-#[tactic(auto, using(tonekit_core::specs::Loop::to_again, tonekit_core::specs::Loop::to_ended, crate::proofs::Lists::order_take), unfolding(tonekit_sheet::specs::Reader::loose_row))]
-pub fn loose_row(s: &[u8], st: Sheet) -> Option<usize>
-    ensures { result ≡ loose_row s.now (shown st) }
-{
-    let lists = &st.listat[..st.lists];
-    for r in 0..st.rows {
-        let o = row_at(st, r);
-        let not_final = list_there(s, lists, byte_at(s, o, layout::SHEET_ROW_LIST));
-        let last = list_there(s, lists, byte_at(s, o, layout::SHEET_ROW_FINAL_LIST));
-        if !(not_final & last) {
-            return Some(o);
-        }
-    }
-    None
-}
-
-// The first accent whose number is not above that of the one before it.
-#[tactic(auto, using(tonekit_core::specs::Loop::to_again, tonekit_core::specs::Loop::to_ended, crate::proofs::Stepped::stepped_length, crate::proofs::Stepped::stepped_get), unfolding(tonekit_sheet::specs::Reader::accent_down))]
-pub fn accent_down(s: &[u8], st: Sheet) -> Option<usize>
-    ensures { result ≡ accent_down s.now (shown st) }
-{
-    let mut before = 0;
-    for i in 0..st.accents {
-        let o = layout::sheet_accent_at(st.tones, i);
-        let n = byte_at(s, o, layout::OWN_NUMBER);
-        if !(before < n) {
-            return Some(o);
-        }
-        before = n;
-    }
-    None
-}
-
-// The number before a row's tone that is due at a place of prev: none, then the tones.
-#[tactic(auto, using(crate::proofs::Rows::prev_some))]
-fn prev_due(s: &[u8], st: Sheet, p: usize) -> u8
-    requires { p ≤ st.tones }
-    ensures { result ≡ prev_due s.now (shown st) p }
-{
-    if p == 0 {
-        return 0;
-    }
-    byte_at(s, layout::sheet_tone_at(p - 1), layout::OWN_NUMBER)
-}
-
-// Whether row r is the one due at its place.
-#[tactic(auto, using(crate::proofs::Rows::row_due_at, crate::proofs::Rows::due_few, crate::proofs::Rows::a_tone, crate::proofs::Rows::places, tonekit_sheet::proofs::RowPlaces::each_few))]
-fn row_due(s: &[u8], st: Sheet, r: usize) -> bool
-    requires { (r < rows_due (shown st)) }
-    ensures { result ≡ row_due s.now (shown st) r }
-{
-    let o = row_at(st, r);
-    let each = st.tones + 1;
-    let a = r / (st.tones * each);
-    let t = r / each % st.tones;
-    let p = r % each;
-    let accent_due = byte_at(s, layout::sheet_accent_at(st.tones, a), layout::OWN_NUMBER);
-    let tone_due = byte_at(s, layout::sheet_tone_at(t), layout::OWN_NUMBER);
-    let accent = byte_at(s, o, layout::SHEET_ROW_ACCENT) == accent_due;
-    let tone = byte_at(s, o, layout::SHEET_ROW_TONE) == tone_due;
-    accent & (tone & (byte_at(s, o, layout::SHEET_ROW_PREV) == prev_due(s, st, p)))
-}
-
-// Whether row r names no list above 1 more than the greatest before it.
-#[tactic(auto, unfolding(tonekit_sheet::specs::Reader::row_names))]
-fn row_names(s: &[u8], st: Sheet, r: usize, m: u8) -> bool
-    requires { r ≤ 576 }
-    ensures { result ≡ row_names s.now (shown st) r m }
-{
-    let o = row_at(st, r);
-    let n = byte_at(s, o, layout::SHEET_ROW_LIST);
-    let last = byte_at(s, o, layout::SHEET_ROW_FINAL_LIST);
-    (usize::from(n) <= usize::from(m) + 1) & (usize::from(last) <= usize::from(m.max(n)) + 1)
-}
-
-// The first row that is not the one due, or names a list out of order. All rows are there.
-#[tactic(auto, using(tonekit_core::specs::Loop::to_again, tonekit_core::specs::Loop::to_ended), unfolding(tonekit_sheet::specs::Reader::row_wrong))]
-pub fn row_wrong(s: &[u8], st: Sheet) -> Option<usize>
-    requires { (st.rows ≤ rows_due (shown st)) }
-    ensures { result ≡ row_wrong s.now (shown st) }
-{
-    let mut m = 0;
-    for r in 0..st.rows {
-        let o = row_at(st, r);
-        if !(row_due(s, st, r) & row_names(s, st, r, m)) {
-            return Some(o);
-        }
-        m = m
-            .max(byte_at(s, o, layout::SHEET_ROW_LIST))
-            .max(byte_at(s, o, layout::SHEET_ROW_FINAL_LIST));
-    }
-    None
-}
-
-// The first row from a row on that names list n.
-#[tactic(auto, using(tonekit_core::specs::Loop::again, tonekit_core::specs::Loop::ended, crate::proofs::Loops::settled))]
-fn use_from(s: &[u8], st: Sheet, n: usize, from: usize) -> Option<usize>
-    requires { from ≤ st.rows }
-    ensures { IfSome result (λ r. r < st.rows)
-        × (is_some result ≡ range (names_turn s.now (shown st) n) from st.rows false) }
-{
-    for r in from..st.rows {
-        let o = row_at(st, r);
-        let first = usize::from(byte_at(s, o, layout::SHEET_ROW_LIST)) == n;
-        let last = usize::from(byte_at(s, o, layout::SHEET_ROW_FINAL_LIST)) == n;
-        if first | last {
-            return Some(r);
-        }
-    }
-    None
-}
-
-// A row that names list n: the first from a row on, else the first of all. Lists are numbered by
-// first use, so list n is first named at or behind list n - 1.
-#[tactic(auto, using(crate::proofs::Loops::found_before), unfolding(tonekit_sheet::specs::Reader::named))]
-fn use_of(s: &[u8], st: Sheet, n: usize, from: usize) -> Option<usize>
-    requires { from ≤ st.rows }
-    ensures { IfSome result (λ r. r < st.rows) × (is_some result ≡ named s.now (shown st) n) }
-{
-    let r = use_from(s, st, n, from);
-    if r.is_some() {
-        return r;
-    }
-    use_from(s, st, n, 0)
-}
 
 // A mark of the list at o, from its weights and points.
 #[tactic(auto, using(tonekit_core::specs::Loop::again, tonekit_core::specs::Loop::ended), unfolding(crate::specs::Marks::mark_at))]
@@ -187,7 +30,7 @@ fn mark_at(s: &[u8], o: usize) -> u32
 }
 
 // Whether the lists at two offsets are equal but for their numbers.
-// Stays: a byte behind the input reads as 0 on both sides, which two slices of it would not have.
+// Stays: a byte behind the input reads as 0 on both sides; two slices with == would first have to be cut to the input, each by its own length.
 #[tactic(auto, using(tonekit_core::specs::Loop::again, tonekit_core::specs::Loop::ended, crate::proofs::Loops::settled), unfolding(tonekit_sheet::specs::Reader::same_lists))]
 fn same_lists(s: &[u8], a: usize, b: usize) -> bool
     ensures { result ≡ same_lists s.now a b }
@@ -221,27 +64,193 @@ fn repeated(s: &[u8], lists: &[u16], marks: &[u32], o: usize, mark: u32) -> bool
     false
 }
 
-// The first list that has not its place as its number, is named by no row, or is equal to an
-// earlier one.
-pub fn list_wrong(s: &[u8], st: Sheet) -> Option<usize>
-    ensures { result ≡ list_wrong s.now (shown st) }
-{
-    let mut marks = [0u32; 128];
-    let mut from = 0;
-    for (i, at) in st.listat[..st.lists].iter().enumerate() {
-        let o = usize::from(*at);
-        if usize::from(byte_at(s, o, layout::OWN_NUMBER)) != i + 1 {
-            return Some(o);
-        }
-        let Some(used) = use_of(s, st, i + 1, from) else {
-            return Some(o);
-        };
-        let mark = mark_at(s, o);
-        if repeated(s, &st.listat[..i], &marks[..i], o, mark) {
-            return Some(o);
-        }
-        marks[i] = mark;
-        from = used;
+impl Sheet {
+    // The offset of row r, of at most 576.
+    #[tactic(auto, using(tonekit_bytes::proofs::Stepped::stepped_length))]
+    fn row_at(&self, r: usize) -> usize
+        requires { r ≤ 576 }
+        ensures { (result ≡ row_at (shown self.now) r) × (result ≤ 4000) }
+    {
+        layout::sheet_row_at(self.tones, self.accents, r)
     }
-    None
+}
+
+impl SheetView<'_> {
+    // Whether x is 0, or the number of one of the lists: in a sheet in order, of list x.
+    // Stays: beside tonekit_pack's `zero_or_held`, since it looks first where list x stands in a sheet in order; a pack's records have no such place.
+    #[tactic(auto, using(crate::proofs::Lists::there, tonekit_pack::proofs::Numbers::holds_found), unfolding(tonekit_pack::specs::Pack::zero_or_held))]
+    fn list_there(&self, x: u8) -> bool
+        ensures { result ≡ zero_or_held self.now.bytes.now (shown self.now.sheet).lists x }
+    {
+        if x == 0 {
+            return true;
+        }
+        let lists = self.sheet.lists.offsets();
+        let p = usize::from(x) - 1;
+        if p < lists.len() {
+            if byte_at(self.bytes, usize::from(lists[p]), layout::OWN_NUMBER) == x {
+                return true;
+            }
+        }
+        index_of(self.bytes, lists, x).is_some()
+    }
+
+    // The first row that names a list that is not there.
+    #[tactic(auto, using(tonekit_core::specs::Loop::to_again, tonekit_core::specs::Loop::to_ended), unfolding(tonekit_sheet::specs::Reader::loose_row))]
+    pub fn loose_row(&self) -> Option<usize>
+        ensures { result ≡ loose_row self.now.bytes.now (shown self.now.sheet) }
+    {
+        for r in 0..self.sheet.rows {
+            let o = self.sheet.row_at(r);
+            let not_final = self.list_there(byte_at(self.bytes, o, layout::SHEET_ROW_LIST));
+            let last = self.list_there(byte_at(self.bytes, o, layout::SHEET_ROW_FINAL_LIST));
+            if !(not_final & last) {
+                return Some(o);
+            }
+        }
+        None
+    }
+
+    // The first accent whose number is not above that of the one before it.
+    #[tactic(auto, using(tonekit_core::specs::Loop::to_again, tonekit_core::specs::Loop::to_ended, tonekit_bytes::proofs::Stepped::stepped_length, tonekit_bytes::proofs::Stepped::stepped_get), unfolding(tonekit_sheet::specs::Reader::accent_down))]
+    pub fn accent_down(&self) -> Option<usize>
+        ensures { result ≡ accent_down self.now.bytes.now (shown self.now.sheet) }
+    {
+        let mut before = 0;
+        for i in 0..self.sheet.accents {
+            let o = layout::sheet_accent_at(self.sheet.tones, i);
+            let n = byte_at(self.bytes, o, layout::OWN_NUMBER);
+            if !(before < n) {
+                return Some(o);
+            }
+            before = n;
+        }
+        None
+    }
+
+    // The number before a row's tone that is due at a place of prev: none, then the tones.
+    // Stays: beside the planner's `prev_at`, since a sheet's tones stand one behind the other and a pack's are held by offsets.
+    #[tactic(auto, using(crate::proofs::Rows::prev_some))]
+    fn prev_due(&self, p: usize) -> u8
+        requires { p ≤ self.now.sheet.tones }
+        ensures { result ≡ prev_due self.now.bytes.now (shown self.now.sheet) p }
+    {
+        if p == 0 {
+            return 0;
+        }
+        byte_at(self.bytes, layout::sheet_tone_at(p - 1), layout::OWN_NUMBER)
+    }
+
+    // Whether row r is the one due at its place.
+    #[tactic(auto, using(crate::proofs::Rows::row_due_at, crate::proofs::Rows::due_few, crate::proofs::Rows::a_tone, crate::proofs::Rows::places, tonekit_sheet::proofs::RowPlaces::each_few))]
+    fn row_due(&self, r: usize) -> bool
+        requires { r < rows_due (shown self.now.sheet) }
+        ensures { result ≡ row_due self.now.bytes.now (shown self.now.sheet) r }
+    {
+        let o = self.sheet.row_at(r);
+        let tones = self.sheet.tones;
+        let each = tones + 1;
+        let a = r / (tones * each);
+        let t = r / each % tones;
+        let p = r % each;
+        let accent_due = byte_at(
+            self.bytes,
+            layout::sheet_accent_at(tones, a),
+            layout::OWN_NUMBER,
+        );
+        let tone_due = byte_at(self.bytes, layout::sheet_tone_at(t), layout::OWN_NUMBER);
+        let accent = byte_at(self.bytes, o, layout::SHEET_ROW_ACCENT) == accent_due;
+        let tone = byte_at(self.bytes, o, layout::SHEET_ROW_TONE) == tone_due;
+        accent & (tone & (byte_at(self.bytes, o, layout::SHEET_ROW_PREV) == self.prev_due(p)))
+    }
+
+    // Whether row r names no list above 1 more than the greatest before it.
+    #[tactic(auto, unfolding(tonekit_sheet::specs::Reader::row_names))]
+    fn row_names(&self, r: usize, m: u8) -> bool
+        requires { r ≤ 576 }
+        ensures { result ≡ row_names self.now.bytes.now (shown self.now.sheet) r m }
+    {
+        let o = self.sheet.row_at(r);
+        let n = byte_at(self.bytes, o, layout::SHEET_ROW_LIST);
+        let last = byte_at(self.bytes, o, layout::SHEET_ROW_FINAL_LIST);
+        (usize::from(n) <= usize::from(m) + 1) & (usize::from(last) <= usize::from(m.max(n)) + 1)
+    }
+
+    // The first row that is not the one due, or names a list out of order. All rows are there.
+    #[tactic(auto, using(tonekit_core::specs::Loop::to_again, tonekit_core::specs::Loop::to_ended), unfolding(tonekit_sheet::specs::Reader::row_wrong))]
+    pub fn row_wrong(&self) -> Option<usize>
+        requires { self.now.sheet.rows ≤ rows_due (shown self.now.sheet) }
+        ensures { result ≡ row_wrong self.now.bytes.now (shown self.now.sheet) }
+    {
+        let mut m = 0;
+        for r in 0..self.sheet.rows {
+            let o = self.sheet.row_at(r);
+            if !(self.row_due(r) & self.row_names(r, m)) {
+                return Some(o);
+            }
+            m = m
+                .max(byte_at(self.bytes, o, layout::SHEET_ROW_LIST))
+                .max(byte_at(self.bytes, o, layout::SHEET_ROW_FINAL_LIST));
+        }
+        None
+    }
+
+    // The first row from a row on that names list n.
+    #[tactic(auto, using(tonekit_core::specs::Loop::again, tonekit_core::specs::Loop::ended, crate::proofs::Loops::settled))]
+    fn use_from(&self, n: usize, from: usize) -> Option<usize>
+        requires { from ≤ self.now.sheet.rows }
+        ensures { IfSome result (λ r. r < self.now.sheet.rows)
+            × (is_some result ≡ range (names_turn self.now.bytes.now (shown self.now.sheet) n) from self.now.sheet.rows false) }
+    {
+        for r in from..self.sheet.rows {
+            let o = self.sheet.row_at(r);
+            let first = usize::from(byte_at(self.bytes, o, layout::SHEET_ROW_LIST)) == n;
+            let last = usize::from(byte_at(self.bytes, o, layout::SHEET_ROW_FINAL_LIST)) == n;
+            if first | last {
+                return Some(r);
+            }
+        }
+        None
+    }
+
+    // A row that names list n: the first from a row on, else the first of all. Lists are numbered by
+    // first use, so list n is first named at or behind list n - 1.
+    #[tactic(auto, using(crate::proofs::Loops::found_before), unfolding(tonekit_sheet::specs::Reader::named))]
+    fn use_of(&self, n: usize, from: usize) -> Option<usize>
+        requires { from ≤ self.now.sheet.rows }
+        ensures { IfSome result (λ r. r < self.now.sheet.rows)
+            × (is_some result ≡ named self.now.bytes.now (shown self.now.sheet) n) }
+    {
+        let r = self.use_from(n, from);
+        if r.is_some() {
+            return r;
+        }
+        self.use_from(n, 0)
+    }
+
+    // The first list that has not its place as its number, is named by no row, or is equal to an
+    // earlier one.
+    pub fn list_wrong(&self) -> Option<usize>
+        ensures { result ≡ list_wrong self.now.bytes.now (shown self.now.sheet) }
+    {
+        let lists = self.sheet.lists.offsets();
+        let mut marks: ArrayVec<u32, 128> = ArrayVec::new();
+        let mut from = 0;
+        for (i, at) in lists.iter().enumerate() {
+            let o = usize::from(*at);
+            if usize::from(byte_at(self.bytes, o, layout::OWN_NUMBER)) != i + 1 {
+                return Some(o);
+            }
+            let Some(used) = self.use_of(i + 1, from) else {
+                return Some(o);
+            };
+            let mark = mark_at(self.bytes, o);
+            if repeated(self.bytes, &lists[..i], marks.as_slice(), o, mark) {
+                return Some(o);
+            }
+            marks.push(mark);
+            from = used;
+        }
+        None
+    }
 }

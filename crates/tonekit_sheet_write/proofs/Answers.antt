@@ -7,18 +7,19 @@ use Rattle.tonekit_core.specs.Calls as calls
 use Rattle.tonekit_pack.specs.Pack.{load_pack}
 use Rattle.tonekit_pack.specs.Held.{shown, answered}
 use Rattle.tonekit_pack.specs.declared.Loaded.{Loaded}
+use Rattle.tonekit_pack.specs.declared.Pack.{Pack}
 use Rattle.tonekit_pack.proofs.Single.{loads_alone}
 use Rattle.tonekit_expect.specs.Source.{source_of_pack}
 use Rattle.tonekit_sheet.specs.Sheet.{sheet}
-use Rattle.tonekit_sheet_plan.specs.Listings.{Reads}
+use Rattle.tonekit_sheet_plan.specs.Rows.{Reads}
 use Rattle.tonekit_sheet_write.specs.Outcome.{sheet_outcome}
 
-module _ (s : List ℕ) (r : Result Loaded Rejection) (h : answered r ≡ load_pack s) where
-  module _ (l : Loaded) (g : r ≡ Ok l) where
-    pub reads : Reads s (shown l.pack)
-    reads = record { end = l.end; loads = (loads_alone s (shown l.pack) l.end (sym h ∙ ap answered g)).0 }
+module _ (s : List ℕ) (r : Result (Loaded Pack) Rejection) (h : answered r ≡ load_pack s) where
+  module _ (l : Loaded Pack) (g : r ≡ Ok l) where
+    pub reads : Reads s (shown l.held)
+    reads = let e = (loads_alone s (shown l.held) l.end (sym h ∙ ap answered g)).0 in record { loads = rw e }
 
-    pub is-written : written (sheet (source_of_pack s (shown l.pack))) ≡ sheet_outcome s
+    pub is-written : written (sheet (source_of_pack s (shown l.held))) ≡ sheet_outcome s
     unfolding sheet_outcome
     is-written = rw (← h, g)
 

@@ -1,47 +1,55 @@
 -- The pieces of a pack's sheet: from what each is written, and how long it is. Assumes nothing.
-use Rattle.std.proofs.Common.{ℕ, zero, suc, ◌+◌, ◌-◌, ◌*◌, ◌≤◌, ◌<◌, ◌≡◌, refl, sym, ◌∙◌, ap, ap₂, subst, List, [], ◌∷◌, ◌++◌, map, append_assoc, append-nil, arith, add-zero, zero-add, Float, to_bits, length, get_or, take, drop, length-append}
+use Rattle.std.proofs.Common.{ℕ, zero, suc, ◌+◌, ◌-◌, ◌*◌, ◌≤◌, ◌<◌, ◌≡◌, refl, sym, ◌∙◌, ap, ap₂, subst, true, false, List, [], ◌∷◌, ◌++◌, map, append_assoc, append-nil, arith, add-zero, zero-add, Float, to_bits, length, get_or, take, drop, length-append}
 use lib.Ieee.{binary32}
 use lib.ListN.{length-map}
 use lib.Seq.{sets, length-sets}
 use Rattle.tonekit_core.specs.Layout.{sheet_list_kind, sheet_list_size, sheet_component_size}
 use Rattle.tonekit_bytes.specs.Fields.{le16, f32_bytes, f32s_bytes}
 use Rattle.tonekit_bytes.proofs.Write.{part_put}
-use Rattle.tonekit_pack.specs.Held.{in_order, shown}
+use Rattle.tonekit_pack.specs.Held.{shown}
 use Rattle.tonekit_pack.specs.declared.Pack.{Pack}
-use Rattle.tonekit_pack.proofs.InOrder.{order_length, order_get}
 use Rattle.tonekit_expect.specs.Lookup.{Look, component_of}
-use Rattle.tonekit_expect.specs.Source.{Tone, Accent, Carried, carried, components, given, tone_at, accent_at}
+use Rattle.tonekit_expect.specs.Source.{Tone, Accent, Carried, carried, components, given}
 use Rattle.tonekit_expect.specs.declared.Component.{Component}
 use Rattle.tonekit_expect.specs.declared.Context.{Context}
 use Rattle.tonekit_expect.specs.declared.Listing.{Listing}
 use Rattle.tonekit_expect.proofs.Carried.{named, components_length, components_at}
 use Rattle.tonekit_sheet.specs.Gather.{pieces, gather, gather_length, Wrote}
 use Rattle.tonekit_sheet.specs.Number.{number_in}
-use Rattle.tonekit_sheet.specs.Sheet.{no_tone, no_accent, no_carried, tone_bytes, accent_bytes, row_bytes, row_context, bits_bytes, component_bytes, components_bytes, list_bytes, tone_piece, row_piece}
-use Rattle.tonekit_sheet_plan.specs.declared.order.Sorted.{Sorted}
-use Rattle.tonekit_sheet_plan.specs.declared.Plan.{Plan}
-use Rattle.tonekit_sheet_plan.specs.Rows.{pack_view, tones_of, accents_of, Ordered}
+use Rattle.tonekit_sheet.specs.Sheet.{no_carried, row_bytes, row_context, bits_bytes, component_bytes, components_bytes, list_bytes, row_piece}
+use Rattle.tonekit_sheet_plan.specs.declared.Entry.{Entry}
+use Rattle.tonekit_sheet_plan.specs.Rows.{pack_view, tones_of, accents_at, Ordered}
 use Rattle.tonekit_sheet_plan.specs.Listings.{carried_by, Kept}
-use Rattle.tonekit_sheet_plan.specs.Plans.{list_at, ListsFine}
+use Rattle.tonekit_sheet_plan.specs.Entries.{list_at, planned}
 use Rattle.tonekit_sheet_plan.proofs.Ascend.{map_get}
 use Rattle.tonekit_sheet_plan.proofs.Alike.{points_ten}
 use Rattle.tonekit_sheet_plan.proofs.Memo.{planned_get}
 use Rattle.tonekit_sheet_plan.proofs.Views.{view_tones, view_sorted}
-use Rattle.tonekit_sheet_write.specs.Pieces.{head_of, component_piece, sorted_piece, planned_list, components_part}
+use Rattle.tonekit_sheet_write.specs.Pieces.{head_of, component_piece, planned_list, components_part}
 
 -- bytes written to the start of a part are written at its place
 pub wrote_part : (bs l ys : List ℕ) (at r : ℕ) → at + length bs ≤ length l → r ≡ at + length bs → ys ≡ sets (take (length l - at) (drop at l)) 0 bs
     → Wrote bs at l (take at l ++ (ys ++ drop (length l - at) (drop at l))) r
 wrote_part bs l ys at r h p e = record { place = p; same = part_put bs l ys at h e }
 
--- ---- tones and accents, by their offsets
-pub tone_piece_lem : (s : List ℕ) (p : Pack) (i : ℕ) → i < p.tones → tone_piece (pack_view s (shown p)) i ≡ tone_bytes (tone_at s (get_or p.toneat i 0))
-tone_piece_lem s p i h =
-    rw (view_tones s (shown p), map_get (tone_at s) (in_order p.toneat p.tones) i no_tone (rw (order_length p.toneat p.tones) h), order_get p.toneat p.tones i h)
+-- ---- pieces that are the same, one by one
+module _ (f g : ℕ → List ℕ) where
+  pieces_same : (k i : ℕ) → ((j : ℕ) → j < i + k → f j ≡ g j) → pieces f k i ≡ pieces g k i
+  unfolding pieces
+  pieces_same zero i h = refl
+  pieces_same (suc k) i h = ap₂ (λ (x y : List ℕ). x ++ y) (h i (omega arith)) (pieces_same k (i + 1) (λ j l. h j (omega arith)))
 
-pub accent_piece_lem : (s : List ℕ) (a : Sorted) (i : ℕ) → i < a.count → sorted_piece s a i ≡ accent_bytes (accent_at s (get_or a.at i 0))
-accent_piece_lem s a i h =
-    rw (map_get (accent_at s) (in_order a.at a.count) i no_accent (rw (order_length a.at a.count) h), order_get a.at a.count i h)
+  pub gather_same : (n : ℕ) → ((j : ℕ) → j < n → f j ≡ g j) → gather f 0 n ≡ gather g 0 n
+  unfolding gather
+  gather_same n h = pieces_same (n - 0) 0 (λ j l. h j (omega arith))
+
+-- those of tones and accents, by their offsets
+module _ {A : Type 0} (of : ℕ → A) (none : A) (bytes : A → List ℕ) (os : List ℕ) where
+  pub made_is : {xs : List A} → xs ≡ map of os → gather (λ i. bytes (get_or xs i none)) 0 (length xs) ≡ gather (λ i. bytes (of (get_or os i 0))) 0 (length os)
+  made_is {xs} e =
+      ap (λ (ys : List A). gather (λ i. bytes (get_or ys i none)) 0 (length ys)) e
+      ∙ ap (gather (λ i. bytes (get_or (map of os) i none)) 0) (length-map os of)
+      ∙ gather_same (λ i. bytes (get_or (map of os) i none)) (λ i. bytes (of (get_or os i 0))) (length os) (λ j h. ap bytes (map_get of os j none h))
 
 -- ---- components
 pub bits_floats : (xs : List Float) → f32s_bytes xs ≡ bits_bytes (map (to_bits binary32) xs)
@@ -105,16 +113,18 @@ head_is : (s : List ℕ) (l : Listing) (n : ℕ) → Kept s l → (sheet_list_ki
 head_is s l n k =
     rw (components_at s l no_carried l.count 0 k.some, (named s l 0).owner, (named s l 0).form, (named s l 0).label, components_length s l l.count)
 
-module _ (s : List ℕ) (plan : Plan) (i : ℕ) (h : i < plan.count) (k : Kept s (list_at s plan.lists i)) where
-  list_piece_lem : planned_list s plan i ≡ head_of (i + 1) (list_at s plan.lists i) ++ components_part s (list_at s plan.lists i)
-  list_piece_lem =
-      ap (list_bytes (i + 1)) (planned_get s plan.lists plan.count i h)
-      ∙ ap₂ (λ (a b : List ℕ). a ++ b) (head_is s (list_at s plan.lists i) (i + 1) k) (components_gather s (list_at s plan.lists i))
+-- list i, from its listing
+module _ (s : List ℕ) (lists : List Entry) (i : ℕ) (h : i < length lists) {l : Listing} (e : l ≡ list_at s lists i) (k : Kept s l) where
+  pub list_is : head_of (i + 1) l ++ components_part s l ≡ planned_list (planned s lists) i
+  list_is =
+      sym (ap (list_bytes (i + 1)) (planned_get s lists i h ∙ ap (carried_by s) (sym e))
+      ∙ ap₂ (λ (a b : List ℕ). a ++ b) (head_is s l (i + 1) k) (components_gather s l))
 
-  list_length : sheet_list_size + sheet_component_size * (list_at s plan.lists i).count ≡ length (planned_list s plan i)
-  list_length =
-      let l = list_at s plan.lists i in
-      omega (arith, ap length list_piece_lem, length-append (head_of (i + 1) l) (components_part s l), components_size s l)
+  pub list_size_lem : sheet_list_size + sheet_component_size * l.count ≡ length (planned_list (planned s lists) i)
+  list_size_lem = omega (arith, ap length list_is, length-append (head_of (i + 1) l) (components_part s l), components_size s l)
+
+  pub list_room : (at m : ℕ) → at + length (planned_list (planned s lists) i) ≤ m → at + length (head_of (i + 1) l ++ components_part s l) ≤ m
+  list_room at m r = omega (arith, r, ap length list_is)
 
 -- ---- what was written, under another name
 pub wrote_as : {a b : List ℕ} {at r : ℕ} {l m : List ℕ} → a ≡ b → Wrote a at l m r → Wrote b at l m r
@@ -123,29 +133,15 @@ wrote_as {a} {b} {at} {r} {l} {m} e w = subst (λ (x : List ℕ). Wrote x at l m
 pub wrote_size : {a : List ℕ} {at r : ℕ} {l m : List ℕ} → Wrote a at l m r → length m ≡ length l
 wrote_size {a} {at} {r} {l} {m} w = ap length w.same ∙ length-sets l at a
 
--- list i, from its listing
-module _ (s : List ℕ) (plan : Plan) (g : ListsFine s plan.lists plan.count) (i : ℕ) (h : i < plan.count) {l : Listing} (e : l ≡ list_at s plan.lists i) where
-  pub list_kept : Kept s l
-  list_kept = rw e (g.each i h).kept
-
-  pub list_is : head_of (i + 1) l ++ components_part s l ≡ planned_list s plan i
-  list_is = rw e (sym (list_piece_lem s plan i h (g.each i h).kept))
-
-  pub list_size_lem : sheet_list_size + sheet_component_size * l.count ≡ length (planned_list s plan i)
-  list_size_lem = rw e (list_length s plan i h (g.each i h).kept)
-
-  pub list_room : (at m : ℕ) → at + length (planned_list s plan i) ≤ m → at + length (head_of (i + 1) l ++ components_part s l) ≤ m
-  list_room at m r = omega (arith, r, ap length list_is)
-
 -- ---- a row
-module _ (s : List ℕ) (p : Pack) (a : Sorted) (lists : List (List Carried)) (r : ℕ) (o : Ordered s (shown p) a) where
-  pub row_is : {c : Context} {n m : ℕ} (x y : Look) → c ≡ row_context (tones_of s (shown p)) (accents_of s a) r 0
-      → n ≡ number_in lists (given s x) → given s x ≡ (pack_view s (shown p)).row r 0
-      → m ≡ number_in lists (given s y) → given s y ≡ (pack_view s (shown p)).row r 1
+module _ (s : List ℕ) (p : Pack) (os : List ℕ) (lists : List (List Carried)) (r : ℕ) (o : Ordered s (shown p) os) where
+  pub row_is : {c : Context} {n m : ℕ} (x y : Look) → c ≡ row_context (tones_of s (shown p)) (accents_at s os) r false
+      → n ≡ number_in lists (given s x) → given s x ≡ (pack_view s (shown p)).row r false
+      → m ≡ number_in lists (given s y) → given s y ≡ (pack_view s (shown p)).row r true
       → row_bytes c n m ≡ row_piece (pack_view s (shown p)) lists r
   row_is {c} {n} {m} x y ec en ex em ey =
       let v = pack_view s (shown p) in
-      let f : c ≡ row_context v.tones v.accents r 0 = ec ∙ ap₂ (λ (ts : List Tone) (xs : List Accent). row_context ts xs r 0) (sym (view_tones s (shown p))) (sym (view_sorted s (shown p) a o)) in
-      let g : n ≡ number_in lists (v.row r 0) = en ∙ ap (number_in lists) ex in
-      let h : m ≡ number_in lists (v.row r 1) = em ∙ ap (number_in lists) ey in
+      let f : c ≡ row_context v.tones v.accents r false = ec ∙ ap₂ (λ (ts : List Tone) (xs : List Accent). row_context ts xs r false) (sym (view_tones s (shown p))) (sym (view_sorted s (shown p) os o)) in
+      let g : n ≡ number_in lists (v.row r false) = en ∙ ap (number_in lists) ex in
+      let h : m ≡ number_in lists (v.row r true) = em ∙ ap (number_in lists) ey in
       rw (f, g, h)

@@ -1,3 +1,4 @@
 pub mod Pieces
+pub mod Drafts
 pub mod Outcome
 pub mod Bench

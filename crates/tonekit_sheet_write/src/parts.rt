@@ -1,138 +1,85 @@
 // The parts of a sheet, each written at a place of what is lent: where the next begins is answered.
 ghost use Rattle.std.specs.Prelude.{[], ◌∷◌, ◌+◌, ◌≤◌, ◌<◌, length};
-ghost use Rattle.tonekit_core.specs.Layout.{settings_size, sheet_tone_size, sheet_accent_size, sheet_row_size};
-ghost use Rattle.tonekit_core.specs.Layout.{sheet_list_size, sheet_component_size, sheet_end_kind, sheet_end_size};
-ghost use Rattle.tonekit_expect.specs.Source.{settings_at, tone_at, accent_at};
+ghost use Rattle.tonekit_core.specs.Layout.{sheet_row_size, sheet_list_size, sheet_component_size};
+ghost use Rattle.tonekit_core.specs.Layout.{sheet_end_kind, sheet_end_size};
 ghost use Rattle.tonekit_sheet.specs.Gather.{Wrote};
-ghost use Rattle.tonekit_sheet.specs.Sheet.{settings_bytes, tone_bytes, accent_bytes};
-ghost use Rattle.tonekit_sheet_plan.specs.Listings.{Kept};
-ghost use Rattle.tonekit_sheet_plan.specs.Plans.{ListsFine};
-ghost use Rattle.tonekit_sheet_write.specs.Pieces.{Planned, Lent, head_of, component_piece, planned_row};
-ghost use Rattle.tonekit_sheet_write.specs.Pieces.{planned_list, tones_part, accents_part, rows_part};
-ghost use Rattle.tonekit_sheet_write.specs.Pieces.{lists_part, components_part};
+ghost use Rattle.tonekit_sheet_plan.specs.Plans.{planned_by};
+ghost use Rattle.tonekit_sheet_write.specs.Pieces.{Lent, head_of, component_piece, planned_list};
+ghost use Rattle.tonekit_sheet_write.specs.Pieces.{records_part, lists_part, components_part};
+ghost use Rattle.tonekit_sheet_write.specs.Drafts.{row_of, rows_of};
 
-use crate::records::{
-    accent_at, put_accent, put_component, put_head, put_row, put_settings, put_tone, tone_at,
-};
-use tonekit_bytes::u32_at;
+use crate::draft::Draft;
+use crate::records::{Record, put_component, put_head, put_row};
 use tonekit_core::layout;
-use tonekit_expect::{Listing, component_at};
-use tonekit_pack::Pack;
-use tonekit_sheet_plan::rows::{row_context, row_count};
-use tonekit_sheet_plan::{Plan, Sorted, look_row};
+use tonekit_expect::Listing;
+use tonekit_sheet::row_count;
+use tonekit_sheet_plan::{Curves, Plan};
 
-// The settings of a pack.
-pub fn write_settings(s: &[u8], out: &mut [u8], at: usize) -> usize
-    requires { at + settings_size ≤ length out.old }
-    ensures { Wrote (settings_bytes (settings_at s.now 0)) at out.old out.new result }
+// The record that is made of the pack's at o.
+// Stays: where it is read and where it goes are apart, and what is lent begins behind the record before; a struct of both would be made anew for each.
+pub fn write_record<R: Record>(s: &[u8], o: usize, out: &mut [u8], at: usize) -> usize
+    requires { Lent (R.made s.now o) at out.old }
+    ensures { Wrote (R.made s.now o) at out.old out.new result }
 {
-    let temperature = u32_at(s, 0, layout::SETTINGS_TEMPERATURE);
-    let threshold = u32_at(s, 0, layout::SETTINGS_THRESHOLD);
-    put_settings(&mut out[at..], temperature, threshold);
-    at + layout::SETTINGS_SIZE
+    at + R::put(s, o, &mut out[at..])
 }
 
-// The tone whose record in the pack stands at o.
-// Stays: it differs from `write_accent` in what is read, what is written and how long that is, which is all that it says.
-fn write_tone(s: &[u8], o: usize, out: &mut [u8], at: usize) -> usize
-    requires { at + sheet_tone_size ≤ length out.old }
-    ensures { Wrote (tone_bytes (tone_at s.now o)) at out.old out.new result }
+// The records that are made of the pack's at these offsets.
+// Stays: this loop, and one each for rows, components and lists, of five lines each. One for all would take a trait of numbered parts (two ghosts, how many there are, and the call that writes one), itself, and four impls of eight lines or more, one of them for a struct of a pack's bytes and offsets.
+pub fn write_records<R: Record>(s: &[u8], offsets: &[u16], out: &mut [u8], at: usize) -> usize
+    requires { Lent (records_part R.made s.now offsets.now) at out.old }
+    ensures { Wrote (records_part R.made s.now offsets.now) at out.old out.new result }
 {
-    put_tone(&mut out[at..], tone_at(s, o));
-    at + layout::SHEET_TONE_SIZE
-}
-
-// All tones, in pack order.
-// Stays: five loops, since one over a closure would have to name each piece's bytes in its contract, and no parameter can hold them.
-pub fn write_tones(s: &[u8], p: Pack, out: &mut [u8], at: usize) -> usize
-    requires { Lent (tones_part s.now p) at out.old }
-    ensures { Wrote (tones_part s.now p) at out.old out.new result }
-{
-    let mut o = at;
-    for tone in &p.toneat[..p.tones] {
-        o = write_tone(s, usize::from(*tone), out, o);
+    let mut next = at;
+    for o in offsets {
+        next = write_record::<R>(s, usize::from(*o), out, next);
     }
-    o
-}
-
-// The accent whose record in the pack stands at o.
-// Stays: see `write_tone`.
-fn write_accent(s: &[u8], o: usize, out: &mut [u8], at: usize) -> usize
-    requires { at + sheet_accent_size ≤ length out.old }
-    ensures { Wrote (accent_bytes (accent_at s.now o)) at out.old out.new result }
-{
-    put_accent(&mut out[at..], accent_at(s, o));
-    at + layout::SHEET_ACCENT_SIZE
-}
-
-// All accents, ascending.
-// Stays: see `write_tones`.
-pub fn write_accents(s: &[u8], a: Sorted, out: &mut [u8], at: usize) -> usize
-    requires { Lent (accents_part s.now a) at out.old }
-    ensures { Wrote (accents_part s.now a) at out.old out.new result }
-{
-    let mut o = at;
-    for accent in &a.at[..a.count] {
-        o = write_accent(s, usize::from(*accent), out, o);
-    }
-    o
+    next
 }
 
 // Row r: its context, and the numbers of what its two lookups give.
-fn write_row(
-    s: &[u8],
-    p: Pack,
-    a: Sorted,
-    plan: &Plan,
-    r: usize,
-    out: &mut [u8],
-    at: usize,
-) -> usize
-    requires { Planned s.now p a plan.now × (at + sheet_row_size ≤ length out.old) }
-    ensures { Wrote (planned_row s.now p plan.now r) at
-        out.old out.new result }
+fn write_row(d: &Draft<'_>, r: usize, out: &mut [u8], at: usize) -> usize
+    requires { at + sheet_row_size ≤ length out.old }
+    ensures { Wrote (row_of d.now r) at out.old out.new result }
 {
-    let c = row_context(s, p, a, r, 0);
-    let first = plan.number_of(s, look_row(s, p, a, r, 0));
-    let second = plan.number_of(s, look_row(s, p, a, r, 1));
+    let c = d.rows.context(r, false);
+    let first = d.plan.number_of(d.rows.look(r, false));
+    let second = d.plan.number_of(d.rows.look(r, true));
     put_row(&mut out[at..], c, first, second);
     at + layout::SHEET_ROW_SIZE
 }
 
 // All rows.
-// Stays: see `write_tones`.
-pub fn write_rows(s: &[u8], p: Pack, a: Sorted, plan: &Plan, out: &mut [u8], at: usize) -> usize
-    requires { Planned s.now p a plan.now
-        × Lent (rows_part s.now p a plan.now) at out.old }
-    ensures { Wrote (rows_part s.now p a plan.now) at
-        out.old out.new result }
+// Stays: a row is made of its number, not of a record of the pack; see `write_records`.
+pub fn write_rows(d: &Draft<'_>, out: &mut [u8], at: usize) -> usize
+    requires { Lent (rows_of d.now) at out.old }
+    ensures { Wrote (rows_of d.now) at out.old out.new result }
 {
     let mut o = at;
-    for i in 0..row_count(a.count, p.tones) {
-        o = write_row(s, p, a, plan, i, out, o);
+    for i in 0..row_count(d.rows.accents.count, d.rows.view.pack.tones.count) {
+        o = write_row(d, i, out, o);
     }
     o
 }
 
-// Component j of a listing.
-fn write_component(s: &[u8], l: Listing, j: usize, out: &mut [u8], at: usize) -> usize
-    requires { Kept s.now l × (j < l.count) × (at + sheet_component_size ≤ length out.old) }
-    ensures { Wrote (component_piece s.now l j) at out.old out.new result }
+// Component j of these curves.
+fn write_component(c: Curves<'_>, j: usize, out: &mut [u8], at: usize) -> usize
+    requires { (j < c.listing.count) × (at + sheet_component_size ≤ length out.old) }
+    ensures { Wrote (component_piece c.entry.bytes.now c.entry.listing j) at out.old out.new result }
 {
-    let c = component_at(s, l, j);
-    put_component(&mut out[at..], c);
+    put_component(&mut out[at..], c.component(j));
     at + layout::SHEET_COMPONENT_SIZE
 }
 
-// All components of a listing.
-// Stays: see `write_tones`.
-fn write_components(s: &[u8], l: Listing, out: &mut [u8], at: usize) -> usize
-    requires { Kept s.now l × Lent (components_part s.now l) at out.old }
-    ensures { Wrote (components_part s.now l) at out.old out.new result }
+// All components of these curves.
+// Stays: a component is drawn by its number, and none is held; see `write_records`.
+fn write_components(c: Curves<'_>, out: &mut [u8], at: usize) -> usize
+    requires { Lent (components_part c.bytes.now c.listing) at out.old }
+    ensures { Wrote (components_part c.entry.bytes.now c.entry.listing) at out.old out.new result }
 {
     let mut o = at;
-    for j in 0..l.count {
-        o = write_component(s, l, j, out, o);
+    for j in 0..c.listing.count {
+        o = write_component(c, j, out, o);
     }
     o
 }
@@ -147,24 +94,24 @@ fn write_head(l: Listing, i: usize, out: &mut [u8], at: usize) -> usize
 }
 
 // List i with its components.
-fn write_list(s: &[u8], plan: &Plan, i: usize, out: &mut [u8], at: usize) -> usize
-    requires { ListsFine s.now plan.now.lists plan.now.count × (i < plan.now.count) × Lent (planned_list s.now plan.now i) at out.old }
-    ensures { Wrote (planned_list s.now plan.now i) at out.old out.new result }
+fn write_list(plan: &Plan<'_>, i: usize, out: &mut [u8], at: usize) -> usize
+    requires { (i < length plan.now.lists.items) × (i < 128) × Lent (planned_list (planned_by plan.now) i) at out.old }
+    ensures { Wrote (planned_list (planned_by plan.now) i) at out.old out.new result }
 {
-    let l = plan.list_at(s, i);
-    let o = write_head(l, i, out, at);
-    write_components(s, l, out, o)
+    let c = plan.curves(i);
+    let o = write_head(c.listing, i, out, at);
+    write_components(c, out, o)
 }
 
 // All lists, by number.
-// Stays: see `write_tones`.
-pub fn write_lists(s: &[u8], plan: &Plan, out: &mut [u8], at: usize) -> usize
-    requires { ListsFine s.now plan.now.lists plan.now.count × Lent (lists_part s.now plan.now) at out.old }
-    ensures { Wrote (lists_part s.now plan.now) at out.old out.new result }
+// Stays: a list's number is its place, which is written beside it; see `write_records`.
+pub fn write_lists(plan: &Plan<'_>, out: &mut [u8], at: usize) -> usize
+    requires { Lent (lists_part (planned_by plan.now)) at out.old }
+    ensures { Wrote (lists_part (planned_by plan.now)) at out.old out.new result }
 {
     let mut o = at;
-    for i in 0..plan.count {
-        o = write_list(s, plan, i, out, o);
+    for i in 0..plan.lists.len() {
+        o = write_list(plan, i, out, o);
     }
     o
 }

@@ -1,5 +1,5 @@
 -- A judgement depends on nothing but settings, tones, the graded accent's tolerances and the inventory's listings. Assumes nothing.
-use Rattle.std.proofs.Common.{ℕ, zero, suc, ◌≤◌, ◌<◌, ◌≡◌, refl, sym, ◌∙◌, ap, ◌⊎◌, inl, inr, Bool, true, false, ◌||◌, List, [], ◌∷◌, le_of_suc-le-suc, not-suc-le-zero, arith, eqb, ltb, eq-eqb, eqb-true, length, get_or}
+use Rattle.std.proofs.Common.{ℕ, zero, suc, ◌<◌, ◌≡◌, refl, sym, ◌∙◌, ap, ◌⊎◌, inl, inr, Bool, true, false, ◌||◌, List, [], ◌∷◌, le_of_suc-le-suc, not-suc-le-zero, arith, eqb, ltb, eq-eqb, eqb-true, length, get_or}
 use mathlib.Core.Option.{Option, none, some}
 use Rattle.tonekit_core.specs.Loop.{range}
 use Rattle.tonekit_core.proofs.LoopLaws.{range_same}
@@ -8,13 +8,12 @@ use Rattle.tonekit_query.specs.declared.Query.{Query}
 use Rattle.std.specs.Prelude.{Some, None, Result, Ok, Err}
 use Rattle.tonekit_core.specs.declared.Rejection.{Rejection}
 use Rattle.tonekit_score.specs.declared.Tolerance.{Tolerance}
-use Rattle.tonekit_query.proofs.Laws.{load_reads, read_holds}
 use Rattle.tonekit_core.proofs.Split.{split}
 use Rattle.tonekit_expect.specs.Source.{Tone, Accent, Carried, Source, accent_in, tone_in}
 use Rattle.tonekit_expect.specs.declared.Context.{Context}
 use Rattle.tonekit_shape.specs.Extract.{extent_of}
 use Rattle.tonekit_sheet.specs.Agree.{Held, Agree}
-use Rattle.tonekit_judge.specs.Judge.{Listed}
+use Rattle.tonekit_judge.specs.Judge.{Listings}
 use Rattle.tonekit_inventory.specs.Gather.{Gathering, no_tone, nothing_yet, in_context, given_of, slotted, list_tone, listings, graded_of, tolerance_of, gathered}
 use Rattle.tonekit_station.specs.Judgement.{context_of, query_verdict, judge_gathered, on_query, judgement}
 
@@ -58,18 +57,18 @@ module _ (src : Source) (c : Context) where
 
 module _ (a b : Source) (agree : Agree a b) where
   -- what a context gathers
-  module _ (c : Context) (x : Accent) (accent : accent_in a.accents c.accent ≡ some x) (prev : (eqb c.prev 0 || tone_in a.tones c.prev) ≡ true) (last : c.last ≤ 1) where
-    turn_same : (t : ℕ) (l : Listed) → t < length a.tones → list_tone a c t l ≡ list_tone b c t l
+  module _ (c : Context) (x : Accent) (accent : accent_in a.accents c.accent ≡ some x) (prev : (eqb c.prev 0 || tone_in a.tones c.prev) ≡ true) where
+    turn_same : (t : ℕ) (l : Listings) → t < length a.tones → list_tone a c t l ≡ list_tone b c t l
     turn_same t l h =
         let tone = get_or a.tones t no_tone in
-        let asks : Held a (in_context c tone.number) = record { accent = (x, accent); tone = tone_at_lem a.tones t h; prev = prev_held a.tones c.prev prev; final = last } in
+        let asks : Held a (in_context c tone.number) = record { accent = (x, accent); tone = tone_at_lem a.tones t h; prev = prev_held a.tones c.prev prev } in
         rw (← agree.tones) (ap (λ (k : Option (List Carried)). slotted t tone (given_of k) l) (agree.lookups (in_context c tone.number) asks))
 
     listings_same : listings a c ≡ listings b c
     unfolding listings
     listings_same =
-        range_same (list_tone a c) (list_tone b c) 0 (length a.tones) (nothing_yet (length a.tones)) (omega arith) turn_same
-        ∙ ap (λ (n : ℕ). range (list_tone b c) 0 n (nothing_yet n)) (ap length agree.tones)
+        range_same (list_tone a c) (list_tone b c) 0 (length a.tones) nothing_yet (omega arith) turn_same
+        ∙ ap (λ (n : ℕ). range (list_tone b c) 0 n nothing_yet) (ap length agree.tones)
 
     gathers_same : gathered a c ≡ gathered b c
     unfolding gathered
@@ -79,19 +78,19 @@ module _ (a b : Source) (agree : Agree a b) where
   prev_same c = rw agree.tones
 
   -- a query that loads
-  judged_same : (s : List ℕ) (q : Query) → q.last ≤ 1 → (x : Option Accent) → accent_in a.accents q.accent ≡ x
+  judged_same : (s : List ℕ) (q : Query) → (x : Option Accent) → accent_in a.accents q.accent ≡ x
       → judge_gathered (gathered a (context_of q)) s q ≡ judge_gathered (gathered b (context_of q)) s q
-  judged_same s q last none h =
+  judged_same s q none h =
       unheld (gathered a (context_of q)) (gathered b (context_of q)) s q (accent_is a (context_of q) none h) (accent_is b (context_of q) none (sym (agree.accents q.accent) ∙ h))
-  judged_same s q last (some x) h =
+  judged_same s q (some x) h =
       let c = context_of q in
       split (eqb q.prev 0 || tone_in a.tones q.prev)
-      (λ t. ap (λ (g : Gathering). judge_gathered g s q) (gathers_same c x h t last))
+      (λ t. ap (λ (g : Gathering). judge_gathered g s q) (gathers_same c x h t))
       (λ f. unheld_prev (gathered a c) (gathered b c) s q (tolerance_of x) (accent_is a c (some x) h) (accent_is b c (some x) (sym (agree.accents q.accent) ∙ h)) (prev_is a c false f) (prev_is b c false (sym (prev_same c) ∙ f)))
 
   read_same : (s : List ℕ) (r : Result Query Rejection) → load_query s ≡ r → on_query a s r ≡ on_query b s r
   read_same s (Err r) e = refl
-  read_same s (Ok q) e = judged_same s q (read_holds s q (load_reads s q e)).last (accent_in a.accents q.accent) refl
+  read_same s (Ok q) e = judged_same s q (accent_in a.accents q.accent) refl
 
   pub judgement_same : (s : List ℕ) → judgement a s ≡ judgement b s
   unfolding judgement

@@ -14,8 +14,7 @@ use Rattle.tonekit_expect.specs.Bench as knots
 use Rattle.tonekit_query.specs.declared.Query.{Query}
 use Rattle.tonekit_deltas.specs.Deltas.{no_deltas}
 use Rattle.tonekit_deltas.specs.Bench as deltas
-use Rattle.tonekit_judge.specs.Judge.{ranking_of, heard_of}
-use Rattle.tonekit_judge.specs.declared.Inventory.{Inventory}
+use Rattle.tonekit_judge.specs.Judge.{Inventory, ranking_of, heard_of}
 use Rattle.tonekit_judge.specs.declared.ToneEntry.{ToneEntry}
 use Rattle.tonekit_score.specs.declared.Tolerance.{Tolerance}
 use Rattle.tonekit_judge.specs.Bench as heard
@@ -38,10 +37,10 @@ weighing n = variants.variants (0 ∷ 0 ∷ 0 ∷ 0x3f ∷ []) (n ∷ 0 ∷ 0 �
 
 -- two tones that are as likely before anything is heard
 abbrev toned : ℕ → ToneEntry
-toned number = record { number = number; prior = bits 0x3f00_0000; region = None; count = 0; owner = 0; form = 0; label = 0 }
+toned number = record { number = number; prior = bits 0x3f00_0000; region = None; listing = None }
 
 abbrev two_tones : Inventory
-two_tones = record { tones = 2; entries = toned 7 ∷ toned 9 ∷ [] }
+two_tones = record { items = toned 7 ∷ toned 9 ∷ [] }
 
 pub record Together : Type 0 where
   -- "55 Hz is 0 semitones, 110 is 12, 27.5 is −12."
@@ -65,7 +64,7 @@ pub record Together : Type 0 where
   pub three_quarters_high : deltas.advice (bits 0x3f40_0000) (bits 0)
       ≡ record { first = Some (record { z = bits 0x3fc0_0000; kind = StartLower; amount = bits 0x3f40_0000 }); second = None }
   -- "Two tones of equal score, threshold 0.25: the first is heard."
-  pub equal_tones : heard_of two_tones (bits 0x3e80_0000) (ranking_of two_tones (bits 0 ∷ bits 0 ∷ [])) ≡ 7
+  pub equal_tones : heard_of two_tones (bits 0x3e80_0000) (ranking_of two_tones (bits 0 ∷ bits 0 ∷ [])) ≡ Some 7
   -- "Tone 1, accent 1 with a citation, eight voiced frames of 110 Hz, floor NaN: hexadecimal 31 01 01 00 24 74 C9, 54 zero bytes, 02 40 00."
   pub floor_nan : judge_outcome station.pack station.unmeasured
       ≡ written ((0x31 ∷ 0x01 ∷ 0x01 ∷ 0x00 ∷ 0x24 ∷ 0x74 ∷ 0xc9 ∷ []) ++ (replicate 54 0 ++ (0x02 ∷ 0x40 ∷ 0x00 ∷ [])))

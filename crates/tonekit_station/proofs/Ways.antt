@@ -1,6 +1,6 @@
 -- What a judgement makes of a query, way by way, and that what a pack or a sheet holds is judged as their calls say. Assumes nothing.
 use Rattle.std.specs.Prelude.{Option, Some, None, Result, Ok, Err}
-use Rattle.std.proofs.Common.{ℕ, ◌≤◌, ◌≡◌, refl, Bool, true, false, List, ltb, le-ltb, ltb-false}
+use Rattle.std.proofs.Common.{ℕ, ◌≤◌, ◌≡◌, refl, Bool, true, false, List, length, ltb, le-ltb, ltb-false}
 use Rattle.tonekit_core.specs.Calls.{refused, written}
 use Rattle.tonekit_core.specs.declared.Rejection.{Rejection}
 use Rattle.tonekit_core.specs.declared.Refusal.{Refusal}
@@ -18,10 +18,8 @@ use Rattle.tonekit_shape.specs.Record.{united}
 use Rattle.tonekit_shape.specs.declared.Extent.{Extent}
 use Rattle.tonekit_shape.specs.declared.ToneShape.{ToneShape}
 use Rattle.tonekit_score.specs.declared.Tolerance.{Tolerance}
-use Rattle.tonekit_judge.specs.Judge.{judgement_of}
+use Rattle.tonekit_judge.specs.Judge.{Inventory, Targets, judgement_of}
 use Rattle.tonekit_judge.specs.Record.{judgement_bytes}
-use Rattle.tonekit_judge.specs.declared.Inventory.{Inventory}
-use Rattle.tonekit_judge.specs.declared.Targets.{Targets}
 use Rattle.tonekit_judge.specs.declared.ToneJudgement.{ToneJudgement}
 use Rattle.tonekit_target.specs.Target.{variants_fine, targets_of}
 use Rattle.tonekit_inventory.specs.Gather.{Gathering, gathered}
@@ -58,8 +56,8 @@ module _ (g : Gathering) (s : List ℕ) (q : Query) (e : Extent) (is : e ≡ ext
 
     pub target_held : (targets : Targets) → a ≡ Some targets → (x : ToneShape) → x ≡ shape_of (frames_of s q.count) e q.start q.end q.floor q.ceil
         → (issues : ℕ) → issues ≡ united q.issues x.frames
-        → (j : ToneJudgement) → j ≡ judgement_of x g.temperature g.threshold t g.listed targets issues
-        → (bytes : List ℕ) → bytes ≡ judgement_bytes q.tone g.listed.inventory.tones j
+        → (j : ToneJudgement) → j ≡ judgement_of x g.settings t g.listed targets issues
+        → (bytes : List ℕ) → bytes ≡ judgement_bytes q.tone (length g.listed.inventory.items) j
         → written bytes ≡ judge_gathered g s q
     unfolding judge_gathered
     target_held targets o x x-is issues i-is j j-is bytes b-is = rw (← is, fine, ← aims, o, ← x-is, ← i-is, ← j-is, ← b-is)

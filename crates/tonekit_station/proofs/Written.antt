@@ -1,6 +1,6 @@
 -- What an outcome of a judgement holds where it is bytes: what holds of the record of every judgement. Assumes nothing.
 use Rattle.std.specs.Prelude.{Option, Some, None, Result, Ok, Err}
-use Rattle.std.proofs.Common.{ℕ, List, Float}
+use Rattle.std.proofs.Common.{ℕ, List, length}
 use Rattle.tonekit_core.specs.Calls.{Outcome}
 use Rattle.tonekit_core.proofs.Calls.{Writes}
 use Rattle.tonekit_core.specs.declared.Refusal.{Refusal}
@@ -18,9 +18,9 @@ use Rattle.tonekit_shape.specs.Record.{united}
 use Rattle.tonekit_shape.specs.declared.Extent.{Extent}
 use Rattle.tonekit_shape.specs.declared.ToneShape.{ToneShape}
 use Rattle.tonekit_score.specs.declared.Tolerance.{Tolerance}
-use Rattle.tonekit_judge.specs.Judge.{Listed, judgement_of}
+use Rattle.tonekit_judge.specs.Judge.{Listings, Targets, judgement_of}
 use Rattle.tonekit_judge.specs.Record.{judgement_bytes}
-use Rattle.tonekit_judge.specs.declared.Targets.{Targets}
+use Rattle.tonekit_score.specs.declared.Settings.{Settings}
 use Rattle.tonekit_target.specs.Target.{targets_of}
 use Rattle.tonekit_inventory.specs.Gather.{Gathering, gathered}
 use Rattle.tonekit_station.specs.Judgement.{context_of, query_verdict, recorded, unless, judge_gathered, on_query, judgement, on_held, on_pack, judge_outcome, on_sheet, judge_sheet_outcome}
@@ -28,15 +28,15 @@ use Rattle.tonekit_station.specs.Judgement.{context_of, query_verdict, recorded,
 -- the record of every judgement, of any shape against anything
 abbrev pub Records : (List ℕ → Type 0) → Type 0
 Records P =
-    (x : ToneShape) (temperature threshold : Float) (t : Tolerance) (l : Listed) (g : Targets) (issues expected tones : ℕ)
-    → P (judgement_bytes expected tones (judgement_of x temperature threshold t l g issues))
+    (x : ToneShape) (settings : Settings) (t : Tolerance) (l : Listings) (g : Targets) (issues expected tones : ℕ)
+    → P (judgement_bytes expected tones (judgement_of x settings t l g issues))
 
 module _ (P : List ℕ → Type 0) (records : Records P) where
   recorded_writes : (g : Gathering) (q : Query) (frames : List ℕ) (e : Extent) (t : Tolerance) (a : Option Targets) → Writes P (recorded g t q frames e a)
   recorded_writes g q frames e t None = tt
   recorded_writes g q frames e t (Some a) =
       let x = shape_of frames e q.start q.end q.floor q.ceil in
-      records x g.temperature g.threshold t g.listed a (united q.issues x.frames) q.tone g.listed.inventory.tones
+      records x g.settings t g.listed a (united q.issues x.frames) q.tone (length g.listed.inventory.items)
 
   unless_writes : (v : Result Tolerance Refusal) (o : Tolerance → Outcome) → ((t : Tolerance) → Writes P (o t)) → Writes P (unless v o)
   unless_writes (Err r) o h = tt

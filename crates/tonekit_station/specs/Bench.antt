@@ -1,5 +1,5 @@
 -- Document 01's worked example, computed whole.
-use Rattle.std.specs.Prelude.{ℕ, ◌≡◌, refl, Some, None, Err, List, [], ◌∷◌, ◌++◌, replicate, true, false}
+use Rattle.std.specs.Prelude.{ℕ, ◌≡◌, refl, Option, Some, None, Err, List, [], ◌∷◌, ◌++◌, replicate, true, false}
 use Rattle.std.specs.Float.{binary32, float_with_sign}
 use Rattle.std.specs.Float.Ieee.{add, sub, mul, div, lt, le, eq, neg, of_bits, to_bits, of_int, round, is_nan}
 use Rattle.tonekit_core.specs.Calls.{refused, written}
@@ -14,7 +14,7 @@ use Rattle.tonekit_contour.specs.Position.{position}
 use Rattle.tonekit_query.specs.Frames.{frame_at}
 use Rattle.tonekit_query.specs.declared.Query.{Query}
 use Rattle.tonekit_score.specs.declared.Tolerance.{Tolerance}
-use Rattle.tonekit_judge.specs.declared.Inventory.{Inventory}
+use Rattle.tonekit_judge.specs.declared.Listed.{Listed}
 use Rattle.tonekit_query.specs.Query.{variant_fine, variants_fine, record_verdict, frame_verdict, fields_of, read_query, load_query}
 use Rattle.tonekit_pack.specs.Ranges.{above_zero, a_share, knot_fine, weight_fine, slot_fine, knots_fine, region_fine, tolerances_fine}
 use Rattle.tonekit_pack.specs.Pack.{due_after, size_of, holds, zero_or_held, settings_verdict, tone_verdict, accent_verdict, rule_verdict, part_verdict, body_verdict, added, read_pack, load_pack}
@@ -24,18 +24,19 @@ use Rattle.tonekit_window.specs.Window.{half_width, reach, curve_at, step_of, me
 use Rattle.tonekit_shape.specs.Extract.{extent_of, semitones, holes_filled, chao_curve, drawn, list_of, shape_of}
 use Rattle.tonekit_shape.specs.Record.{united}
 use Rattle.tonekit_expect.specs.Knots.{point_at, first_points, knots_at}
-use Rattle.tonekit_expect.specs.Lookup.{index_of, best_rule, climb_turn, find_rule, look_up, component_of}
+use Rattle.tonekit_bytes.specs.Places.{index_of}
+use Rattle.tonekit_expect.specs.Lookup.{best_rule, climb_turn, find_rule, look_up, component_of}
 use Rattle.tonekit_expect.specs.Source.{carried, components, source_of_pack, accent_in, tone_in}
 use Rattle.tonekit_core.specs.Words.{with_issue}
 use Rattle.tonekit_root.specs.Root.{root_of}
 use Rattle.tonekit_log.specs.Exp.{exp_of}
 use Rattle.tonekit_score.specs.Score.{widen_for, scoring_of, clamp_log, add_to, value_of, excused, point_weight, squares_of, end_term, ends_of, distance_of, log_of, mixed, mix_turn, calibrate}
 use Rattle.tonekit_deltas.specs.Deltas.{kept, offer, offer_end, offer_turn, end_deltas, deltas_of}
-use Rattle.tonekit_judge.specs.Judge.{tone_mixing, loglik_at, logliks, ranked, ranking_of, heard_of, weighed, part_mixing, target_mixing, llr_of, plain_of, distance_from, advice_of, part_of, nearest_at, with_best, judged_of, usable, not_measured, judgement_of}
+use Rattle.tonekit_judge.specs.Judge.{Inventory, tone_mixing, loglik_at, logliks, ranked, ranking_of, heard_of, weighed, part_mixing, target_mixing, llr_of, plain_of, distance_from, advice_of, part_of, nearest_at, with_best, judged_of, usable, not_measured, judgement_of}
 use Rattle.tonekit_judge.specs.Record.{delta_count, kind_of, amount_of, nearest_bytes, score_bytes, one_bytes, delta_bytes, judgement_bytes}
 use Rattle.tonekit_target.specs.Target as target
-use Rattle.tonekit_target.specs.Target.{targets_of, place_of, weights_fine, main_weight, with_target}
-use Rattle.tonekit_inventory.specs.Gather.{with_tone, no_inventory, put_in, weights_of, points_of, slotted, listings, gathered}
+use Rattle.tonekit_target.specs.Target.{targets_of, target_of, place_of, weights_fine, main_weight, with_target}
+use Rattle.tonekit_inventory.specs.Gather.{with_tone, put_in, slotted, listings, gathered}
 use Rattle.tonekit_station.specs.Judgement.{tones_verdict, query_verdict, judge_gathered, judgement, judge_outcome}
 
 -- the bits of 1, of a half and of a quarter
@@ -73,7 +74,7 @@ unmeasured = fixed 8 (0 ∷ 0 ∷ 0xc0 ∷ 0x7f ∷ []) (0 ∷ 0 ∷ 0x40 ∷ 0x
 
 pub floor_nan : judge_outcome pack unmeasured
     ≡ written ((0x31 ∷ 0x01 ∷ 0x01 ∷ 0x00 ∷ 0x24 ∷ 0x74 ∷ 0xc9 ∷ []) ++ (replicate 54 0 ++ (0x02 ∷ 0x40 ∷ 0x00 ∷ [])))
-unfolding judge_outcome judgement judge_gathered query_verdict tones_verdict accent_in tone_in load_pack read_pack loop_to loop_on reader.record_verdict body_verdict settings_verdict tone_verdict accent_verdict rule_verdict part_verdict due_after size_of holds zero_or_held added above_zero a_share knot_fine weight_fine slot_fine knots_fine region_fine tolerances_fine range turns of_bits le lt load_query read_query record_verdict frame_verdict fields_of variant_fine variants_fine range_to turns_to frame_at extent_of gathered listings source_of_pack look_up find_rule climb_turn best_rule index_of components carried component_of knots_at first_points point_at slotted put_in with_tone no_inventory weights_of points_of target.variants_fine weights_fine main_weight targets_of place_of with_target greater judgement_bytes nearest_bytes judgement_of usable shape_of not_measured list_of drawn chao_curve holes_filled semitones hz_to_st width_of st_to_chao log2_of half_width reach curve_at step_of mean_over rounded position whole_part round_up while while_if narrowed score_bytes one_bytes delta_bytes amount_of delta_count kind_of f32s_bytes round neg to_bits add sub mul div eq is_nan of_int lesser
+unfolding judge_outcome judgement judge_gathered query_verdict tones_verdict accent_in tone_in load_pack read_pack loop_to loop_on reader.record_verdict body_verdict settings_verdict tone_verdict accent_verdict rule_verdict part_verdict due_after size_of holds zero_or_held added above_zero a_share knot_fine weight_fine slot_fine knots_fine region_fine tolerances_fine range turns of_bits le lt load_query read_query record_verdict frame_verdict fields_of variant_fine variants_fine range_to turns_to frame_at extent_of gathered listings source_of_pack look_up find_rule climb_turn best_rule index_of components carried component_of knots_at first_points point_at slotted put_in with_tone target.variants_fine weights_fine main_weight targets_of target_of place_of with_target greater judgement_bytes nearest_bytes judgement_of usable shape_of not_measured list_of drawn chao_curve holes_filled semitones hz_to_st width_of st_to_chao log2_of half_width reach curve_at step_of mean_over rounded position whole_part round_up while while_if narrowed score_bytes one_bytes delta_bytes amount_of delta_count kind_of f32s_bytes round neg to_bits add sub mul div eq is_nan of_int lesser
 floor_nan = refl
 
 -- three such frames in the register 0 to 24 lie on the citation: a log-likelihood of 3 ln 2, distance 0, the citation of accent 1, tone 1 heard, no
@@ -83,7 +84,7 @@ level = fixed 3 (replicate 4 0) (0 ∷ 0 ∷ 0xc0 ∷ 0x41 ∷ []) ++ (frames ++
 
 pub on_citation : judge_outcome pack level
     ≡ written ((0x31 ∷ 0x01 ∷ 0x01 ∷ 0x92 ∷ 0x15 ∷ 0x05 ∷ 0x40 ∷ []) ++ (replicate 32 0 ++ ((1 ∷ 0 ∷ 0 ∷ 0 ∷ 0 ∷ 1 ∷ 1 ∷ 0 ∷ 0 ∷ 0 ∷ 1 ∷ []) ++ (replicate 11 0 ++ (0x01 ∷ 0x08 ∷ 0x00 ∷ [])))))
-unfolding judge_outcome judgement judge_gathered query_verdict tones_verdict accent_in tone_in load_pack read_pack loop_to loop_on reader.record_verdict body_verdict settings_verdict tone_verdict accent_verdict rule_verdict part_verdict due_after size_of holds zero_or_held added above_zero a_share knot_fine weight_fine slot_fine knots_fine region_fine tolerances_fine range turns of_bits le lt load_query read_query record_verdict frame_verdict fields_of variant_fine variants_fine range_to turns_to frame_at extent_of gathered listings source_of_pack look_up find_rule climb_turn best_rule index_of components carried component_of knots_at first_points point_at slotted put_in with_tone no_inventory weights_of points_of target.variants_fine weights_fine main_weight targets_of place_of with_target greater judgement_bytes nearest_bytes judgement_of usable shape_of list_of drawn chao_curve holes_filled semitones hz_to_st width_of st_to_chao log2_of half_width reach curve_at step_of mean_over rounded position whole_part round_up while while_if narrowed score_bytes one_bytes delta_bytes amount_of delta_count kind_of f32s_bytes round neg to_bits add sub mul div eq is_nan of_int lesser united with_issue scoring_of widen_for clamp_log add_to value_of excused point_weight squares_of end_term ends_of distance_of log_of mixed mix_turn calibrate kept offer offer_end offer_turn end_deltas deltas_of root_of exp_of ln_of tone_mixing loglik_at logliks ranked ranking_of heard_of weighed part_mixing target_mixing llr_of plain_of distance_from advice_of part_of nearest_at with_best judged_of float_with_sign
+unfolding judge_outcome judgement judge_gathered query_verdict tones_verdict accent_in tone_in load_pack read_pack loop_to loop_on reader.record_verdict body_verdict settings_verdict tone_verdict accent_verdict rule_verdict part_verdict due_after size_of holds zero_or_held added above_zero a_share knot_fine weight_fine slot_fine knots_fine region_fine tolerances_fine range turns of_bits le lt load_query read_query record_verdict frame_verdict fields_of variant_fine variants_fine range_to turns_to frame_at extent_of gathered listings source_of_pack look_up find_rule climb_turn best_rule index_of components carried component_of knots_at first_points point_at slotted put_in with_tone target.variants_fine weights_fine main_weight targets_of target_of place_of with_target greater judgement_bytes nearest_bytes judgement_of usable shape_of list_of drawn chao_curve holes_filled semitones hz_to_st width_of st_to_chao log2_of half_width reach curve_at step_of mean_over rounded position whole_part round_up while while_if narrowed score_bytes one_bytes delta_bytes amount_of delta_count kind_of f32s_bytes round neg to_bits add sub mul div eq is_nan of_int lesser united with_issue scoring_of widen_for clamp_log add_to value_of excused point_weight squares_of end_term ends_of distance_of log_of mixed mix_turn calibrate kept offer offer_end offer_turn end_deltas deltas_of root_of exp_of ln_of tone_mixing loglik_at logliks ranked ranking_of heard_of weighed part_mixing target_mixing llr_of plain_of distance_from advice_of part_of nearest_at with_best judged_of float_with_sign
 on_citation = refl
 
 -- "Pack or sheet comes before query": a pack that is cut short at 0, and a query whose first kind is misplaced there
@@ -98,10 +99,10 @@ two_voiced = refl
 
 -- "12" before "13 for prev", with three voiced frames; with two "11" before both
 abbrev nothing : Inventory
-nothing = record { tones = 0; entries = [] }
+nothing = record { items = [] }
 
 abbrev asked : Query
-asked = record { accent = 0; tone = 0; prev = 0; last = 0; start = 0; end = 0; floor = of_bits binary32 0; ceil = of_bits binary32 0; issues = 0; variants = 0; count = 3 }
+asked = record { accent = 0; tone = 0; prev = 0; last = false; start = 0; end = 0; floor = of_bits binary32 0; ceil = of_bits binary32 0; issues = 0; variants = 0; count = 3 }
 
 pub accent_first : query_verdict 3 None false nothing [] asked ≡ Err UnknownAccent
 unfolding query_verdict
@@ -111,25 +112,32 @@ pub unvoiced_first : query_verdict 2 None false nothing [] asked ≡ Err Unvoice
 unfolding query_verdict
 unvoiced_first = refl
 
--- "14" before "15": of one tone with so many components, and a query with one variant of weight -1
-abbrev listed : ℕ → Inventory
-listed count = record { tones = 1; entries = record { number = 1; prior = of_bits binary32 0; region = None; count = count; owner = 0; form = 0; label = 0 } ∷ [] }
+-- "14" before "15": of one tone with so many components or with no listing, and a query with one variant of weight -1
+abbrev counted : ℕ → Option Listed
+counted count = Some (record { name = record { owner = 0; form = 0; label = 0 }; count = count })
+
+abbrev listed : Option Listed → Inventory
+listed l = record { items = record { number = 1; prior = of_bits binary32 0; region = None; listing = l } ∷ [] }
 
 -- of an accent that is held
 abbrev strict : Tolerance
 strict = record { contour = of_bits binary32 0; onset = of_bits binary32 0; offset = of_bits binary32 0; turning = of_bits binary32 0 }
 
 abbrev varied : Query
-varied = record { accent = 1; tone = 1; prev = 0; last = 0; start = 0; end = 3; floor = of_bits binary32 0; ceil = of_bits binary32 0; issues = 0; variants = 1; count = 3 }
+varied = record { accent = 1; tone = 1; prev = 0; last = false; start = 0; end = 3; floor = of_bits binary32 0; ceil = of_bits binary32 0; issues = 0; variants = 1; count = 3 }
 
 abbrev below : List ℕ
 below = (48 ∷ 1 ∷ 1 ∷ 0 ∷ 0 ∷ []) ++ (replicate 18 0 ++ ((1 ∷ 1 ∷ 0 ∷ 0 ∷ 0x80 ∷ 0xbf ∷ []) ++ (replicate 15 0 ++ (3 ∷ 0 ∷ []))))
 
-pub tones_first : query_verdict 3 (Some strict) true (listed 0) below varied ≡ Err NoRealisation
-unfolding query_verdict tones_verdict range_to turns_to
+pub tones_first : query_verdict 3 (Some strict) true (listed (counted 0)) below varied ≡ Err NoRealisation
+unfolding query_verdict tones_verdict
 tones_first = refl
 
+pub unlisted_first : query_verdict 3 (Some strict) true (listed None) below varied ≡ Err NoRealisation
+unfolding query_verdict tones_verdict
+unlisted_first = refl
+
 -- once the tone has a component the variant is refused
-pub variant_next : query_verdict 3 (Some strict) true (listed 1) below varied ≡ Err BadVariant
-unfolding query_verdict tones_verdict range_to turns_to target.variants_fine weights_fine target.weight_fine main_weight range turns le lt of_bits neg add sub round
+pub variant_next : query_verdict 3 (Some strict) true (listed (counted 1)) below varied ≡ Err BadVariant
+unfolding query_verdict tones_verdict target.variants_fine weights_fine target.weight_fine main_weight range turns le lt of_bits neg add sub round
 variant_next = refl

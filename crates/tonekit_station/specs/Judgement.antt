@@ -1,7 +1,7 @@
 -- Document 01's Judgement, from whatever a station holds: what a query's bytes are turned into, a function of a source and of those bytes.
-use Rattle.std.specs.Prelude.{ℕ, Bool, cond, not, Option, Some, None, Result, Ok, Err, List, eqb, ltb}
+use Rattle.std.specs.Prelude.{ℕ, Bool, cond, not, Option, Some, None, Result, Ok, Err, List, eqb, length, ltb}
 use Rattle.tonekit_core.specs.Calls.{Outcome, refused, written}
-use Rattle.tonekit_core.specs.Loop.{Turn, next, stop, range_to}
+use Rattle.std.specs.List.{list_all}
 use Rattle.tonekit_core.specs.declared.Refusal.{Refusal}
 use Rattle.tonekit_core.specs.declared.Refusal.TheVariants as refusal
 use Rattle.tonekit_core.specs.declared.Rejection.{Rejection}
@@ -19,22 +19,21 @@ use Rattle.tonekit_shape.specs.Extract.{extent_of, shape_of}
 use Rattle.tonekit_shape.specs.Record.{united}
 use Rattle.tonekit_shape.specs.declared.Extent.{Extent}
 use Rattle.tonekit_score.specs.declared.Tolerance.{Tolerance}
-use Rattle.tonekit_judge.specs.Judge.{entry_at, judgement_of}
+use Rattle.tonekit_judge.specs.Judge.{Inventory, Targets, count_in, judgement_of}
 use Rattle.tonekit_judge.specs.Record.{judgement_bytes}
-use Rattle.tonekit_judge.specs.declared.Inventory.{Inventory}
-use Rattle.tonekit_judge.specs.declared.Targets.{Targets}
 use Rattle.tonekit_target.specs.Target.{variants_fine, targets_of}
 use Rattle.tonekit_inventory.specs.Gather.{Gathering, gathered}
 
 abbrev pub context_of : Query → Context
 context_of q = record { accent = q.accent; tone = q.tone; prev = q.prev; last = q.last }
 
--- "no realisation: some inventory tone has nothing here", tone by tone
-abbrev pub tone_turn : Inventory → ℕ → ℕ → Turn ℕ (Result (Unit {0}) Refusal)
-tone_turn i t u = cond (eqb (entry_at i t).count 0) (stop (Err refusal.NoRealisation)) (next u)
+-- every inventory tone has a component
+abbrev pub all_listed : Inventory → Bool
+all_listed i = list_all (λ e. not (eqb (count_in e.listing) 0)) i.items
 
+-- "no realisation: some inventory tone has nothing here"
 unfoldable pub tones_verdict : Inventory → Result (Unit {0}) Refusal
-tones_verdict i = range_to (tone_turn i) (λ u. Ok tt) 0 i.tones 0
+tones_verdict i = cond (not (all_listed i)) (Err refusal.NoRealisation) (Ok tt)
 
 abbrev pub or_else : Result (Unit {0}) Refusal → Result Tolerance Refusal → Result Tolerance Refusal
 or_else (Err r) v = Err r
@@ -61,8 +60,8 @@ recorded g t q frames e None = refused refusal.UnknownTone 0
 recorded g t q frames e (Some a) =
     let x = shape_of frames e q.start q.end q.floor q.ceil in
     written
-    (judgement_bytes q.tone g.listed.inventory.tones
-    (judgement_of x g.temperature g.threshold t g.listed a (united q.issues x.frames)))
+    (judgement_bytes q.tone (length g.listed.inventory.items)
+    (judgement_of x g.settings t g.listed a (united q.issues x.frames)))
 
 abbrev pub unless : Result Tolerance Refusal → (Tolerance → Outcome) → Outcome
 unless (Err r) o = refused r 0

@@ -6,13 +6,12 @@ ghost use Rattle.tonekit_core.specs.Calls.{Delivers};
 ghost use Rattle.tonekit_input.specs.Input.{held_of, query_of};
 ghost use Rattle.tonekit_judge.specs.Judge.{Counted};
 ghost use Rattle.tonekit_inventory.specs.Gather.{gathering_of};
-ghost use Rattle.tonekit_station.specs.Judgement.{context_of, tones_verdict, query_verdict, judge_gathered, on_held, judge_outcome, judge_sheet_outcome, station_outcome, station_sheet_outcome};
+ghost use Rattle.tonekit_station.specs.Judgement.{context_of, all_listed, tones_verdict, query_verdict, judge_gathered, on_held, judge_outcome, judge_sheet_outcome, station_outcome, station_sheet_outcome};
 
 use tonekit_core::{Refusal, Rejection};
 use tonekit_expect::Context;
-use tonekit_inventory::{Gathered, Held};
-use tonekit_judge::{Inventory, Slots};
-use tonekit_pack::Pack;
+use tonekit_inventory::{Gathered, Held, HeldPack};
+use tonekit_judge::{Inventory, Slot, Slots};
 use tonekit_query::Query;
 use tonekit_score::Tolerance;
 use tonekit_sheet_inventory::HeldSheet;
@@ -29,16 +28,20 @@ fn context_of(q: Query) -> Context
     }
 }
 
-// Refusal 14 for the first inventory tone that has no listing.
+// Whether every inventory tone has a component.
+fn all_listed(inventory: &Inventory) -> bool
+    ensures { result ≡ all_listed inventory.now }
+{
+    inventory.iter().all(|entry| entry.count() != 0)
+}
+
+// Refusal 14 where some inventory tone has no component.
+#[tactic(auto, unfolding(crate::specs::Judgement::tones_verdict))]
 fn tones_verdict(inventory: &Inventory) -> Result<(), Refusal>
-    requires { inventory.now.tones ≤ 8 }
     ensures { result ≡ tones_verdict inventory.now }
 {
-    // Stays: over the slice of the entries the loop's end was not proved: the array's length is not known there.
-    for t in 0..inventory.tones {
-        if inventory.entries[t].count == 0 {
-            return Err(Refusal::NoRealisation);
-        }
+    if !all_listed(inventory) {
+        return Err(Refusal::NoRealisation);
     }
     Ok(())
 }
@@ -47,7 +50,7 @@ fn tones_verdict(inventory: &Inventory) -> Result<(), Refusal>
 // tolerances of the accent.
 #[tactic(auto, unfolding(crate::specs::Judgement::query_verdict))]
 fn query_verdict(voiced: usize, g: &Gathered, query: &[u8], q: Query) -> Result<Tolerance, Refusal>
-    requires { (g.now.inventory.tones ≤ 8) × (q.variants ≤ 4) }
+    requires { q.variants ≤ 4 }
     ensures { result ≡ query_verdict voiced g.now.tolerance g.now.prev g.now.inventory query.now q }
 {
     if voiced < 3 {
@@ -92,41 +95,45 @@ fn judge_gathered(
     let issues = tonekit_shape::united(q.issues, x.frames);
     let j = tonekit_judge::judge(
         x,
-        g.temperature,
-        g.threshold,
+        g.settings,
         tolerance,
         &g.inventory,
         slots,
         &targets,
         issues,
     );
-    let record = tonekit_judge::record::judgement_record(q.tone, g.inventory.tones as u8, j);
+    let record = tonekit_judge::record::judgement_record(q.tone, g.inventory.len() as u8, j);
     tonekit_bytes::write_record(out, &record)
 }
 
 // Judges a query against what some bytes hold, as a pack or as a sheet, and writes the record of 64
 // bytes. Refuses what the readers refuse, the bytes' first, then 11 to 15 and a short buffer (9, with
 // the length needed); then the buffer is as it was.
-pub fn judge_held<H: Held>(held: &[u8], query: &[u8], out: &mut [u8]) -> Result<usize, Rejection>
+pub fn judge_held<'a, H: Held<'a>>(
+    held: &'a [u8],
+    query: &[u8],
+    out: &mut [u8],
+) -> Result<usize, Rejection>
     ensures { Delivers (on_held (H.loads held.now) query.now) out.old result out.new }
 {
     let h = H::load(held)?;
     let q = tonekit_query::load_query(query)?;
-    let mut slots = Slots {
-        weights: [0.0; 32],
-        points: [0.0; 320],
+    let blank = Slot {
+        weight: 0.0,
+        points: [0.0; 10],
     };
-    let g = tonekit_inventory::gather(held, &h, context_of(q), &mut slots);
+    let mut slots = Slots { list: [blank; 32] };
+    let g = tonekit_inventory::gather(&h, context_of(q), &mut slots);
     judge_gathered(&g, &slots, query, q, out)
 }
 
 // Judges a query against a pack.
-// Stays: `judge` and `judge_sheet` are the two uses of `judge_held`, and callers call them by these names.
+// Stays: `judge` and `judge_sheet` are the two uses of `judge_held`, one line each; the C interface calls them by these names.
 pub fn judge(pack: &[u8], query: &[u8], out: &mut [u8]) -> Result<usize, Rejection>
     ensures { Delivers (judge_outcome pack.now query.now) out.old result
         out.new }
 {
-    judge_held::<Pack>(pack, query, out)
+    judge_held::<HeldPack>(pack, query, out)
 }
 
 // Judges a query against a sheet, as `judge` does against a pack.
@@ -139,7 +146,7 @@ pub fn judge_sheet(sheet: &[u8], query: &[u8], out: &mut [u8]) -> Result<usize, 
 }
 
 // What a program does with its input: u16 length, what is held, query.
-pub fn judge_parts<H: Held>(input: &[u8], out: &mut [u8]) -> Result<usize, Rejection>
+pub fn judge_parts<'a, H: Held<'a>>(input: &'a [u8], out: &mut [u8]) -> Result<usize, Rejection>
     ensures { Delivers (on_held (H.loads (held_of input.now)) (query_of input.now)) out.old result
         out.new }
 {
@@ -151,15 +158,16 @@ pub fn judge_parts<H: Held>(input: &[u8], out: &mut [u8]) -> Result<usize, Rejec
 }
 
 // What the program `station` does with its input: u16 pack length, pack, query.
-// Stays: one of the two uses of `judge_parts`, each of which a program has under its name.
+// Stays: no program calls this, since `station` goes by `judge_parts`; the new form is `judge_parts`, and this line states `station_outcome` of it under
+// the name that README has.
 pub fn judge_input(input: &[u8], out: &mut [u8]) -> Result<usize, Rejection>
     ensures { Delivers (station_outcome input.now) out.old result out.new }
 {
-    judge_parts::<Pack>(input, out)
+    judge_parts::<HeldPack>(input, out)
 }
 
 // What the program `station_sheet` does, with a sheet in the pack's place.
-// Stays: the other use of `judge_parts`.
+// Stays: as `judge_input`, of `station_sheet_outcome`.
 pub fn judge_sheet_input(input: &[u8], out: &mut [u8]) -> Result<usize, Rejection>
     ensures { Delivers (station_sheet_outcome input.now) out.old result out.new }
 {

@@ -15,7 +15,7 @@ abbrev Room : List ℕ → Type 0
 Room bs = length bs ≤ judgement_size
 
 records : Records Room
-records x temperature threshold t l g issues expected tones = omega (arith, judgement_length x temperature threshold t l g issues expected tones)
+records x settings t l g issues expected tones = omega (arith, judgement_length x settings t l g issues expected tones)
 
 pub judgement_fits : (r : Result Source Rejection) (s : List ℕ) → Fits judgement_size (on_held r s)
 judgement_fits r s = held_writes Room records r s

@@ -6,13 +6,12 @@ ghost use Rattle.tonekit_input.specs.Input.{held_of, query_of};
 ghost use Rattle.tonekit_station.specs.Judgement.{on_held, station_outcome, station_sheet_outcome};
 
 use tonekit_core::layout;
-use tonekit_inventory::Held;
-use tonekit_pack::Pack;
+use tonekit_inventory::{Held, HeldPack};
 use tonekit_sheet_inventory::HeldSheet;
 
 // How many bytes are told of the judgement against what the input holds; they stand in `out`.
-// Stays: as tonekit_output tells of a sheet or a shape; what differs is the call, and beside it there is one more.
-fn output<H: Held>(input: &[u8], out: &mut [u8; layout::JUDGEMENT_SIZE]) -> usize
+// Stays: `sheet_output` of tonekit_output differs from this in its call alone; one function over the call would take a closure, and its contract would have to be the closure's.
+fn output<'a, H: Held<'a>>(input: &'a [u8], out: &mut [u8; layout::JUDGEMENT_SIZE]) -> usize
     ensures { Told (on_held (H.loads (held_of input.now)) (query_of input.now)) out.old result
         out.new }
 {
@@ -21,11 +20,11 @@ fn output<H: Held>(input: &[u8], out: &mut [u8; layout::JUDGEMENT_SIZE]) -> usiz
 }
 
 // The program `station`: how many bytes it writes, which stand in `out`.
-// Stays: one of the two uses of `output`, each of which a program calls by its name.
+// Stays: one of the two uses of `output`, one line each, which state a program's outcome under its name.
 pub fn station_output(input: &[u8], out: &mut [u8; layout::JUDGEMENT_SIZE]) -> usize
     ensures { Told (station_outcome input.now) out.old result out.new }
 {
-    output::<Pack>(input, out)
+    output::<HeldPack>(input, out)
 }
 
 // The program `station_sheet`, likewise.

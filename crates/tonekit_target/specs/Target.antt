@@ -1,14 +1,13 @@
 -- The tones that a query asks for, as `expect` of the Rust weighs them: the main tone, then its variants.
-use Rattle.std.specs.Prelude.{ℕ, zero, suc, ◌+◌, Bool, true, not, ◌&&◌, ◌==◌, Option, Some, None, List, ◌++◌, take, position, set, replicate, Float}
+use Rattle.std.specs.Prelude.{ℕ, zero, suc, ◌+◌, Bool, true, cond, not, ◌&&◌, ◌==◌, Option, Some, None, List, [], ◌∷◌, ◌++◌, position, length, ltb, Float}
 use Rattle.std.specs.Float.{binary32}
 use Rattle.std.specs.Float.Ieee.{neg, add, sub, lt, le, of_bits}
 use Rattle.std.specs.Float.Ieee.Scale.{finite}
 use Rattle.tonekit_core.specs.Loop.{Turn, next, stop, range, range_to}
 use Rattle.tonekit_float.specs.Pick.{greater}
 use Rattle.tonekit_query.specs.Query.{variant_tone, variant_weight}
-use Rattle.tonekit_judge.specs.declared.Inventory.{Inventory}
-use Rattle.tonekit_judge.specs.declared.Targets.{Targets}
-use Rattle.tonekit_judge.specs.Judge.{no_entry}
+use Rattle.tonekit_judge.specs.Judge.{Inventory, Targets}
+use Rattle.tonekit_judge.specs.declared.Target.{Target}
 
 abbrev pub zero32 : Float
 zero32 = of_bits binary32 0
@@ -41,9 +40,17 @@ main_weight s n = sub binary32 one32 (range (sum_turn s) 0 n zero32)
 unfoldable pub variants_fine : List ℕ → ℕ → Bool
 variants_fine s n = weights_fine s n && not (lt (main_weight s n) (neg slack))
 
--- the place of a number among the inventory's; behind its entries stand tones of number 0
+-- the place of a number among the inventory's
 unfoldable pub place_of : Inventory → ℕ → Option ℕ
-place_of i n = position (λ e. e.number == n) (take i.tones (i.entries ++ replicate i.tones no_entry))
+place_of i n = position (λ e. e.number == n) i.items
+
+-- the target that is the tone of a number, so weighed
+abbrev pub aimed : Float → Option ℕ → Option Target
+aimed weight None = None
+aimed weight (Some t) = Some (record { place = t; weight = weight })
+
+unfoldable pub target_of : Inventory → ℕ → Float → Option Target
+target_of i n weight = aimed weight (place_of i n)
 
 -- tone k of the target, and its weight: the main tone's is what is left, at least 0
 abbrev pub target_tone : List ℕ → ℕ → ℕ → ℕ
@@ -54,20 +61,21 @@ abbrev pub target_weight : List ℕ → Float → ℕ → Float
 target_weight s main zero = greater main zero32
 target_weight s main (suc i) = variant_weight s i
 
-abbrev pub no_targets : ℕ → Targets
-no_targets n = record { count = n; list = replicate 5 (record { place = 0; weight = zero32 }) }
+abbrev pub no_targets : Targets
+no_targets = record { items = [] }
 
-unfoldable pub with_target : ℕ → ℕ → Float → Targets → Targets
-with_target k place weight g = record { count = g.count; list = set g.list k (record { place = place; weight = weight }) }
+-- the targets with one more, where there is room: a query has one main tone and at most four variants
+unfoldable pub with_target : Target → Targets → Targets
+with_target t g = record { items = cond (ltb (length g.items) 5) (g.items ++ t ∷ []) g.items }
 
 -- "unknown tone: .. target tone not held"
-abbrev pub aim_at : List ℕ → Float → ℕ → Targets → Option ℕ → Turn Targets (Option Targets)
-aim_at s main k g (Some t) = next (with_target k t (target_weight s main k) g)
-aim_at s main k g None = stop None
+abbrev pub aim_at : Targets → Option Target → Turn Targets (Option Targets)
+aim_at g (Some t) = next (with_target t g)
+aim_at g None = stop None
 
 abbrev pub aim_turn : Inventory → List ℕ → ℕ → Float → ℕ → Targets → Turn Targets (Option Targets)
-aim_turn i s tone main k g = aim_at s main k g (place_of i (target_tone s tone k))
+aim_turn i s tone main k g = aim_at g (target_of i (target_tone s tone k) (target_weight s main k))
 
 -- the target of a query of this tone and so many variants, among the inventory's tones; none where one of them is not held
 unfoldable pub targets_of : Inventory → List ℕ → ℕ → ℕ → Option Targets
-targets_of i s tone variants = range_to (aim_turn i s tone (main_weight s variants)) Some 0 (variants + 1) (no_targets (variants + 1))
+targets_of i s tone variants = range_to (aim_turn i s tone (main_weight s variants)) Some 0 (variants + 1) no_targets

@@ -205,7 +205,7 @@ impl Curve<'_> {
             next,
             area: 0.0,
         };
-        // Stays: the times decide where the sweep ends, and frame is the next of them as an index.
+        // Stays: a `for` over the frames would be no plainer, since it would break at the same test: the time ends the sweep.
         while s.t0 < b.at {
             s = self.step(b, s, frame);
             frame += 1;

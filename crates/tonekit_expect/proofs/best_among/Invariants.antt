@@ -1,6 +1,5 @@
 use Rattle.std.proofs.Common.{◌≡◌}
 use Rattle.tonekit_core.specs.Loop.{range}
-use Rattle.tonekit_pack.specs.Held.{in_order}
 use Rattle.std.specs.Prelude.{None}
 use Rattle.tonekit_expect.specs.Lookup.{best_turn}
 use Rattle.tonekit_expect.proofs.best_among.Given as goal

@@ -1,12 +1,12 @@
-use Rattle.std.proofs.Common.{◌<◌, ◌≡◌}
+use Rattle.std.proofs.Common.{◌<◌, ◌-◌, ◌≡◌}
 use Rattle.tonekit_core.specs.Loop.{loop_to}
 use Rattle.tonekit_pack.specs.Held.{shown}
 use Rattle.std.specs.Prelude.{None}
 use Rattle.tonekit_expect.specs.Lookup.{climb_turn, find_rule}
 use Rattle.tonekit_expect.proofs.find_rule.Given as goal
 
-abbrev pub invariant-loop-left : goal.invariant-loop-left
-invariant-loop-left l = (l.a < l.p.accents) × (loop_to (climb_turn l.s (shown l.p) l.c) None l.left l.a ≡ find_rule l.s (shown l.p) l.c l.i)
-
-abbrev pub decreases-loop-left : goal.decreases-loop-left
-decreases-loop-left l = l.left
+abbrev pub invariant-loop : goal.invariant-loop
+invariant-loop l = record {
+  inside : l.a < l.v.pack.accents.count;
+  rest : loop_to (climb_turn l.v.bytes.now (shown l.v.pack) l.c) None (l.v.pack.accents.count - l.counter) l.a ≡ find_rule l.v.bytes.now (shown l.v.pack) l.c l.i;
+}

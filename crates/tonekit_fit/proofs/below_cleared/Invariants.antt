@@ -4,4 +4,4 @@ use Rattle.tonekit_fit.specs.Fit.{row_cleared, below_cleared}
 use Rattle.tonekit_fit.proofs.below_cleared.Given as goal
 
 abbrev pub invariant-loop-row : goal.invariant-loop-row
-invariant-loop-row l = range (row_cleared l.col) l.row 3 l.t ≡ below_cleared l.col l.initial.t
+invariant-loop-row l = range (row_cleared l.col.at) l.row 3 l.t ≡ below_cleared l.col.at l.initial.t

@@ -6,4 +6,4 @@ use Rattle.tonekit_fit.proofs.lead.Goals as goal
 pub returns-then-abs : goal.returns-then-abs
 returns-then-abs c =
     to_stop _ _ c.loop-col.invariant (search rules)
-    (simp (← c.pivot_of-p.ensures.0, ← c.abs.ensures.value, c.if-abs.true))
+    (simp (← c.pivot_of-pivot.ensures, ← c.abs.ensures.value, c.if-abs.true))

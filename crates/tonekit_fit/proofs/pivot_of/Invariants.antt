@@ -4,4 +4,4 @@ use Rattle.tonekit_fit.specs.Fit.{pivot_turn, pivot_of}
 use Rattle.tonekit_fit.proofs.pivot_of.Given as goal
 
 abbrev pub invariant-loop-i : goal.invariant-loop-i
-invariant-loop-i l = (l.best < 3) × (range (pivot_turn l.m l.col) l.i 3 l.best ≡ pivot_of l.m l.col)
+invariant-loop-i l = (l.best < 3) × (range (pivot_turn l.m l.col.at) l.i 3 l.best ≡ pivot_of l.m l.col.at)

@@ -9,8 +9,8 @@ pub returns : goal.returns
 unfolding gathered
 returns g c =
     let a = c.args in
-    let prev : c.if-c-eq0.result ≡ (eqb a.c.prev 0 || tone_in (g.H.Held.source a.bytes.now a.held.now).tones a.c.prev) = elim c.if-c-eq0.branch [
+    let prev : c.if-c-eq0.result ≡ (eqb a.c.prev 0 || tone_in (g.H.Held.source a.held.now).tones a.c.prev) = elim c.if-c-eq0.branch [
       | then-c-eq0 w ↦ w.result-is ∙ rw (eq-eqb _ _ w.if-c-eq0.true)
       | else-c-eq0 w ↦ rw (ne_eqb _ _ w.if-c-eq0.false, ← w.holds_tone.ensures) w.result-is
     ] in
-    record { is = rw (prev, c.settings-settings.ensures, c.tolerance.ensures, c.listings.ensures.is); counted = c.listings.ensures.counted }
+    record { is = rw (prev, c.settings.ensures, c.tolerance.ensures, c.listings.ensures.is); counted = c.listings.ensures.counted }

@@ -1,5 +1,5 @@
 -- `ranking_of` meets its contract: a turn of the loop is a turn of the ranking, and the top stays a tone.
-use Rattle.std.proofs.Common.{refl, arith, ◌<◌}
+use Rattle.std.proofs.Common.{rules, refl, ◌<◌, length}
 use Rattle.tonekit_core.specs.Loop.{again, ended}
 use Rattle.tonekit_score.specs.declared.Lead.{Lead}
 use Rattle.tonekit_judge.specs.Judge.{rank_turn, ranking_of, ranked}
@@ -14,11 +14,11 @@ pub loop-t-preserved : goal.loop-t-preserved
 unfolding ranked
 loop-t-preserved c =
     let l = c.loop-t in
-    rw (c.add_to.ensures, c.led.ensures, c.score_at-score.ensures)
+    rw (c.add_to.ensures, c.led.ensures, c.score_of-score.ensures, c.deref-entry-items.ensures.0)
     (record {
-      left = again (rank_turn c.args.inventory.now c.args.ll.now) l.invariant.left c.loop-t-test.true refl;
-      below = led_keeps (λ (top : Lead). top.index < 8) l.r.top _ l.invariant.below (omega arith);
+      left = again (rank_turn c.args.inventory.now c.args.ll.now) l.invariant.left (search rules) refl;
+      below = led_keeps (λ (top : Lead). top.index < length c.args.inventory.now.items) l.r.top _ l.invariant.below (search rules);
     })
 
 pub returns : goal.returns
-returns c = (ended (rank_turn c.args.inventory.now c.args.ll.now) c.loop-t.invariant.left (omega arith), c.loop-t.invariant.below)
+returns c = (ended (rank_turn c.args.inventory.now c.args.ll.now) c.loop-t.invariant.left (search rules), c.loop-t.invariant.below)

@@ -1,6 +1,6 @@
 -- `exp` meets its contract: past its three tests, what the whole number n gives.
 use Rattle.std.proofs.Common.{◌≡◌, ◌*◌, ◌^◌, false, ap, ◌∙◌, arith, Float, is_nan}
-use lib.Ieee.{binary64, of_bits, div, mul, neg}
+use lib.Ieee.{binary64, of_bits, mul, neg}
 use Rattle.tonekit_float.specs.Bounds.{In}
 use Rattle.tonekit_float.proofs.Nans.{ne_self}
 use Rattle.tonekit_float.proofs.Narrowing.{below_inf}
@@ -25,7 +25,7 @@ unfolding of_bits
 returns-then-v-2 c = low_result c.args.v (ne_self c.args.v ∙ c.if-v.false) c.if-v-2.true
 
 pub returns-then-v-3 : goal.returns-then-v-3
-unfolding of_bits div
+unfolding of_bits
 returns-then-v-3 c = high_result c.args.v (ne_self c.args.v ∙ c.if-v.false) c.if-v-2.false c.if-v-3.true
 
 pub whole_below-n-requires : goal.whole_below-n-requires

@@ -6,7 +6,7 @@ use Rattle.tonekit_log.proofs.scaled.Goals as goal
 
 pub fields-p-requires : goal.fields-p-requires
 unfolding of_bits
-fields-p-requires c = (scaled_number c.args.x c.requires.low c.requires.high).1
+fields-p-requires c = (scaled_number c.args.positive.value c.args.positive.above c.requires).1
 
 pub returns-then-x : goal.returns-then-x
 unfolding scaled of_int of_bits

@@ -1,10 +1,8 @@
-use Rattle.std.proofs.Common.{ℕ, ◌≡◌, ◌+◌, ◌*◌, Ok}
+use Rattle.std.proofs.Common.{ℕ, ◌≡◌, Ok}
 use Rattle.tonekit_core.specs.Loop.{range_to}
-use Rattle.tonekit_query.specs.Query.{frame_turn, fields_of, read_frames}
+use Rattle.tonekit_query.specs.Query.{end_of, frame_turn, fields_of, read_frames}
 use Rattle.tonekit_query.proofs.read_frames.Given as goal
 
-abbrev pub invariant-loop : goal.invariant-loop
-invariant-loop l = record {
-  place : l.at ≡ 46 + 10 * l.counter;
-  rest : range_to (frame_turn l.query) (λ (a : ℕ). Ok (fields_of l.query)) l.counter l.count l.at ≡ read_frames l.query l.count;
-}
+abbrev pub invariant-loop-i : goal.invariant-loop-i
+invariant-loop-i l =
+    range_to (frame_turn l.query) (λ (a : ℕ). Ok (fields_of l.query)) l.i l.count (end_of l.i) ≡ read_frames l.query l.count

@@ -7,16 +7,16 @@ use Rattle.tonekit_float.proofs.Patterns.{units_in}
 use Rattle.tonekit_root.proofs.root_above.Goals as goal
 use Rattle.tonekit_root.proofs.root_above.Goals.{Start}
 
-held : (c : Start) → T (fits binary64 c.args.x)
-held c = subst T (sym c.well_formed.0.1) tt
+held : (c : Start) → T (fits binary64 c.args.x.value)
+held c = subst T (sym c.well_formed.0.1.1.0.1) tt
 
-known : (c : Start) → Above c.args.x
-known c = above c.args.x (held c) c.requires.low c.requires.high
+known : (c : Start) → Above c.args.x.value
+known c = above c.args.x.value (held c) c.args.x.above c.requires
 
-normal : (c : Start) → (to_bits binary64 c.args.x / 2 ^ 52 ≡ 0 → ⊥) → units_in c.args.x ≡ (to_bits binary64 c.args.x % 2 ^ 52 + 2 ^ 52) * 2 ^ (to_bits binary64 c.args.x / 2 ^ 52 - 1)
+normal : (c : Start) → (to_bits binary64 c.args.x.value / 2 ^ 52 ≡ 0 → ⊥) → units_in c.args.x.value ≡ (to_bits binary64 c.args.x.value % 2 ^ 52 + 2 ^ 52) * 2 ^ (to_bits binary64 c.args.x.value / 2 ^ 52 - 1)
 normal c h =
-    let b = to_bits binary64 c.args.x in
-    at_normal c.args.x (b / 2 ^ 52 - 1) (known c) (next (b / 2 ^ 52) h) ∙ ap (λ (n : ℕ). n * 2 ^ (b / 2 ^ 52 - 1)) (add_comm (2 ^ 52) (b % 2 ^ 52))
+    let b = to_bits binary64 c.args.x.value in
+    at_normal c.args.x.value (b / 2 ^ 52 - 1) (known c) (next (b / 2 ^ 52) h) ∙ ap (λ (n : ℕ). n * 2 ^ (b / 2 ^ 52 - 1)) (add_comm (2 ^ 52) (b % 2 ^ 52))
   where
     next : (n : ℕ) → (n ≡ 0 → ⊥) → n ≡ suc (n - 1)
     next n h = omega arith
@@ -24,14 +24,14 @@ normal c h =
 pub raised-s-requires : goal.raised-s-requires
 raised-s-requires c =
     let k = known (goal.at.raised-s-requires c).Start in
-    (subst (λ (n : ℕ). 0 < n) (at_subnormal c.args.x k c.if-field-eq0.true) k.some, omega arith)
+    (subst (λ (n : ℕ). 0 < n) (at_subnormal c.args.x.value k c.if-field-eq0.true) k.some, omega arith)
 
 pub overflow_add-g : goal.overflow_add-g
 overflow_add-g c = let k = known (goal.at.overflow_add-g c).Start in omega (arith, k.field)
 
 pub times-requires-then-g-eq0 : goal.times-requires-then-g-eq0
 times-requires-then-g-eq0 c =
-    let x = c.args.x in
+    let x = c.args.x.value in
     let d = c.digits_root-then-g-eq0 in
     let k = known (goal.at.times-requires-then-g-eq0 c).Start in
     let f = k.field in
@@ -42,7 +42,7 @@ overflow_add-g-else-g-eq0 c = let k = known (goal.at.overflow_add-g-else-g-eq0 c
 
 pub times-requires-else-g-eq0 : goal.times-requires-else-g-eq0
 times-requires-else-g-eq0 c =
-    let x = c.args.x in
+    let x = c.args.x.value in
     let d = c.digits_root-else-g-eq0 in
     let k = known (goal.at.times-requires-else-g-eq0 c).Start in
     let f = k.field in
@@ -51,7 +51,7 @@ times-requires-else-g-eq0 c =
 pub returns-then-field-eq0 : goal.returns-then-field-eq0
 returns-then-field-eq0 c =
     let k = known (goal.at.returns-then-field-eq0 c).Start in
-    let x = c.args.x in
+    let x = c.args.x.value in
     let d = c.digits_root in
     let r = c.raised-s in
     let e = r.ensures in
@@ -63,7 +63,7 @@ returns-then-field-eq0 c =
 pub returns-then-g-eq0 : goal.returns-then-g-eq0
 returns-then-g-eq0 c =
     let k = known (goal.at.returns-then-g-eq0 c).Start in
-    let x = c.args.x in
+    let x = c.args.x.value in
     let g = to_bits binary64 x / 2 ^ 52 - 1 in
     let d = c.digits_root-then-g-eq0 in
     c.times-then-g-eq0.ensures
@@ -74,7 +74,7 @@ returns-then-g-eq0 c =
 pub returns-else-g-eq0 : goal.returns-else-g-eq0
 returns-else-g-eq0 c =
     let k = known (goal.at.returns-else-g-eq0 c).Start in
-    let x = c.args.x in
+    let x = c.args.x.value in
     let g = to_bits binary64 x / 2 ^ 52 - 1 in
     let d = c.digits_root-else-g-eq0 in
     c.times-else-g-eq0.ensures

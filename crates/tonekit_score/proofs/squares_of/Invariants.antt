@@ -6,4 +6,4 @@ use Rattle.tonekit_score.proofs.squares_of.Given as goal
 
 abbrev pub invariant-loop-k : goal.invariant-loop-k
 invariant-loop-k l =
-    range (square_turn l.contour l.weights l.region l.points l.slot) l.k 10 l.q ≡ range (square_turn l.contour l.weights l.region l.points l.slot) 0 10 (record { weighted = zero64; total = zero64 })
+    range (square_turn l.x.contour l.x.weights l.region l.ten) l.k 10 l.q ≡ range (square_turn l.x.contour l.x.weights l.region l.ten) 0 10 (record { weighted = zero64; total = zero64 })

@@ -1,4 +1,7 @@
-use Rattle.std.proofs.Common.{rules}
+use Rattle.std.proofs.Common.{rules, ap, ◌∙◌}
+use Rattle.std.proofs.lemmas.List.{map-id}
+use Rattle.std.specs.Float.{binary32}
+use Rattle.tonekit_contour.specs.Range.{range_in}
 use Rattle.tonekit_shape.proofs.Built.{built}
 use Rattle.tonekit_shape.proofs.measured.Goals as goal
 
@@ -16,7 +19,7 @@ returns c =
     c.narrow-2.ensures
     c.turn_of-turn.ensures.0
     (search rules)
-    c.range_of.ensures
+    (c.range_of.ensures ∙ ap (range_in binary32) (map-id c.contour_of-contour.result))
     c.span_frames-span.ensures
     c.f32_of.ensures
     c.confidence_of-confidence.ensures

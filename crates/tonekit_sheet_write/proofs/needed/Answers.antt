@@ -1,13 +1,11 @@
+use Rattle.tonekit_bytes.specs.Places.{in_order}
+use Rattle.tonekit_bytes.proofs.InOrder.{order_length}
+use Rattle.tonekit_sheet_plan.specs.Plans.{planned_by}
 use Rattle.tonekit_sheet_write.proofs.Together.{sheet_length}
 use Rattle.tonekit_sheet_write.proofs.needed.Goals as goal
 
-pub row_count-rows-requires : goal.row_count-rows-requires
-row_count-rows-requires c = (c.args.a.few, c.args.p.few_tones)
-
-pub sheet_row_at-requires : goal.sheet_row_at-requires
-sheet_row_at-requires c = (c.args.p.few_tones, c.args.a.few, c.row_count-rows.ensures.1)
-
 pub returns : goal.returns
 returns c =
-    let a = c.args in
-    sheet_length a.s.now a.p a.a a.plan.now c.requires.0 _ _ _ c.row_count-rows.ensures.0 c.sheet_row_at.ensures c.lists_size.ensures.0
+    let r = c.args.d.now.rows in
+    let a = r.accents in
+    sheet_length r.view.bytes.now r.view.pack (in_order a.at a.count) a.count (planned_by c.args.d.now.plan.now) r.sorted.ordered (order_length a.at a.count) _ _ _ c.row_count-rows.ensures.0 c.sheet_row_at.ensures c.lists_size.ensures.0

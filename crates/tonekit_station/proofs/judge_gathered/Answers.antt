@@ -1,5 +1,6 @@
 -- `judge_gathered` meets its contract, by the ways through its code.
-use Rattle.std.proofs.Common.{◌≡◌, sym, ◌∙◌, arith}
+use Rattle.std.proofs.Common.{◌≡◌, sym, ap, ◌∙◌, arith, ℕ}
+use Rattle.tonekit_judge.specs.Record.{judgement_bytes}
 use Rattle.tonekit_core.proofs.Calls.{delivers_refused, delivers_same}
 use Rattle.tonekit_query.specs.Query.{frames_of}
 use Rattle.tonekit_shape.specs.Extract.{extent_of}
@@ -37,5 +38,6 @@ pub returns : goal.returns
 returns c =
     delivers_same _ _ _ _ _
     (target_held _ _ _ c.voiced_frames-e.result (voiced (goal.at.returns c).After-voiced_frames-e) _ (sym c.query_verdict.ensures ∙ c.in-Ok.is) _ c.targets_of.ensures.0 c.in-Some.targets c.in-Some.is
-    c.shape_of-x.result (rw (← c.frames-frames.ensures) c.shape_of-x.ensures) c.united-issues.result c.united-issues.ensures c.judge-j.result c.judge-j.ensures c.judgement_record-record.result c.judgement_record-record.ensures)
+    c.shape_of-x.result (rw (← c.frames-frames.ensures) c.shape_of-x.ensures) c.united-issues.result c.united-issues.ensures c.judge-j.result c.judge-j.ensures c.judgement_record-record.result
+    (c.judgement_record-record.ensures ∙ ap (λ (n : ℕ). judgement_bytes c.args.q.tone n c.judge-j.result) c.len.ensures.value))
     c.write_record.ensures

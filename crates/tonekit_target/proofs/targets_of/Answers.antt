@@ -1,30 +1,58 @@
--- `targets_of` meets its contract: a turn of the loop is a turn of the search.
-use Rattle.std.proofs.Common.{rules, refl}
+-- `targets_of` meets its contract: the main tone is the first turn of the search, and a turn of the loop each of the others.
+use Rattle.std.proofs.Common.{rules, refl, add-one, arith, ◌+◌, ◌≤◌, ◌<◌, length}
 use Rattle.tonekit_core.specs.Loop.{to_again, to_stop, to_ended}
-use Rattle.tonekit_target.specs.Target.{with_target, targets_of}
-use Rattle.tonekit_target.proofs.Places.{partly_none, partly_more, partly_all}
+use Rattle.tonekit_target.specs.Target.{main_weight, no_targets, aim_turn, targets_of}
+use Rattle.tonekit_target.proofs.Places.{placed_none, placed_more, with_pushed}
 use Rattle.tonekit_target.proofs.targets_of.Goals as goal
 
-pub loop-k-init : goal.loop-k-init
+pub returns-in_err-target_of : goal.returns-in_err-target_of
 unfolding targets_of
-loop-k-init c = rw (c.main_weight-main.ensures, c.from-count.ensures) (record { few = search rules; placed = partly_none _ _; left = refl })
+returns-in_err-target_of c =
+    rw c.from_residual.ensures (
+      to_stop (aim_turn c.args.inventory.now c.args.query.now c.args.tone (main_weight c.args.query.now c.args.variants)) _ refl (omega arith)
+          (rw (← c.main_weight.ensures, ← c.greater-main.ensures, ← c.target_of.ensures.0, c.in_err-target_of.was)),
+      tt,
+    )
 
-pub returns-in_err-place : goal.returns-in_err-place
-returns-in_err-place c =
-    rw c.from_residual.ensures
-    (to_stop _ _ c.loop-k.invariant.left (search rules) (rw (← c.target_tone.ensures, ← c.place_of.ensures.0, c.in_err-place.was)), tt)
-
-pub loop-k-preserved : goal.loop-k-preserved
-unfolding with_target
-loop-k-preserved c =
-    let l = c.loop-k in
+pub loop-i-init : goal.loop-i-init
+unfolding targets_of
+loop-i-init c =
+    let inside = rw c.in_ok-target_of.was at c.target_of.ensures.1 in
+    let items = rw c.new-g.ensures at c.push.ensures.items in
     record {
-      few = search rules;
-      placed = partly_more _ _ _ _ _ _ l.invariant.placed (search rules) (rw c.in_ok-place.was at c.place_of.ensures.1);
-      left = to_again _ _ l.invariant.left (search rules) (rw (← c.target_tone.ensures, ← c.place_of.ensures.0, c.in_ok-place.was, ← c.target_weight.ensures));
+      few = omega arith;
+      so_many = rw c.new-g.ensures at c.push.ensures.len;
+      placed = placed_more _ c.in_ok-target_of.field-0 no_targets (placed_none _) (omega arith) inside c.push.new.self items;
+      left =
+          to_again (aim_turn c.args.inventory.now c.args.query.now c.args.tone (main_weight c.args.query.now c.args.variants)) _ refl (omega arith)
+          (rw (← c.main_weight.ensures, ← c.greater-main.ensures, ← c.target_of.ensures.0, c.in_ok-target_of.was, with_pushed c.in_ok-target_of.field-0 no_targets c.push.new.self (omega arith) items));
+    }
+
+pub returns-in_err-target_of-2 : goal.returns-in_err-target_of-2
+returns-in_err-target_of-2 c =
+    rw c.from_residual-in_err-target_of-2.ensures (
+      to_stop _ _ c.loop-i.invariant.left (search rules)
+          (rw (add-one, ← c.variant_tone-variant.ensures, ← c.variant_weight.ensures, ← c.target_of-in-loop-i.ensures.0, c.in_err-target_of-2.was)),
+      tt,
+    )
+
+pub loop-i-preserved : goal.loop-i-preserved
+loop-i-preserved c =
+    let l = c.loop-i.invariant in
+    let inside = rw c.in_ok-target_of-2.was at c.target_of-in-loop-i.ensures.1 in
+    let few : c.loop-i.i + 1 ≤ c.args.variants = search rules in
+    let room : length c.loop-i.g.items < 5 = omega (arith, l.so_many, few, c.requires) in
+    let is = with_pushed c.in_ok-target_of-2.field-0 c.loop-i.g c.push-in-loop-i.new.self room c.push-in-loop-i.ensures.items in
+    record {
+      few = few;
+      so_many = omega (arith, c.push-in-loop-i.ensures.len, l.so_many);
+      placed = placed_more _ c.in_ok-target_of-2.field-0 c.loop-i.g l.placed room inside c.push-in-loop-i.new.self c.push-in-loop-i.ensures.items;
+      left =
+          to_again _ _ l.left (search rules)
+          (rw (add-one, ← c.variant_tone-variant.ensures, ← c.variant_weight.ensures, ← c.target_of-in-loop-i.ensures.0, c.in_ok-target_of-2.was, is));
     }
 
 pub returns : goal.returns
 returns c =
-    let l = c.loop-k.invariant in
-    (to_ended _ _ l.left (search rules), partly_all _ _ _ _ (search rules) (search rules) l.placed)
+    let l = c.loop-i.invariant in
+    (to_ended _ _ l.left (search rules), l.placed)

@@ -1,13 +1,14 @@
 -- What is left of the loop, from here, gives what the whole gives, and the targets so far are placed.
-use Rattle.std.proofs.Common.{◌≡◌, ◌+◌, ◌≤◌, Some}
+use Rattle.std.proofs.Common.{◌≡◌, ◌+◌, ◌≤◌, Some, length}
 use Rattle.tonekit_core.specs.Loop.{range_to}
-use Rattle.tonekit_target.specs.Target.{aim_turn, targets_of}
-use Rattle.tonekit_target.proofs.Places.{Partly}
+use Rattle.tonekit_judge.specs.Judge.{Placed}
+use Rattle.tonekit_target.specs.Target.{main_weight, aim_turn, targets_of}
 use Rattle.tonekit_target.proofs.targets_of.Given as goal
 
-abbrev pub invariant-loop-k : goal.invariant-loop-k
-invariant-loop-k l = record {
-  few : l.k ≤ l.variants + 1;
-  placed : Partly l.inventory.tones (l.variants + 1) l.k l.g;
-  left : range_to (aim_turn l.inventory l.query l.tone l.main) Some l.k (l.variants + 1) l.g ≡ targets_of l.inventory l.query l.tone l.variants;
+abbrev pub invariant-loop-i : goal.invariant-loop-i
+invariant-loop-i l = record {
+  few : l.i ≤ l.variants;
+  so_many : length l.g.items ≡ l.i + 1;
+  placed : Placed (length l.inventory.items) l.g;
+  left : range_to (aim_turn l.inventory l.query l.tone (main_weight l.query l.variants)) Some (l.i + 1) (l.variants + 1) l.g ≡ targets_of l.inventory l.query l.tone l.variants;
 }

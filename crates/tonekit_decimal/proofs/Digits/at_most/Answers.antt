@@ -1,21 +1,26 @@
-use Rattle.std.proofs.Common.{◌≡◌, length, ◌∙◌, arith, rules, add-one, length-append, min}
-use Rattle.std.proofs.lemmas.Slice.Zip.{zip_turn, zip_end}
-use Rattle.tonekit_decimal.proofs.Turns.{most_turn, most_end}
+use Rattle.std.proofs.Common.{◌≡◌, ◌∙◌, Bool, ap, sym, refl, reverse}
+use Rattle.std.proofs.lemmas.Iterator.Adapters.{YieldsList-from_rev_slice}
+use Rattle.std.proofs.lemmas.Iterator.Search.{cmp_from_yields_List}
+use Rattle.std.specs.Cmp.Lexicographic.{slice_cmp}
+use Rattle.std.specs.Ordering.{is_lt, is_le, nat_cmp}
+use Rattle.tonekit_decimal.proofs.Order.{within, by_cmp}
 use Rattle.tonekit_decimal.proofs.Digits.at_most.Goals as goal
+use Rattle.tonekit_decimal.proofs.Digits.at_most.Goals.{After-cmp-order}
 
-pub loop-x-preserved : goal.loop-x-preserved
-loop-x-preserved c =
-    let a = c.args in
-    let l = c.loop-x in
-    let t = zip_turn a.self.now.places a.other.now.places l.yielded c.into_iter-x-iterator.result l.x-iterator c.next.new.self _ (search rules) (search rules) l.yielded_by _ c.in-Some.is c.next.ensures.steps in
-    rw (length-append, add-one, c.from.ensures, c.from-in-loop-x.ensures, c.from-in-loop-x-2.ensures, t.2 0, t.3 0)
-    (rw add-one at (most_turn l.borrow a.self.now.places a.other.now.places (length l.yielded) _ t.0 t.1 l.invariant))
+order : (c : After-cmp-order) → c.cmp-order.result ≡ slice_cmp nat_cmp (reverse c.args.self.now.places) (reverse c.args.other.now.places)
+order c =
+    cmp_from_yields_List (λ x y. y ≡ x) _ nat_cmp _ c.cmp-order.ensures.ran (YieldsList-from_rev_slice c.args.self.now.places cc) (λ it e. YieldsList-from_rev_slice c.args.other.now.places cc) (λ x y. refl)
 
-pub returns : goal.returns
-returns c =
+pub returns-then-less : goal.returns-then-less
+returns-then-less c =
     let a = c.args in
-    let l = c.loop-x in
-    let m : min (length a.self.now.places) (length a.other.now.places) ≡ 190 = omega (arith, a.self.now.size, a.other.now.size) in
-    let t : length l.yielded ≡ 190 =
-    zip_end a.self.now.places a.other.now.places l.yielded c.into_iter-x-iterator.result l.x-iterator c.next.new.self _ (search rules) (search rules) l.yielded_by c.in-None.is c.next.ensures.steps ∙ m in
-    most_end l.borrow a.self.now.places a.other.now.places (length l.yielded) _ (omega (arith, a.self.now.size)) l.invariant
+    c.is_lt.ensures ∙ ap is_lt (order (goal.at.returns-then-less c).After-cmp-order)
+    ∙ ap (λ (t : Bool). within t (slice_cmp nat_cmp (reverse a.self.now.places) (reverse a.other.now.places))) (sym c.if-less.true)
+    ∙ sym (by_cmp a.less a.self.now.places a.other.now.places (a.self.now.size ∙ sym a.other.now.size))
+
+pub returns-else-less : goal.returns-else-less
+returns-else-less c =
+    let a = c.args in
+    c.is_le.ensures ∙ ap is_le (order (goal.at.returns-else-less c).After-cmp-order)
+    ∙ ap (λ (t : Bool). within t (slice_cmp nat_cmp (reverse a.self.now.places) (reverse a.other.now.places))) (sym c.if-less.false)
+    ∙ sym (by_cmp a.less a.self.now.places a.other.now.places (a.self.now.size ∙ sym a.other.now.size))

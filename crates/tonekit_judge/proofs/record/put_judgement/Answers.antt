@@ -11,7 +11,7 @@ eight c = search rules
 pub returns : goal.returns
 returns c =
     record_parts c.args.expected c.args.tones c.args.j (eight (goal.at.returns c).Start) c.args.out.now
-    c.put_head.ensures c.put_f32s.ensures c.put_scores.ensures c.put_deltas.ensures (rw (← c.from.ensures) c.put_tail.ensures)
+    c.put_head.ensures c.put_f32s.ensures c.put_scores.ensures c.put_deltas.ensures c.put_tail.ensures
 
 pub put_f32s-requires : goal.put_f32s-requires
 put_f32s-requires c = omega (arith, eight (goal.at.put_f32s-requires c).Start)

@@ -1,7 +1,12 @@
-use Rattle.std.proofs.Common.{◌≡◌}
+-- What is left of the loop, from here, over the gap between what stands before and behind it, gives what the whole gives.
+use Rattle.std.proofs.Common.{◌≡◌, ◌+◌, ◌-◌, length}
 use Rattle.tonekit_core.specs.Loop.{range}
 use Rattle.tonekit_shape.specs.Extract.{fill_turn, gap_filled}
+use Rattle.tonekit_shape.proofs.Gap.{joined}
 use Rattle.tonekit_shape.proofs.curve.fill_gap.Given as goal
 
-abbrev pub invariant-loop-g : goal.invariant-loop-g
-invariant-loop-g l = range (fill_turn l.prev l.j) l.g l.j l.curve ≡ gap_filled l.prev l.j l.initial.curve
+abbrev pub invariant-loop-k : goal.invariant-loop-k
+invariant-loop-k l = record {
+  many : length l.value-items ≡ l.j - (l.prev + 1);
+  left : range (fill_turn l.prev l.j) (l.prev + 1 + l.k) l.j (joined l.prev l.j l.fn.curve l.value-items) ≡ gap_filled l.prev l.j l.fn.curve;
+}

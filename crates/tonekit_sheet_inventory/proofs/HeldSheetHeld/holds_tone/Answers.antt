@@ -9,4 +9,4 @@ pub returns : goal.returns
 unfolding source_of_sheet
 returns c =
     let a = c.args in
-    rw (c.is_some.ensures, c.tone_index.ensures) (sym (tone_held a.bytes.now (shown a.self.now.sheet).tones a.number (tone_at a.bytes.now) (λ o. refl)))
+    rw (c.is_some.ensures, c.tone_index.ensures) (sym (tone_held a.self.now.view.bytes.now (shown a.self.now.view.sheet).tones a.number (tone_at a.self.now.view.bytes.now) (λ o. refl)))

@@ -3,10 +3,15 @@ use Rattle.std.proofs.Common.{◌≡◌, sym, ap, ◌∙◌}
 use Rattle.tonekit_sheet.specs.Reader.{loaded, load_sheet}
 use Rattle.tonekit_sheet.proofs.Turns.{loads_alone}
 use Rattle.tonekit_sheet_read.specs.Held.{shown, answered}
+use Rattle.tonekit_sheet_inventory.specs.Look.{sheet_in}
 use Rattle.tonekit_sheet_inventory.proofs.HeldSheetHeld.load.Goals as goal
+use Rattle.tonekit_sheet_inventory.proofs.HeldSheetHeld.load.Goals.{In_ok-loaded}
+
+loads : (c : In_ok-loaded) → load_sheet c.args.bytes.now ≡ loaded (shown c.in_ok-loaded.loaded.held) c.in_ok-loaded.loaded.end
+loads c = sym c.load_sheet.ensures ∙ ap answered c.in_ok-loaded.was
+
+pub invariant_of-result : goal.invariant_of-result
+invariant_of-result c = record { read = ap sheet_in (loads_alone _ _ _ (loads (goal.at.invariant_of-result c).In_ok-loaded)).0 }
 
 pub returns : goal.returns
-returns c =
-    let l = c.in_ok-loaded.loaded in
-    let e : load_sheet c.args.bytes.now ≡ loaded (shown l.sheet) l.end = sym c.load_sheet.ensures ∙ ap answered c.in_ok-loaded.was in
-    record { held = (record { end = l.end; reads = (loads_alone _ _ _ e).0 }, rw e); refused = tt }
+returns c = record { held = rw (loads (goal.at.returns c).In_ok-loaded); refused = tt }

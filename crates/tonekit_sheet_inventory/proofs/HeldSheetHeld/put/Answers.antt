@@ -1,24 +1,28 @@
 -- What a lookup in a sheet lists stands in its slots after.
-use Rattle.std.proofs.Common.{refl, sym, ◌∙◌, arith}
+use Rattle.std.proofs.Common.{refl, sym, arith}
 use Rattle.tonekit_sheet.specs.FromSheet.{source_of_sheet}
-use Rattle.tonekit_inventory.specs.Gather.{put_in, weights_of, points_of}
-use Rattle.tonekit_sheet_inventory.specs.Look.{name_at}
+use Rattle.tonekit_inventory.specs.Gather.{put_in}
+use Rattle.tonekit_sheet_inventory.specs.Look.{ShortList, name_at}
 use Rattle.tonekit_sheet_inventory.proofs.Slots.{list_named}
 use Rattle.tonekit_sheet_inventory.proofs.HeldSheetHeld.put.Goals as goal
+use Rattle.tonekit_sheet_inventory.proofs.HeldSheetHeld.put.Goals.{In_ok-o}
+
+short : (c : In_ok-o) → ShortList c.args.self.now.view.bytes.now c.in_ok-o.o
+short c = c.look.ensures.list _ c.in_ok-o.was
 
 pub fill-requires : goal.fill-requires
-fill-requires c = (c.requires.there, c.look_sheet.ensures.list _ c.in-Some.is)
+fill-requires c = (c.requires, short (goal.at.fill-requires c).In_ok-o)
 
-pub returns-in-Some : goal.returns-in-Some
+pub returns : goal.returns
 unfolding source_of_sheet name_at
-returns-in-Some c =
-    let s = c.args.bytes.now in
-    let e = rw c.in-Some.is at c.look_sheet.ensures.is in
-    let h = c.look_sheet.ensures.list _ c.in-Some.is in
-    record { name = rw e (c.name_at.ensures ∙ sym (list_named s c.in-Some.o h.some)); few = rw c.name_at.ensures h.few; slots = rw e c.fill.ensures }
+returns c =
+    let s = c.args.self.now.view.bytes.now in
+    let e = rw c.in_ok-o.was at c.look.ensures.is in
+    let h = short (goal.at.returns c).In_ok-o in
+    record { name = rw (e, c.name_at.ensures) (sym (list_named s c.in_ok-o.o h.some)); few = rw c.name_at.ensures h.few; slots = rw e c.fill.ensures }
 
-pub returns-in-None : goal.returns-in-None
-unfolding source_of_sheet put_in weights_of points_of
-returns-in-None c =
-    let e = rw c.in-None.is at c.look_sheet.ensures.is in
-    record { name = rw e c.no_name.ensures; few = rw c.no_name.ensures (omega arith); slots = rw e refl }
+pub returns-in_err-o : goal.returns-in_err-o
+unfolding source_of_sheet put_in
+returns-in_err-o c =
+    let e = rw c.in_err-o.was at c.look.ensures.is in
+    rw c.from_residual.ensures (record { name = rw e refl; few = omega arith; slots = rw e refl })

@@ -1,48 +1,43 @@
-use Rattle.std.proofs.Common.{rules, arith, ◌≤◌, ◌<◌, ℕ, sym, length, get_or}
+use Rattle.std.proofs.Common.{rules, arith, ◌≤◌, ℕ, sym, ◌∙◌, ap, refl, subst, List, length}
 use Rattle.tonekit_core.specs.Loop.{again, ended}
+use Rattle.tonekit_bytes.specs.Places.{in_order}
+use Rattle.tonekit_bytes.proofs.InOrder.{order_length}
+use Rattle.tonekit_pack.specs.Pack.{read_pack}
 use Rattle.tonekit_pack.specs.Held.{shown}
-use Rattle.tonekit_sheet.specs.Sheet.{lists_of}
-use Rattle.tonekit_sheet_fit.proofs.Fits.{fit_of_pack}
-use Rattle.tonekit_sheet_plan.specs.Rows.{pack_view}
+use Rattle.tonekit_sheet.specs.Sheet.{note_turn}
+use Rattle.tonekit_sheet_fit.proofs.Fits.{few_lists}
+use Rattle.tonekit_sheet_plan.specs.Rows.{pack_view, end_of}
 use Rattle.tonekit_sheet_plan.specs.Plans.{planned_by}
-use Rattle.tonekit_sheet_plan.proofs.Memo.{none_planned, sane_none}
 use Rattle.tonekit_sheet_plan.proofs.Views.{turn_room, lists_begun}
 use Rattle.tonekit_sheet_plan.proofs.Plan.note_rows.Goals as goal
-use Rattle.tonekit_sheet_plan.proofs.Plan.note_rows.Goals.{In-loop-i}
-
-pub row_count-i-end-requires : goal.row_count-i-end-requires
-row_count-i-end-requires c = (c.args.a.few, c.args.p.few_tones)
 
 pub loop-i-init : goal.loop-i-init
 loop-i-init c =
-    let a = c.args in (
+    let r = c.args.rows.now in
+    let os = in_order r.accents.at r.accents.count in
+    let n = c.row_count-i-end.ensures in (
       search rules,
-      c.row_count-i-end.ensures.1,
-      sane_none a.s.now a.self.now c.requires.1,
-      lists_begun a.s.now a.p a.a c.requires.0.ordered c.row_count-i-end.result (planned_by a.s.now a.self.now) c.row_count-i-end.ensures.0 (none_planned a.s.now a.self.now c.requires.1),
+      n.1,
+      c.requires.0,
+      lists_begun r.view.bytes.now r.view.pack os r.sorted.ordered c.row_count-i-end.result (planned_by c.args.self.now) (rw (order_length r.accents.at r.accents.count) n.0) (rw c.requires.1.no_lists refl),
     )
-
--- a pack that loads has at most 128 lists
-few : (c : In-loop-i) → length (lists_of (pack_view c.args.s.now (shown c.args.p))) ≤ 128
-few c =
-    let r = c.requires.0.reads in
-    let bytes : (i : ℕ) → get_or c.args.s.now i 0 < 256 = λ i. omega (arith, (c.type_inv.s i).fits) in
-    (fit_of_pack c.args.s.now bytes (shown c.args.p) r.end r.loads).few_lists
 
 pub note_row-requires : goal.note_row-requires
 note_row-requires c =
-    let a = c.args in (
-      c.requires.0,
-      record {
-        sane = c.loop-i.invariant.2;
-        few = turn_room (pack_view a.s.now (shown a.p)) (planned_by a.s.now c.loop-i.self) c.loop-i.invariant.3 c.loop-i-test.true (few (goal.at.note_row-requires c).In-loop-i);
-      },
-    )
+    let v = c.args.rows.now.view in
+    let s = v.bytes.now in
+    let l = c.loop-i in
+    let few = few_lists s (shown v.pack) (end_of (read_pack s)) c.args.rows.now.sorted.reads.loads in
+    let room = turn_room (pack_view s (shown v.pack)) (planned_by l.self) l.invariant.3 c.loop-i-test.true few in
+    (l.invariant.2, subst (λ (s : List ℕ). length (note_turn (pack_view s (shown v.pack)) l.i (planned_by l.self)) ≤ 128) (sym l.invariant.2) room)
 
 pub loop-i-preserved : goal.loop-i-preserved
 loop-i-preserved c =
+    let v = c.args.rows.now.view in
     let t = c.loop-i-test.true in
-    (omega (arith, t), c.loop-i.invariant.1, c.note_row.ensures.sane, again _ c.loop-i.invariant.3 t (sym c.note_row.ensures.same))
+    let l = c.loop-i in
+    let on = c.note_row.ensures.same ∙ ap (λ s. note_turn (pack_view s (shown v.pack)) l.i (planned_by l.self)) l.invariant.2 in
+    (omega (arith, t), l.invariant.1, c.note_row.ensures.bytes ∙ l.invariant.2, again _ l.invariant.3 t (sym on))
 
 pub returns : goal.returns
-returns c = record { same = ended _ c.loop-i.invariant.3 c.loop-i-test.false; sane = c.loop-i.invariant.2 }
+returns c = record { bytes = c.loop-i.invariant.2; same = ended _ c.loop-i.invariant.3 c.loop-i-test.false }

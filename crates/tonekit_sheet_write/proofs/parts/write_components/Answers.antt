@@ -8,12 +8,12 @@ pub loop-j-init : goal.loop-j-init
 loop-j-init c = (search rules, write_begun _ _ _ _ _ (omega arith))
 
 -- one of the listing's components
-inside : (c : In-loop-j) → c.loop-j.j < c.args.l.count
+inside : (c : In-loop-j) → c.loop-j.j < c.args.c.listing.count
 inside c = omega (arith, c.loop-j.invariant.0, c.loop-j-test.true)
 
 pub write_component-o-requires : goal.write_component-o-requires
 write_component-o-requires c =
-    (c.requires.0, inside (goal.at.write_component-o-requires c).In-loop-j, omega (arith, component_length c.args.s.now c.args.l c.loop-j.j, write_room _ c.loop-j.invariant.1 (inside (goal.at.write_component-o-requires c).In-loop-j) c.requires.1))
+    (inside (goal.at.write_component-o-requires c).In-loop-j, omega (arith, component_length c.args.c.bytes.now c.args.c.listing c.loop-j.j, write_room _ c.loop-j.invariant.1 (inside (goal.at.write_component-o-requires c).In-loop-j) c.requires))
 
 pub loop-j-preserved : goal.loop-j-preserved
 loop-j-preserved c =

@@ -4,4 +4,7 @@ use Rattle.tonekit_sheet_write.specs.Pieces.{component_piece, components_part}
 use Rattle.tonekit_sheet_write.proofs.parts.write_components.Given as goal
 
 abbrev pub invariant-loop-j : goal.invariant-loop-j
-invariant-loop-j lt = (lt.j-end ≡ lt.l.count) × Writing (component_piece lt.s lt.l) lt.l.count lt.at (components_part lt.s lt.l) lt.initial.out lt.out lt.j lt.o
+invariant-loop-j lt =
+    let s = lt.c.bytes.now in
+    let l = lt.c.listing in
+    (lt.j-end ≡ l.count) × Writing (component_piece s l) l.count lt.at (components_part s l) lt.initial.out lt.out lt.j lt.o

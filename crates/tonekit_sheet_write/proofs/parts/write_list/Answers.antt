@@ -1,32 +1,25 @@
-use Rattle.std.proofs.Common.{arith, ◌∙◌}
+use Rattle.std.proofs.Common.{subst, List, ℕ}
 use Rattle.tonekit_sheet.specs.Gather.{joined, room_then}
+use Rattle.tonekit_sheet_plan.specs.Listings.{Kept}
 use Rattle.tonekit_sheet_write.specs.Pieces.{components_part}
-use Rattle.tonekit_sheet_write.proofs.Bytes.{wrote_as, wrote_size, list_kept, list_is, list_size_lem, list_room}
+use Rattle.tonekit_sheet_write.proofs.Bytes.{wrote_as, list_is, list_room}
 use Rattle.tonekit_sheet_write.proofs.parts.write_list.Goals as goal
+use Rattle.tonekit_sheet_write.proofs.parts.write_list.Goals.{After-curves-c}
 
-pub list_at-l-requires : goal.list_at-l-requires
-list_at-l-requires c = omega (arith, c.requires.0.few, c.requires.0.slots, c.requires.1)
-
-pub write_head-o-requires : goal.write_head-o-requires
-write_head-o-requires c =
-    let l = c.list_at-l in
-    let a = c.args in
-    let k = list_kept a.s.now a.plan.now c.requires.0 a.i c.requires.1 l.ensures in
-    (k.few, omega (arith, c.requires.0.few, c.requires.1), omega (arith, c.requires.2, list_size_lem a.s.now a.plan.now c.requires.0 a.i c.requires.1 l.ensures))
+-- what the curves are of can be read from the plan's bytes
+kept : (c : After-curves-c) → Kept c.args.plan.now.bytes.now c.curves-c.result.listing
+kept c = subst (λ (s : List ℕ). Kept s c.curves-c.result.listing) c.curves-c.ensures.bytes c.curves-c.result.kept
 
 pub write_components-requires : goal.write_components-requires
 write_components-requires c =
-    let l = c.list_at-l in
-    let a = c.args in (
-      list_kept a.s.now a.plan.now c.requires.0 a.i c.requires.1 l.ensures,
-      room_then (components_part a.s.now l.result) c.write_head-o.ensures (list_room a.s.now a.plan.now c.requires.0 a.i c.requires.1 l.ensures _ _ c.requires.2),
-    )
-
-pub shape_of-out : goal.shape_of-out
-shape_of-out c = wrote_size c.write_components.ensures ∙ wrote_size c.write_head-o.ensures
+    let p = c.args.plan.now in
+    let k = kept (goal.at.write_components-requires c).After-curves-c in
+    rw c.curves-c.ensures.bytes
+    (room_then (components_part p.bytes.now c.curves-c.result.listing) c.write_head-o.ensures (list_room p.bytes.now p.lists.items c.args.i c.requires.0 c.curves-c.ensures.listing k _ _ c.requires.2))
 
 pub returns : goal.returns
 returns c =
-    let l = c.list_at-l in
-    let a = c.args in
-    wrote_as (list_is a.s.now a.plan.now c.requires.0 a.i c.requires.1 l.ensures) (joined c.write_head-o.ensures c.write_components.ensures)
+    let p = c.args.plan.now in
+    let k = kept (goal.at.returns c).After-curves-c in
+    let w = rw c.curves-c.ensures.bytes at c.write_components.ensures in
+    wrote_as (list_is p.bytes.now p.lists.items c.args.i c.requires.0 c.curves-c.ensures.listing k) (joined c.write_head-o.ensures w)

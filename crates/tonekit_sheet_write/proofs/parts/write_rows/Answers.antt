@@ -4,19 +4,16 @@ use Rattle.tonekit_sheet.specs.Sheet.{row_count}
 use Rattle.tonekit_sheet_write.proofs.parts.write_rows.Goals as goal
 use Rattle.tonekit_sheet_write.proofs.parts.write_rows.Goals.{In-loop-i}
 
-pub row_count-i-end-requires : goal.row_count-i-end-requires
-row_count-i-end-requires c = (c.args.a.few, c.args.p.few_tones)
-
 pub loop-i-init : goal.loop-i-init
 loop-i-init c = (c.row_count-i-end.ensures.0, write_begun _ _ _ _ _ (omega arith))
 
 -- one of the rows
-inside : (c : In-loop-i) → let a = c.args in c.loop-i.i < row_count a.a.count a.p.tones
+inside : (c : In-loop-i) → let d = c.args.d.now.rows in c.loop-i.i < row_count d.accents.count d.view.pack.tones.count
 inside c = omega (arith, c.loop-i.invariant.0, c.loop-i-test.true)
 
 pub write_row-o-requires : goal.write_row-o-requires
 write_row-o-requires c =
-    (c.requires.0, omega (arith, write_room _ c.loop-i.invariant.1 (inside (goal.at.write_row-o-requires c).In-loop-i) c.requires.1))
+    omega (arith, write_room _ c.loop-i.invariant.1 (inside (goal.at.write_row-o-requires c).In-loop-i) c.requires)
 
 pub loop-i-preserved : goal.loop-i-preserved
 loop-i-preserved c =

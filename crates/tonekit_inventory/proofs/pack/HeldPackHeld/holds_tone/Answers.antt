@@ -1,0 +1,12 @@
+-- A search finds a tone that is held.
+use Rattle.std.proofs.Common.{refl, sym}
+use Rattle.tonekit_pack.specs.Held.{shown}
+use Rattle.tonekit_expect.specs.Source.{tone_at, source_of_pack}
+use Rattle.tonekit_inventory.proofs.Search.{tone_held}
+use Rattle.tonekit_inventory.proofs.pack.HeldPackHeld.holds_tone.Goals as goal
+
+pub returns : goal.returns
+unfolding source_of_pack
+returns c =
+    let a = c.args in
+    rw (c.is_some.ensures, c.tone_index.ensures) (sym (tone_held a.self.now.view.bytes.now (shown a.self.now.view.pack).tones a.number (tone_at a.self.now.view.bytes.now) (λ o. refl)))

@@ -1,0 +1,15 @@
+-- `logliks` meets its contract: a turn of the loop is a turn of the definition.
+use Rattle.std.proofs.Common.{rules, refl}
+use Rattle.tonekit_core.specs.Loop.{again, ended}
+use Rattle.tonekit_judge.specs.Judge.{logliks}
+use Rattle.tonekit_judge.proofs.Components.logliks.Goals as goal
+
+pub loop-t-init : goal.loop-t-init
+unfolding logliks
+loop-t-init c = (search rules, refl)
+
+pub loop-t-preserved : goal.loop-t-preserved
+loop-t-preserved c = (search rules, again _ c.loop-t.invariant.1 (search rules) (rw (c.loglik_at.ensures, c.count.ensures, c.deref-entry-items.ensures.0) refl))
+
+pub returns : goal.returns
+returns c = ended _ c.loop-t.invariant.1 (search rules)

@@ -1,0 +1,9 @@
+-- What is left of the loop, from here, gives what the whole gives.
+use Rattle.std.proofs.Common.{◌≡◌, length}
+use Rattle.tonekit_core.specs.Loop.{range}
+use Rattle.tonekit_judge.specs.Judge.{cell, loglik_turn, logliks}
+use Rattle.tonekit_judge.proofs.Components.logliks.Given as goal
+
+abbrev pub invariant-loop-t : goal.invariant-loop-t
+invariant-loop-t l =
+    (length l.ll ≡ 8) × (range (loglik_turn l.self.scoring l.inventory (cell l.self.list)) l.t (length l.inventory.items) l.ll ≡ logliks l.self.scoring l.inventory (cell l.self.list))

@@ -1,0 +1,12 @@
+-- Ranges by the bits of their bounds, as the code has them. Assumes nothing.
+use Rattle.std.proofs.Common.{◌≡◌, refl, ◌&&◌, Float}
+use lib.Ieee.{binary32, lt, neg, of_bits}
+use Rattle.tonekit_pack.specs.Ranges.{above_zero, within, knot_fine}
+
+pub above_bits : (x : Float) → above_zero x ≡ (lt (of_bits binary32 0) x && lt x (of_bits binary32 0x7f80_0000))
+unfolding above_zero of_bits
+above_bits x = refl
+
+pub knot_within : (x : Float) → knot_fine x ≡ within x (of_bits binary32 0x42c8_0000)
+unfolding knot_fine within neg of_bits
+knot_within x = refl

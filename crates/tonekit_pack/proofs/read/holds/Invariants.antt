@@ -1,6 +1,0 @@
-use Rattle.std.proofs.Common.{◌≡◌, drop}
-use Rattle.tonekit_pack.specs.Pack.{holds}
-use Rattle.tonekit_pack.proofs.read.holds.Given as goal
-
-abbrev pub invariant-loop-o : goal.invariant-loop-o
-invariant-loop-o l = holds l.s (drop l.o-index l.places) l.x ≡ holds l.s l.places l.x

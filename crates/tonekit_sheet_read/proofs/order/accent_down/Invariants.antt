@@ -1,8 +1,0 @@
-use Rattle.std.proofs.Common.{◌≡◌, ◌≤◌, length, None}
-use Rattle.tonekit_core.specs.Loop.{range_to}
-use Rattle.tonekit_sheet.specs.Reader.{accent_turn, accent_down}
-use Rattle.tonekit_sheet_read.specs.Held.{shown}
-use Rattle.tonekit_sheet_read.proofs.order.accent_down.Given as goal
-
-abbrev pub invariant-loop-i : goal.invariant-loop-i
-invariant-loop-i l = (l.i-end ≡ l.st.accents) × (l.i ≤ l.i-end) × (range_to (accent_turn l.s (shown l.st)) (λ n. None) l.i (length (shown l.st).accents) l.before ≡ accent_down l.s (shown l.st))

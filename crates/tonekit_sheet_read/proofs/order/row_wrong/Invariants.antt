@@ -1,8 +1,0 @@
-use Rattle.std.proofs.Common.{◌≡◌, ◌≤◌, None}
-use Rattle.tonekit_core.specs.Loop.{range_to}
-use Rattle.tonekit_sheet.specs.Reader.{row_turn, row_wrong}
-use Rattle.tonekit_sheet_read.specs.Held.{shown}
-use Rattle.tonekit_sheet_read.proofs.order.row_wrong.Given as goal
-
-abbrev pub invariant-loop-r : goal.invariant-loop-r
-invariant-loop-r l = (l.r-end ≡ l.st.rows) × (l.r ≤ l.r-end) × (range_to (row_turn l.s (shown l.st)) (λ n. None) l.r l.r-end l.m ≡ row_wrong l.s (shown l.st))
