@@ -4,11 +4,11 @@ use Rattle.std.specs.Float.{binary32, binary64}
 use Rattle.std.specs.Float.Ieee.{of_bits, to_bits}
 use Rattle.std.specs.Simd.{first_chunks}
 use Rattle.tonekit_core.specs.Loop.{fold}
-use Rattle.tonekit_bytes.specs.Fields.{u32_at}
-use Rattle.tonekit_float.specs.Narrow.{narrowed}
-use Rattle.tonekit_root.specs.Root.{root_of}
-use Rattle.tonekit_log.specs.Log.{ln_of, log2_of}
-use Rattle.tonekit_log.specs.Exp.{exp_of}
+use Rattle.spec_arithmetic.specs.Fields.{u32_at}
+use Rattle.spec_arithmetic.specs.Narrow.{narrowed}
+use Rattle.spec_arithmetic.specs.Root.{root_of}
+use Rattle.spec_arithmetic.specs.Log.{ln_of, log2_of}
+use Rattle.spec_arithmetic.specs.Exp.{exp_of}
 use Rattle.arithmetic_vectors.specs.declared.Operation.{Operation}
 use Rattle.arithmetic_vectors.specs.declared.Operation.TheVariants.{Narrow, Root, Ln, Log2, Exp}
 use Rattle.arithmetic_vectors.specs.declared.Count.{Count}

@@ -1,7 +1,7 @@
 // The single functions, on numbers by their bits.
 ghost use Rattle.std.specs.Prelude.{ℕ, ◌<◌, ◌≤◌, slice_index_or};
 ghost use Rattle.std.specs.Float.{nan};
-ghost use Rattle.tonekit_expect.specs.Knots.{Knot};
+ghost use Rattle.spec_lookup.specs.Knots.{Knot};
 
 use crate::recorded::Recorded;
 use tonekit_bytes::{f32_at, u32_at};

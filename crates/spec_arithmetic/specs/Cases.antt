@@ -2,10 +2,10 @@
 use Rattle.std.specs.Prelude.{◌≡◌, ℕ, true, false, pos, negsuc, refl}
 use Rattle.std.specs.Float.{nan, inf, fin, binary32, binary64, float_with_sign}
 use Rattle.std.specs.Float.Ieee.{round, of_int, of_bits, to_bits, is_nan, lt}
-use Rattle.tonekit_float.specs.Narrow.{narrowed}
-use Rattle.tonekit_float.specs.Pick.{lesser, greater}
-use Rattle.tonekit_float.specs.Magnitude.{magnitude, total_le}
-use Rattle.tonekit_float.specs.Whole.{whole_part, round_up}
+use Rattle.spec_arithmetic.specs.Narrow.{narrowed}
+use Rattle.spec_arithmetic.specs.Pick.{lesser, greater}
+use Rattle.spec_arithmetic.specs.Magnitude.{magnitude, total_le}
+use Rattle.spec_arithmetic.specs.Whole.{whole_part, round_up}
 
 -- ---- f64 to f32, by their patterns: 1 + 2 ^ -24 and 1 + 3 * 2 ^ -24 lie halfway between two f32
 tie_down : narrowed (of_bits binary64 0x3FF0_0000_1000_0000) ≡ of_bits binary32 0x3F80_0000

@@ -2,7 +2,7 @@
 use Rattle.std.specs.Prelude.{ℕ, zero, suc, ◌+◌, ◌-◌, ◌*◌, ◌/◌, true, false, cond, ℤ, pos, neg_ℤ, is_nan, Float}
 use Rattle.std.specs.Float.{nan, inf, fin, binary64}
 use Rattle.std.specs.Float.Ieee.{up, down, add, sub, mul, div, neg, lt, of_int}
-use Rattle.tonekit_log.specs.Constants.{LN2, LOG2E, half, one, bound, num}
+use Rattle.spec_arithmetic.specs.Constants.{LN2, LOG2E, half, one, bound, num}
 
 -- "floor": the whole number at or below x
 unfoldable pub floor_of : Float → ℤ

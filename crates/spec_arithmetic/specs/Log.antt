@@ -2,8 +2,8 @@
 use Rattle.std.specs.Prelude.{ℕ, zero, suc, ◌+◌, ◌-◌, ◌*◌, ◌/◌, ◌%◌, ◌^◌, ◌≤◌, true, false, cond, ℤ, pos, negsuc, from_bits, to_bits, Float, ◌≡◌, Result, Ok, Err}
 use Rattle.std.specs.Float.{nan, inf, fin, binary64}
 use Rattle.std.specs.Float.Ieee.{add, sub, mul, div, lt, of_int, up, down, size, round, minus}
-use Rattle.tonekit_log.specs.Constants.{LN2, LOG2E, ROOT2, half, one, two, scale, least, num}
-use Rattle.tonekit_log.specs.declared.Parts.{Parts}
+use Rattle.spec_arithmetic.specs.Constants.{LN2, LOG2E, ROOT2, half, one, two, scale, least, num}
+use Rattle.spec_arithmetic.specs.declared.Parts.{Parts}
 
 -- 1 / (2 j + 1)
 abbrev pub recip : ℕ → Float

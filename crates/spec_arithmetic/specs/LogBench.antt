@@ -2,9 +2,9 @@
 use Rattle.std.specs.Prelude.{◌≡◌, negsuc, refl, Float}
 use Rattle.std.specs.Float.{binary64}
 use Rattle.std.specs.Float.Ieee.{is_nan, neg, add, sub, mul, div, lt, of_bits, of_int, round}
-use Rattle.tonekit_log.specs.Constants.{num}
-use Rattle.tonekit_log.specs.Log.{ln_of, log2_of}
-use Rattle.tonekit_log.specs.Exp.{exp_of}
+use Rattle.spec_arithmetic.specs.Constants.{num}
+use Rattle.spec_arithmetic.specs.Log.{ln_of, log2_of}
+use Rattle.spec_arithmetic.specs.Exp.{exp_of}
 
 -- 12 log2 (x / 55)
 abbrev semitones : Float → Float

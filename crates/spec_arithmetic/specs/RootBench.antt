@@ -2,7 +2,7 @@
 use Rattle.std.specs.Prelude.{◌≡◌, refl}
 use Rattle.std.specs.Float.{binary64}
 use Rattle.std.specs.Float.Ieee.{of_bits, round}
-use Rattle.tonekit_root.specs.Root.{root_of}
+use Rattle.spec_arithmetic.specs.Root.{root_of}
 
 pub root_of_two : root_of (of_bits binary64 0x4000_0000_0000_0000) ≡ of_bits binary64 0x3FF6_A09E_667F_3BCD
 unfolding root_of of_bits round

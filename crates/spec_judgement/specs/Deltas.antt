@@ -5,15 +5,15 @@ use Rattle.std.specs.Float.Ieee.{sub, mul, div, lt}
 use Rattle.std.specs.Float.Ieee.Scale.{finite}
 use Rattle.tonekit_core.specs.declared.DeltaKind.{DeltaKind}
 use Rattle.tonekit_core.specs.declared.DeltaKind.TheVariants.{StartHigher, StartLower, EndHigher, EndLower, TurnEarlier, TurnLater, WiderRange, NarrowerRange}
-use Rattle.tonekit_float.specs.Narrow.{narrowed}
-use Rattle.tonekit_float.specs.Magnitude.{magnitude}
-use Rattle.tonekit_contour.specs.Turning.{turning_point}
-use Rattle.tonekit_contour.specs.Range.{range_in}
-use Rattle.tonekit_shape.specs.declared.ToneShape.{ToneShape}
-use Rattle.tonekit_score.specs.Score.{zero64, one64}
-use Rattle.tonekit_score.specs.declared.Tolerance.{Tolerance}
-use Rattle.tonekit_deltas.specs.declared.Delta.{Delta}
-use Rattle.tonekit_deltas.specs.declared.Deltas.{Deltas}
+use Rattle.spec_arithmetic.specs.Narrow.{narrowed}
+use Rattle.spec_arithmetic.specs.Magnitude.{magnitude}
+use Rattle.spec_shape.specs.Turning.{turning_point}
+use Rattle.spec_shape.specs.Range.{range_in}
+use Rattle.spec_shape.specs.declared.ToneShape.{ToneShape}
+use Rattle.spec_judgement.specs.Score.{zero64, one64}
+use Rattle.spec_judgement.specs.declared.Tolerance.{Tolerance}
+use Rattle.spec_judgement.specs.declared.Delta.{Delta}
+use Rattle.spec_judgement.specs.declared.Deltas.{Deltas}
 
 abbrev pub no_deltas : Deltas
 no_deltas = record { first = None; second = None }

@@ -3,10 +3,10 @@ use Rattle.std.specs.Prelude.{◌≡◌, refl, true, Some, None, [], ◌∷◌, 
 use Rattle.std.specs.Float.{binary32, float_with_sign}
 use Rattle.std.specs.Float.Ieee.{add, sub, mul, div, lt, round, of_bits}
 use Rattle.tonekit_core.specs.declared.DeltaKind.TheVariants.{StartLower, EndLower}
-use Rattle.tonekit_float.specs.Narrow.{narrowed}
-use Rattle.tonekit_shape.specs.declared.ToneShape.{ToneShape}
-use Rattle.tonekit_deltas.specs.Deltas.{no_deltas, kept, offer, offer_end, end_deltas, deltas_of}
-use Rattle.tonekit_deltas.specs.declared.Deltas.{Deltas}
+use Rattle.spec_arithmetic.specs.Narrow.{narrowed}
+use Rattle.spec_shape.specs.declared.ToneShape.{ToneShape}
+use Rattle.spec_judgement.specs.Deltas.{no_deltas, kept, offer, offer_end, end_deltas, deltas_of}
+use Rattle.spec_judgement.specs.declared.Deltas.{Deltas}
 
 abbrev pub half : Float
 half = of_bits binary32 0x3f00_0000

@@ -6,18 +6,18 @@ use Rattle.std.proofs.lemmas.List.Edits.{sets}
 use Rattle.std.specs.Float.{binary32}
 use Rattle.std.specs.Float.Ieee.{of_bits}
 use Rattle.tonekit_core.specs.Loop.{range}
-use Rattle.tonekit_expect.specs.Source.{Tone, Accent, Carried, Source, accent_in, tone_in}
-use Rattle.tonekit_expect.specs.Source as source
-use Rattle.tonekit_expect.specs.declared.Context.{Context}
-use Rattle.tonekit_score.specs.declared.Region.{Region}
-use Rattle.tonekit_score.specs.declared.Tolerance.{Tolerance}
-use Rattle.tonekit_judge.specs.Judge.{Inventory, Listings, listing, Counted, no_entry}
-use Rattle.tonekit_judge.specs.declared.Listed.{Listed}
-use Rattle.tonekit_judge.specs.declared.Slot.{Slot}
-use Rattle.tonekit_judge.specs.declared.ToneEntry.{ToneEntry}
-use Rattle.tonekit_judge.specs.declared.Slots.{Slots}
-use Rattle.tonekit_inventory.specs.declared.Gathered.{Gathered}
-use Rattle.tonekit_score.specs.declared.Settings.{Settings}
+use Rattle.spec_lookup.specs.Source.{Tone, Accent, Carried, Source, accent_in, tone_in}
+use Rattle.spec_lookup.specs.Source as source
+use Rattle.spec_lookup.specs.declared.Context.{Context}
+use Rattle.spec_judgement.specs.declared.Region.{Region}
+use Rattle.spec_judgement.specs.declared.Tolerance.{Tolerance}
+use Rattle.spec_judgement.specs.Judge.{Inventory, Listings, listing, Counted, no_entry}
+use Rattle.spec_judgement.specs.declared.Listed.{Listed}
+use Rattle.spec_judgement.specs.declared.Slot.{Slot}
+use Rattle.spec_judgement.specs.declared.ToneEntry.{ToneEntry}
+use Rattle.spec_judgement.specs.declared.Slots.{Slots}
+use Rattle.spec_judgement.specs.declared.Gathered.{Gathered}
+use Rattle.spec_judgement.specs.declared.Settings.{Settings}
 
 -- the floats of bits
 abbrev pub f32 : ℕ → Float

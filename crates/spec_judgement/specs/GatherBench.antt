@@ -4,14 +4,14 @@ use Rattle.std.specs.Prelude.{ℕ, ◌≡◌, refl, true, false, cond, Some, Non
 use Rattle.std.proofs.Math.Option.{Option, none, some}
 use Rattle.std.specs.Float.Ieee.{of_bits}
 use Rattle.tonekit_core.specs.Loop.{turns, range}
-use Rattle.tonekit_expect.specs.Source.{Tone, Accent, Carried, Source, accent_in, tone_in}
-use Rattle.tonekit_expect.specs.declared.Context.{Context}
-use Rattle.tonekit_judge.specs.declared.Slot.{Slot}
-use Rattle.tonekit_judge.specs.declared.ToneEntry.{ToneEntry}
-use Rattle.tonekit_score.specs.declared.Region.{Region}
-use Rattle.tonekit_score.specs.declared.Tolerance.{Tolerance}
-use Rattle.tonekit_judge.specs.Judge.{Inventory, Listings}
-use Rattle.tonekit_inventory.specs.Gather.{f32, blank_slot, with_tone, put_in, slotted, listings, gathered}
+use Rattle.spec_lookup.specs.Source.{Tone, Accent, Carried, Source, accent_in, tone_in}
+use Rattle.spec_lookup.specs.declared.Context.{Context}
+use Rattle.spec_judgement.specs.declared.Slot.{Slot}
+use Rattle.spec_judgement.specs.declared.ToneEntry.{ToneEntry}
+use Rattle.spec_judgement.specs.declared.Region.{Region}
+use Rattle.spec_judgement.specs.declared.Tolerance.{Tolerance}
+use Rattle.spec_judgement.specs.Judge.{Inventory, Listings}
+use Rattle.spec_judgement.specs.Gather.{f32, blank_slot, with_tone, put_in, slotted, listings, gathered}
 
 -- bits: 1, a half, a quarter, 2 and 4
 abbrev one : ℕ

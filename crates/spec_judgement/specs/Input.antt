@@ -1,6 +1,6 @@
 -- The input of document 01's program `station`: "reads u16 pack length, pack, query from standard input"; of `station_sheet` with a sheet in the pack's place.
 use Rattle.std.specs.Prelude.{ℕ, List, take, drop}
-use Rattle.tonekit_bytes.specs.Fields.{u16_at}
+use Rattle.spec_arithmetic.specs.Fields.{u16_at}
 
 -- "missing length bytes are 0; a length past the input's end takes what is there"
 abbrev pub held_of : List ℕ → List ℕ

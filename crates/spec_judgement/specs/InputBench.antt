@@ -1,6 +1,6 @@
 -- Worked examples, computed: two bytes of length little-endian, the bytes that they count, the rest; and inputs that end too soon.
 use Rattle.std.specs.Prelude.{ℕ, ◌≡◌, refl, List, [], ◌∷◌, length, replicate}
-use Rattle.tonekit_input.specs.Input.{held_of, query_of}
+use Rattle.spec_judgement.specs.Input.{held_of, query_of}
 
 abbrev three : List ℕ
 three = 3 ∷ 0 ∷ 7 ∷ 8 ∷ 9 ∷ 48 ∷ 50 ∷ []

@@ -8,36 +8,36 @@ use Rattle.tonekit_core.specs.Loop.{range}
 use Rattle.tonekit_core.specs.Words.{has_issue}
 use Rattle.tonekit_core.specs.declared.MeasureIssue.TheVariants.{LowSnr, TooShort}
 use Rattle.arrayvec.specs.ArrayVec.{ArrayVec}
-use Rattle.tonekit_core.specs.Layout.{mixture_form}
+use Rattle.tonekit_core.specs.declared.layout.TheConstants.{MIXTURE_FORM}
 use Rattle.tonekit_core.specs.declared.Measured.{Measured}
 use Rattle.tonekit_core.specs.declared.Name.{Name}
 use Rattle.tonekit_core.specs.declared.Measured.TheVariants.{Full, Partial, NotMeasured}
-use Rattle.tonekit_float.specs.Pick.{lesser}
-use Rattle.tonekit_float.specs.Narrow.{narrowed}
-use Rattle.tonekit_root.specs.Root.{root_of}
-use Rattle.tonekit_log.specs.Log.{ln_of}
-use Rattle.tonekit_log.specs.Exp.{exp_of}
-use Rattle.tonekit_shape.specs.declared.ToneShape.{ToneShape}
-use Rattle.tonekit_score.specs.Score.{zero64, zero32, million, empty, add_to, value_of, distance_of, no_mixing, led, mix_turn, mixture_of, mixture_log, calibrate, clamp_log, scoring_of}
-use Rattle.tonekit_score.specs.declared.Settings.{Settings}
-use Rattle.tonekit_score.specs.declared.Tolerance.{Tolerance}
-use Rattle.tonekit_score.specs.declared.Scoring.{Scoring}
-use Rattle.tonekit_score.specs.declared.Mixture.{Mixture}
-use Rattle.tonekit_score.specs.declared.Mixture.TheVariants.{Scored, Nothing}
-use Rattle.tonekit_score.specs.declared.Mixing.{Mixing}
-use Rattle.tonekit_score.specs.declared.Lead.{Lead}
-use Rattle.tonekit_score.specs.declared.LogSumExp.{LogSumExp}
-use Rattle.tonekit_deltas.specs.Deltas.{no_deltas, deltas_of}
-use Rattle.tonekit_deltas.specs.declared.Deltas.{Deltas}
-use Rattle.tonekit_judge.specs.declared.Ranking.{Ranking}
-use Rattle.tonekit_judge.specs.declared.ToneEntry.{ToneEntry}
-use Rattle.tonekit_judge.specs.declared.Listed.{Listed}
-use Rattle.tonekit_judge.specs.declared.Slot.{Slot}
-use Rattle.tonekit_judge.specs.declared.Slots.{Slots}
-use Rattle.tonekit_judge.specs.declared.Component.{Component}
-use Rattle.tonekit_judge.specs.declared.Target.{Target}
-use Rattle.tonekit_judge.specs.declared.Nearest.{Nearest}
-use Rattle.tonekit_judge.specs.declared.ToneJudgement.{ToneJudgement}
+use Rattle.spec_arithmetic.specs.Pick.{lesser}
+use Rattle.spec_arithmetic.specs.Narrow.{narrowed}
+use Rattle.spec_arithmetic.specs.Root.{root_of}
+use Rattle.spec_arithmetic.specs.Log.{ln_of}
+use Rattle.spec_arithmetic.specs.Exp.{exp_of}
+use Rattle.spec_shape.specs.declared.ToneShape.{ToneShape}
+use Rattle.spec_judgement.specs.Score.{zero64, zero32, million, empty, add_to, value_of, distance_of, no_mixing, led, mix_turn, mixture_of, mixture_log, calibrate, clamp_log, scoring_of}
+use Rattle.spec_judgement.specs.declared.Settings.{Settings}
+use Rattle.spec_judgement.specs.declared.Tolerance.{Tolerance}
+use Rattle.spec_judgement.specs.declared.Scoring.{Scoring}
+use Rattle.spec_judgement.specs.declared.Mixture.{Mixture}
+use Rattle.spec_judgement.specs.declared.Mixture.TheVariants.{Scored, Nothing}
+use Rattle.spec_judgement.specs.declared.Mixing.{Mixing}
+use Rattle.spec_judgement.specs.declared.Lead.{Lead}
+use Rattle.spec_judgement.specs.declared.LogSumExp.{LogSumExp}
+use Rattle.spec_judgement.specs.Deltas.{no_deltas, deltas_of}
+use Rattle.spec_judgement.specs.declared.Deltas.{Deltas}
+use Rattle.spec_judgement.specs.declared.Ranking.{Ranking}
+use Rattle.spec_judgement.specs.declared.ToneEntry.{ToneEntry}
+use Rattle.spec_judgement.specs.declared.Listed.{Listed}
+use Rattle.spec_judgement.specs.declared.Slot.{Slot}
+use Rattle.spec_judgement.specs.declared.Slots.{Slots}
+use Rattle.spec_judgement.specs.declared.Component.{Component}
+use Rattle.spec_judgement.specs.declared.Target.{Target}
+use Rattle.spec_judgement.specs.declared.Nearest.{Nearest}
+use Rattle.spec_judgement.specs.declared.ToneJudgement.{ToneJudgement}
 
 -- the types of the code by these names
 abbrev pub Inventory : Type 0
@@ -218,7 +218,7 @@ advice_of x s t points issues =
 
 -- the component's place in its rule, where that is a mixture
 unfoldable pub part_of : Name → ℕ → ℕ
-part_of name slot = cond (eqb name.form mixture_form) (slot % 4) 0
+part_of name slot = cond (eqb name.form MIXTURE_FORM) (slot % 4) 0
 
 -- what is said of the best component of the target, which stands at a slot of that tone's entry
 unfoldable pub nearest_at : ToneEntry → ℕ → Float → Nearest

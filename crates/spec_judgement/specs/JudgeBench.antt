@@ -3,22 +3,22 @@ use Rattle.std.specs.Prelude.{ℕ, ◌+◌, ◌≡◌, refl, Some, None, List, [
 use Rattle.std.specs.Float.{binary32}
 use Rattle.std.specs.Float.Ieee.{is_nan, eq, neg, add, sub, mul, div, lt, le, round, of_int, of_bits, to_bits}
 use Rattle.tonekit_core.specs.Loop.{turns, range}
-use Rattle.tonekit_float.specs.Narrow.{narrowed}
-use Rattle.tonekit_log.specs.Log.{ln_of}
-use Rattle.tonekit_log.specs.Exp.{exp_of}
-use Rattle.tonekit_core.specs.Layout.{judgement_size, judgement_expected, judgement_tone_count, judgement_loglik, judgement_llr, judgement_distanced}
-use Rattle.tonekit_core.specs.Layout.{judgement_distance, judgement_owner, judgement_form, judgement_label, judgement_part, judgement_heard}
-use Rattle.tonekit_core.specs.Layout.{judgement_delta_count, judgement_first_delta, judgement_second_delta, delta_amount, judgement_measured, judgement_issues}
-use Rattle.tonekit_bytes.specs.Fields.{byte_at, u16_at, u32_at, f32s_bytes}
-use Rattle.tonekit_score.specs.Score.{add_to, value_of}
+use Rattle.spec_arithmetic.specs.Narrow.{narrowed}
+use Rattle.spec_arithmetic.specs.Log.{ln_of}
+use Rattle.spec_arithmetic.specs.Exp.{exp_of}
+use Rattle.tonekit_core.specs.declared.layout.TheConstants.{JUDGEMENT_SIZE, JUDGEMENT_EXPECTED, JUDGEMENT_TONE_COUNT, JUDGEMENT_LOGLIK, JUDGEMENT_LLR, JUDGEMENT_DISTANCED}
+use Rattle.tonekit_core.specs.declared.layout.TheConstants.{JUDGEMENT_DISTANCE, JUDGEMENT_OWNER, JUDGEMENT_FORM, JUDGEMENT_LABEL, JUDGEMENT_PART, JUDGEMENT_HEARD}
+use Rattle.tonekit_core.specs.declared.layout.TheConstants.{JUDGEMENT_DELTA_COUNT, JUDGEMENT_FIRST_DELTA, JUDGEMENT_SECOND_DELTA, DELTA_AMOUNT, JUDGEMENT_MEASURED, JUDGEMENT_ISSUES}
+use Rattle.spec_arithmetic.specs.Fields.{byte_at, u16_at, u32_at, f32s_bytes}
+use Rattle.spec_judgement.specs.Score.{add_to, value_of}
 use Rattle.tonekit_core.specs.declared.DeltaKind.TheVariants.{EndLower, WiderRange}
 use Rattle.tonekit_core.specs.declared.Measured.TheVariants.{Partial}
-use Rattle.tonekit_core.specs.Layout.{single_form, mixture_form}
+use Rattle.tonekit_core.specs.declared.layout.TheConstants.{SINGLE_FORM, MIXTURE_FORM}
 use Rattle.tonekit_core.specs.declared.Name.{Name}
-use Rattle.tonekit_judge.specs.declared.ToneEntry.{ToneEntry}
-use Rattle.tonekit_judge.specs.declared.ToneJudgement.{ToneJudgement}
-use Rattle.tonekit_judge.specs.Judge.{Inventory, ranked, ranking_of, heard_of, greatest32, part_of, not_measured}
-use Rattle.tonekit_judge.specs.Record.{delta_count, kind_of, amount_of, nearest_bytes, score_bytes, one_bytes, delta_bytes, judgement_bytes}
+use Rattle.spec_judgement.specs.declared.ToneEntry.{ToneEntry}
+use Rattle.spec_judgement.specs.declared.ToneJudgement.{ToneJudgement}
+use Rattle.spec_judgement.specs.Judge.{Inventory, ranked, ranking_of, heard_of, greatest32, part_of, not_measured}
+use Rattle.spec_judgement.specs.Record.{delta_count, kind_of, amount_of, nearest_bytes, score_bytes, one_bytes, delta_bytes, judgement_bytes}
 
 -- "Tone 1, accent 1 with a citation, eight voiced frames of 110 Hz, floor NaN: hexadecimal 31 01 01 00 24 74 C9, 54 zero bytes, 02 40 00"
 pub floor_nan : judgement_bytes 1 1 (not_measured 1)
@@ -56,11 +56,11 @@ abbrev of_form : ℕ → Name
 of_form form = record { owner = 1; form = form; label = 0 }
 
 -- a part counts from 0, in a mixture alone
-pub third_part : part_of (of_form mixture_form) 6 ≡ 2
+pub third_part : part_of (of_form MIXTURE_FORM) 6 ≡ 2
 unfolding part_of
 third_part = refl
 
-pub single_part : part_of (of_form single_form) 4 ≡ 0
+pub single_part : part_of (of_form SINGLE_FORM) 4 ≡ 0
 unfolding part_of
 single_part = refl
 
@@ -95,12 +95,12 @@ unfolding judgement_bytes nearest_bytes score_bytes one_bytes delta_bytes delta_
 fields49 = refl
 
 -- read by the names of their offsets
-pub names49 : (map (byte_at record49) (judgement_expected ∷ judgement_tone_count ∷ judgement_distanced ∷ judgement_owner ∷ judgement_form ∷ [])
+pub names49 : (map (byte_at record49) (JUDGEMENT_EXPECTED ∷ JUDGEMENT_TONE_COUNT ∷ JUDGEMENT_DISTANCED ∷ JUDGEMENT_OWNER ∷ JUDGEMENT_FORM ∷ [])
     ≡ 1 ∷ 2 ∷ 1 ∷ 44 ∷ 45 ∷ [])
-    × (map (byte_at record49) (judgement_part ∷ judgement_heard ∷ judgement_delta_count ∷ judgement_first_delta ∷ judgement_second_delta ∷ [])
+    × (map (byte_at record49) (JUDGEMENT_PART ∷ JUDGEMENT_HEARD ∷ JUDGEMENT_DELTA_COUNT ∷ JUDGEMENT_FIRST_DELTA ∷ JUDGEMENT_SECOND_DELTA ∷ [])
     ≡ 48 ∷ 49 ∷ 2 ∷ 7 ∷ 4 ∷ [])
-    × (map (u32_at record49) (judgement_loglik ∷ judgement_llr ∷ judgement_distance ∷ (judgement_first_delta + delta_amount) ∷ [])
+    × (map (u32_at record49) (JUDGEMENT_LOGLIK ∷ JUDGEMENT_LLR ∷ JUDGEMENT_DISTANCE ∷ (JUDGEMENT_FIRST_DELTA + DELTA_AMOUNT) ∷ [])
     ≡ 0x0605_0403 ∷ 0x2625_2423 ∷ 0x2b2a_2928 ∷ 0x3736_3534 ∷ [])
-    × (byte_at record49 judgement_measured ≡ 1) × (u16_at record49 judgement_label ≡ 0x2f2e) × (u16_at record49 judgement_issues ≡ 0x3f3e)
-    × (length record49 ≡ judgement_size) × (judgement_distanced ≡ 39) × (judgement_measured ≡ 61)
+    × (byte_at record49 JUDGEMENT_MEASURED ≡ 1) × (u16_at record49 JUDGEMENT_LABEL ≡ 0x2f2e) × (u16_at record49 JUDGEMENT_ISSUES ≡ 0x3f3e)
+    × (length record49 ≡ JUDGEMENT_SIZE) × (JUDGEMENT_DISTANCED ≡ 39) × (JUDGEMENT_MEASURED ≡ 61)
 names49 = (refl, refl, refl, refl, refl, refl, refl, refl, refl)

@@ -5,24 +5,21 @@ use Rattle.std.specs.List.{list_all}
 use Rattle.tonekit_core.specs.declared.Refusal.{Refusal}
 use Rattle.tonekit_core.specs.declared.Refusal.TheVariants as refusal
 use Rattle.tonekit_core.specs.declared.Rejection.{Rejection}
-use Rattle.tonekit_query.specs.Query.{load_query, frames_of}
-use Rattle.tonekit_query.specs.declared.Query.{Query}
-use Rattle.tonekit_input.specs.Input.{held_of, query_of}
-use Rattle.tonekit_pack.specs.Pack.{Out, load_pack}
-use Rattle.tonekit_pack.specs.Pack as pack
-use Rattle.tonekit_sheet.specs.Reader.{load_sheet}
-use Rattle.tonekit_sheet.specs.Reader as sheet
-use Rattle.tonekit_sheet.specs.FromSheet.{source_of_sheet}
-use Rattle.tonekit_expect.specs.Source.{Source, source_of_pack}
-use Rattle.tonekit_expect.specs.declared.Context.{Context}
-use Rattle.tonekit_shape.specs.Extract.{extent_of, shape_of}
-use Rattle.tonekit_shape.specs.Record.{united}
-use Rattle.tonekit_shape.specs.declared.Extent.{Extent}
-use Rattle.tonekit_score.specs.declared.Tolerance.{Tolerance}
-use Rattle.tonekit_judge.specs.Judge.{Inventory, Targets, count_in, judgement_of}
-use Rattle.tonekit_judge.specs.Record.{judgement_bytes}
-use Rattle.tonekit_target.specs.Target.{variants_fine, targets_of}
-use Rattle.tonekit_inventory.specs.Gather.{Gathering, gathered}
+use Rattle.spec_query.specs.Query.{load_query, frames_of}
+use Rattle.spec_query.specs.declared.Query.{Query}
+use Rattle.spec_judgement.specs.Input.{held_of, query_of}
+use Rattle.spec_pack.specs.Pack.{Out, load_pack}
+use Rattle.spec_pack.specs.Pack as pack
+use Rattle.spec_lookup.specs.Source.{Source, source_of_pack}
+use Rattle.spec_lookup.specs.declared.Context.{Context}
+use Rattle.spec_shape.specs.Extract.{extent_of, shape_of}
+use Rattle.spec_shape.specs.Record.{united}
+use Rattle.spec_shape.specs.declared.Extent.{Extent}
+use Rattle.spec_judgement.specs.declared.Tolerance.{Tolerance}
+use Rattle.spec_judgement.specs.Judge.{Inventory, Targets, count_in, judgement_of}
+use Rattle.spec_judgement.specs.Record.{judgement_bytes}
+use Rattle.spec_judgement.specs.Target.{variants_fine, targets_of}
+use Rattle.spec_judgement.specs.Gather.{Gathering, gathered}
 
 abbrev pub context_of : Query → Context
 context_of q = record { accent = q.accent; tone = q.tone; prev = q.prev; last = q.last }
@@ -98,18 +95,6 @@ on_pack p s (pack.loaded st e) = judgement (source_of_pack p st) s
 unfoldable pub judge_outcome : List ℕ → List ℕ → Outcome
 judge_outcome p s = on_pack p s (load_pack p)
 
--- with a sheet in the pack's place
-abbrev pub on_sheet : List ℕ → List ℕ → sheet.Out → Outcome
-on_sheet p s (sheet.refused r place) = refused r place
-on_sheet p s (sheet.loaded st e) = judgement (source_of_sheet p st) s
-
--- the call `judge_sheet`: what a sheet's and a query's bytes are turned into
-unfoldable pub judge_sheet_outcome : List ℕ → List ℕ → Outcome
-judge_sheet_outcome p s = on_sheet p s (load_sheet p)
-
--- what the program `station` makes of its input, and `station_sheet` of its own
+-- what the program `station` makes of its input
 abbrev pub station_outcome : List ℕ → Outcome
 station_outcome s = judge_outcome (held_of s) (query_of s)
-
-abbrev pub station_sheet_outcome : List ℕ → Outcome
-station_sheet_outcome s = judge_sheet_outcome (held_of s) (query_of s)

@@ -1,13 +1,13 @@
 -- The record of a judgement, kind 49.
 use Rattle.std.specs.Prelude.{ℕ, ◌+◌, Bool, cond, Option, Some, None, is_some, unwrap_or, List, [], ◌∷◌, ◌++◌, Float}
-use Rattle.tonekit_core.specs.Layout.{judgement_kind}
+use Rattle.tonekit_core.specs.declared.layout.TheConstants.{JUDGEMENT_KIND}
 use Rattle.tonekit_core.specs.Words.{delta_number, measured_number}
-use Rattle.tonekit_bytes.specs.Fields.{le16, f32_bytes, f32s_bytes}
-use Rattle.tonekit_score.specs.Score.{zero32}
-use Rattle.tonekit_deltas.specs.declared.Delta.{Delta}
-use Rattle.tonekit_deltas.specs.declared.Deltas.{Deltas}
-use Rattle.tonekit_judge.specs.declared.Nearest.{Nearest}
-use Rattle.tonekit_judge.specs.declared.ToneJudgement.{ToneJudgement}
+use Rattle.spec_arithmetic.specs.Fields.{le16, f32_bytes, f32s_bytes}
+use Rattle.spec_judgement.specs.Score.{zero32}
+use Rattle.spec_judgement.specs.declared.Delta.{Delta}
+use Rattle.spec_judgement.specs.declared.Deltas.{Deltas}
+use Rattle.spec_judgement.specs.declared.Nearest.{Nearest}
+use Rattle.spec_judgement.specs.declared.ToneJudgement.{ToneJudgement}
 
 -- a delta's kind and its amount, both 0 where there is none
 unfoldable pub kind_of : Option Delta → ℕ
@@ -27,7 +27,7 @@ delta_count ds = one_if (is_some ds.first) + one_if (is_some ds.second)
 
 -- kind, expected, tone count
 abbrev pub head_bytes : ℕ → ℕ → List ℕ
-head_bytes expected tones = judgement_kind ∷ expected ∷ tones ∷ []
+head_bytes expected tones = JUDGEMENT_KIND ∷ expected ∷ tones ∷ []
 
 -- distance, owner, form, label and part: 0 where there is no best component
 abbrev pub no_nearest : Nearest

@@ -5,20 +5,20 @@ use Rattle.std.specs.Float.Ieee.{is_nan, neg, add, sub, mul, div, lt, le, eq, of
 use Rattle.tonekit_core.specs.Loop.{range}
 use Rattle.tonekit_core.specs.Words.{has_issue}
 use Rattle.tonekit_core.specs.declared.MeasureIssue.TheVariants.{LowSnr, Clipped, ColdStartRegister, TooShort}
-use Rattle.tonekit_float.specs.Pick.{greater}
-use Rattle.tonekit_float.specs.Narrow.{narrowed}
-use Rattle.tonekit_log.specs.Log.{ln_of}
-use Rattle.tonekit_log.specs.Exp.{exp_of}
-use Rattle.tonekit_shape.specs.declared.ToneShape.{ToneShape}
-use Rattle.tonekit_score.specs.declared.Tolerance.{Tolerance}
-use Rattle.tonekit_score.specs.declared.Region.{Region}
-use Rattle.tonekit_score.specs.declared.Scoring.{Scoring}
-use Rattle.tonekit_score.specs.declared.LogSumExp.{LogSumExp}
-use Rattle.tonekit_score.specs.declared.Mixture.{Mixture}
-use Rattle.tonekit_score.specs.declared.Mixture.TheVariants.{Scored, Nothing}
-use Rattle.tonekit_score.specs.declared.Squares.{Squares}
-use Rattle.tonekit_score.specs.declared.Lead.{Lead}
-use Rattle.tonekit_score.specs.declared.Mixing.{Mixing}
+use Rattle.spec_arithmetic.specs.Pick.{greater}
+use Rattle.spec_arithmetic.specs.Narrow.{narrowed}
+use Rattle.spec_arithmetic.specs.Log.{ln_of}
+use Rattle.spec_arithmetic.specs.Exp.{exp_of}
+use Rattle.spec_shape.specs.declared.ToneShape.{ToneShape}
+use Rattle.spec_judgement.specs.declared.Tolerance.{Tolerance}
+use Rattle.spec_judgement.specs.declared.Region.{Region}
+use Rattle.spec_judgement.specs.declared.Scoring.{Scoring}
+use Rattle.spec_judgement.specs.declared.LogSumExp.{LogSumExp}
+use Rattle.spec_judgement.specs.declared.Mixture.{Mixture}
+use Rattle.spec_judgement.specs.declared.Mixture.TheVariants.{Scored, Nothing}
+use Rattle.spec_judgement.specs.declared.Squares.{Squares}
+use Rattle.spec_judgement.specs.declared.Lead.{Lead}
+use Rattle.spec_judgement.specs.declared.Mixing.{Mixing}
 
 abbrev pub zero64 : Float
 zero64 = of_bits binary64 0

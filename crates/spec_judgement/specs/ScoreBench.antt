@@ -2,11 +2,11 @@
 use Rattle.std.specs.Prelude.{◌≡◌, refl, false, Some, None}
 use Rattle.std.specs.Float.{nan, inf, binary32, binary64}
 use Rattle.std.specs.Float.Ieee.{is_nan, eq, neg, add, sub, mul, div, lt, le, round, of_int, of_bits}
-use Rattle.tonekit_float.specs.Narrow.{narrowed}
-use Rattle.tonekit_float.specs.Pick.{greater}
-use Rattle.tonekit_log.specs.Log.{ln_of}
-use Rattle.tonekit_log.specs.Exp.{exp_of}
-use Rattle.tonekit_score.specs.Score.{zero64, zero32, million, neg_inf, widen_for, clamp_log, empty, add_to, value_of, excused, point_weight}
+use Rattle.spec_arithmetic.specs.Narrow.{narrowed}
+use Rattle.spec_arithmetic.specs.Pick.{greater}
+use Rattle.spec_arithmetic.specs.Log.{ln_of}
+use Rattle.spec_arithmetic.specs.Exp.{exp_of}
+use Rattle.spec_judgement.specs.Score.{zero64, zero32, million, neg_inf, widen_for, clamp_log, empty, add_to, value_of, excused, point_weight}
 
 -- LowSnr is bit 1, TooShort bit 3
 pub widened_low_snr : widen_for 2 ≡ of_bits binary32 0x3fc0_0000

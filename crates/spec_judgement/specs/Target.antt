@@ -4,10 +4,10 @@ use Rattle.std.specs.Float.{binary32}
 use Rattle.std.specs.Float.Ieee.{neg, add, sub, lt, le, of_bits}
 use Rattle.std.specs.Float.Ieee.Scale.{finite}
 use Rattle.tonekit_core.specs.Loop.{Turn, next, stop, range, range_to}
-use Rattle.tonekit_float.specs.Pick.{greater}
-use Rattle.tonekit_query.specs.Query.{variant_tone, variant_weight}
-use Rattle.tonekit_judge.specs.Judge.{Inventory, Targets}
-use Rattle.tonekit_judge.specs.declared.Target.{Target}
+use Rattle.spec_arithmetic.specs.Pick.{greater}
+use Rattle.spec_query.specs.Query.{variant_tone, variant_weight}
+use Rattle.spec_judgement.specs.Judge.{Inventory, Targets}
+use Rattle.spec_judgement.specs.declared.Target.{Target}
 
 abbrev pub zero32 : Float
 zero32 = of_bits binary32 0

@@ -2,7 +2,7 @@
 use Rattle.std.specs.Prelude.{ℕ, ◌≡◌, refl, true, false, List, [], ◌∷◌, ◌++◌, replicate}
 use Rattle.std.specs.Float.Ieee.{neg, add, sub, lt, le, of_bits}
 use Rattle.tonekit_core.specs.Loop.{turns, range}
-use Rattle.tonekit_target.specs.Target.{weight_fine, weights_fine, main_weight, variants_fine}
+use Rattle.spec_judgement.specs.Target.{weight_fine, weights_fine, main_weight, variants_fine}
 
 -- the bytes of a query up to two variants, with weights of these bits
 abbrev pub variants : List ℕ → List ℕ → List ℕ

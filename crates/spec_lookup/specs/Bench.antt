@@ -3,17 +3,17 @@ use Rattle.std.specs.Prelude.{ℕ, ◌≡◌, refl, Bool, true, false, List, [],
 use Rattle.std.specs.Float.{binary32}
 use Rattle.std.specs.Float.Ieee.{add, sub, mul, div, of_int, of_bits, le, lt}
 use Rattle.tonekit_core.specs.Loop.{turns, range, turns_to, range_to, loop_on, loop_to}
-use Rattle.tonekit_float.specs.Whole.{whole_part}
-use Rattle.tonekit_float.specs.Narrow.{narrowed}
-use Rattle.tonekit_bytes.specs.Places.{index_of}
-use Rattle.tonekit_pack.specs.Ranges.{above_zero, a_share, knot_fine, weight_fine, slot_fine, knots_fine, region_fine, tolerances_fine}
-use Rattle.tonekit_pack.specs.Pack.{parts_from, Pst, loaded, due_after, size_of, holds, zero_or_held, settings_verdict, tone_verdict, accent_verdict, rule_verdict, part_verdict, body_verdict, record_verdict, added, read_pack}
-use Rattle.tonekit_expect.specs.declared.Context.{Context}
-use Rattle.tonekit_expect.specs.declared.Listing.{Listing}
-use Rattle.tonekit_contour.specs.Position.{position}
-use Rattle.tonekit_expect.specs.Knots.{segment, fraction, on_line, point_at, first_points, expanded, knots_at}
-use Rattle.tonekit_expect.specs.Lookup.{meets, matches, specificity, better_of, best_rule, climb_turn, find_rule, rule_listing, look_up, tone_knots_at, component_of, knots_of}
-use Rattle.tonekit_expect.specs.Source.{settings_at, tone_at, accent_at}
+use Rattle.spec_arithmetic.specs.Whole.{whole_part}
+use Rattle.spec_arithmetic.specs.Narrow.{narrowed}
+use Rattle.spec_arithmetic.specs.Places.{index_of}
+use Rattle.spec_pack.specs.Ranges.{above_zero, a_share, knot_fine, weight_fine, slot_fine, knots_fine, region_fine, tolerances_fine}
+use Rattle.spec_pack.specs.Pack.{parts_from, Pst, loaded, due_after, size_of, holds, zero_or_held, settings_verdict, tone_verdict, accent_verdict, rule_verdict, part_verdict, body_verdict, record_verdict, added, read_pack}
+use Rattle.spec_lookup.specs.declared.Context.{Context}
+use Rattle.spec_lookup.specs.declared.Listing.{Listing}
+use Rattle.spec_arithmetic.specs.Position.{position}
+use Rattle.spec_lookup.specs.Knots.{segment, fraction, on_line, point_at, first_points, expanded, knots_at}
+use Rattle.spec_lookup.specs.Lookup.{meets, matches, specificity, better_of, best_rule, climb_turn, find_rule, rule_listing, look_up, tone_knots_at, component_of, knots_of}
+use Rattle.spec_lookup.specs.Source.{settings_at, tone_at, accent_at}
 
 abbrev pub two : Float
 two = of_bits binary32 0x4000_0000

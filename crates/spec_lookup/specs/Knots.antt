@@ -2,12 +2,12 @@
 use Rattle.std.specs.Prelude.{ℕ, zero, suc, ◌+◌, ◌-◌, ◌*◌, ◌≤◌, ◌<◌, true, false, cond, List, [], ◌∷◌, ◌++◌, pos, eqb, min, length, get_or, Float}
 use Rattle.std.specs.Float.{nan, fin, binary32, binary64}
 use Rattle.std.specs.Float.Ieee.{add, sub, mul}
-use Rattle.tonekit_core.specs.Layout.{f32_size}
-use Rattle.tonekit_float.specs.Whole.{whole_part}
-use Rattle.tonekit_float.specs.Narrow.{narrowed}
-use Rattle.tonekit_float.specs.Bounds.{In}
-use Rattle.tonekit_bytes.specs.Fields.{f32_at}
-use Rattle.tonekit_contour.specs.Position.{whole64, position}
+use Rattle.tonekit_core.specs.declared.layout.TheConstants.{F32_SIZE}
+use Rattle.spec_arithmetic.specs.Whole.{whole_part}
+use Rattle.spec_arithmetic.specs.Narrow.{narrowed}
+use Rattle.spec_arithmetic.specs.Bounds.{In}
+use Rattle.spec_arithmetic.specs.Fields.{f32_at}
+use Rattle.spec_arithmetic.specs.Position.{whole64, position}
 
 -- the knot at or before a position, but never the last one
 abbrev pub knot_before : Float → ℕ → ℕ
@@ -46,7 +46,7 @@ expanded knots = first_points knots 10
 -- n knots from an offset on
 unfoldable pub knots_at : List ℕ → ℕ → ℕ → List Float
 knots_at s o zero = []
-knots_at s o (suc n) = knots_at s o n ++ (f32_at s (o + f32_size * n) ∷ [])
+knots_at s o (suc n) = knots_at s o n ++ (f32_at s (o + F32_SIZE * n) ∷ [])
 
 -- the greatest point, and the least
 abbrev pub point_most : Float

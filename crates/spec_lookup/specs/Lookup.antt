@@ -1,17 +1,17 @@
 -- Document 01's section Lookup, on a pack that was read: which curves a context takes. Names follow `expect.rs`.
 use Rattle.std.specs.Prelude.{ℕ, ◌+◌, ◌*◌, ◌≤◌, ◌<◌, Bool, true, cond, ◌&&◌, ◌||◌, ◌≡◌, List, Option, Some, None, eqb, ltb, length, get_or, Float}
 use Rattle.tonekit_core.specs.Loop.{Turn, next, stop, range, loop_to}
-use Rattle.tonekit_core.specs.Layout.{citation_form, mixture_form, accent_parent, rule_size, rule_label, rule_tone, rule_prev, rule_final, rule_form}
-use Rattle.tonekit_core.specs.Layout.{tone_knot_count, tone_knots, part_size, part_weight, part_knot_count, part_knots}
-use Rattle.tonekit_bytes.specs.Fields.{byte_at, u16_at, f32_at}
-use Rattle.tonekit_bytes.specs.Places.{number_at, index_of}
-use Rattle.tonekit_pack.specs.Ranges.{one_f}
-use Rattle.tonekit_pack.specs.Pack.{Pst, parts_from}
-use Rattle.tonekit_expect.specs.Knots.{Knots, knots_at, expanded}
-use Rattle.tonekit_expect.specs.declared.Winner.{Winner}
-use Rattle.tonekit_expect.specs.declared.Context.{Context}
-use Rattle.tonekit_expect.specs.declared.Listing.{Listing}
-use Rattle.tonekit_expect.specs.declared.Component.{Component}
+use Rattle.tonekit_core.specs.declared.layout.TheConstants.{CITATION_FORM, MIXTURE_FORM, ACCENT_PARENT, RULE_SIZE, RULE_LABEL, RULE_TONE, RULE_PREV, RULE_FINAL, RULE_FORM}
+use Rattle.tonekit_core.specs.declared.layout.TheConstants.{TONE_KNOT_COUNT, TONE_KNOTS, PART_SIZE, PART_WEIGHT, PART_KNOT_COUNT, PART_KNOTS}
+use Rattle.spec_arithmetic.specs.Fields.{byte_at, u16_at, f32_at}
+use Rattle.spec_arithmetic.specs.Places.{number_at, index_of}
+use Rattle.spec_pack.specs.Ranges.{one_f}
+use Rattle.spec_pack.specs.Pack.{Pst, parts_from}
+use Rattle.spec_lookup.specs.Knots.{Knots, knots_at, expanded}
+use Rattle.spec_lookup.specs.declared.Winner.{Winner}
+use Rattle.spec_lookup.specs.declared.Context.{Context}
+use Rattle.spec_lookup.specs.declared.Listing.{Listing}
+use Rattle.spec_lookup.specs.declared.Component.{Component}
 
 -- where a search ended: at an index or an offset, or nowhere
 abbrev pub Found : Type 0
@@ -40,8 +40,8 @@ meets c x = eqb c 0 || eqb c x
 unfoldable pub matches : List ℕ → Context → ℕ → Bool
 unfolding meets
 matches s c r =
-    meets (byte_at s (r + rule_tone)) c.tone
-    && (meets (byte_at s (r + rule_prev)) c.prev && meets (byte_at s (r + rule_final)) (final_of c))
+    meets (byte_at s (r + RULE_TONE)) c.tone
+    && (meets (byte_at s (r + RULE_PREV)) c.prev && meets (byte_at s (r + RULE_FINAL)) (final_of c))
 
 -- `specificity`: "conditions stated"
 abbrev pub one_if : ℕ → ℕ
@@ -49,7 +49,7 @@ one_if c = cond (eqb c 0) 0 1
 
 unfoldable pub specificity : List ℕ → ℕ → ℕ
 specificity s r =
-    one_if (byte_at s (r + rule_tone)) + one_if (byte_at s (r + rule_prev)) + one_if (byte_at s (r + rule_final))
+    one_if (byte_at s (r + RULE_TONE)) + one_if (byte_at s (r + RULE_PREV)) + one_if (byte_at s (r + RULE_FINAL))
 
 -- "its most specific one (conditions stated), the first among equals": a later rule must state more
 abbrev pub more_than : List ℕ → Found → ℕ → Bool
@@ -82,7 +82,7 @@ to_parent (Some j) = next j
 
 -- the place of accent i's parent
 abbrev pub parent_of : List ℕ → Pst → ℕ → Found
-parent_of s st i = index_of s st.accents (byte_at s (get_or st.accents i 0 + accent_parent))
+parent_of s st i = index_of s st.accents (byte_at s (get_or st.accents i 0 + ACCENT_PARENT))
 
 abbrev pub or_parent : List ℕ → Pst → ℕ → Found → Turn ℕ Walked
 or_parent s st i (Some r) = stop (Some (won i r))
@@ -104,19 +104,19 @@ Placed n w = (x : Winner) → w ≡ Some x → (x.accent < n) × (x.rule < 65536
 -- the rule at r, under the number of the accent whose it is, with the parts that follow it
 abbrev pub rule_listing : List ℕ → ℕ → ℕ → Listing
 rule_listing s owner r = record {
-  name = record { owner = owner; form = byte_at s (r + rule_form); label = u16_at s (r + rule_label) };
-  at = r + rule_size;
-  count = parts_from 4 s (r + rule_size);
+  name = record { owner = owner; form = byte_at s (r + RULE_FORM); label = u16_at s (r + RULE_LABEL) };
+  at = r + RULE_SIZE;
+  count = parts_from 4 s (r + RULE_SIZE);
 }
 
 -- "A citation has form 1, the graded accent as owner, label 0": that of the tone's record at o
 abbrev pub citation : ℕ → ℕ → Listing
-citation owner o = record { name = record { owner = owner; form = citation_form; label = 0 }; at = o; count = 1 }
+citation owner o = record { name = record { owner = owner; form = CITATION_FORM; label = 0 }; at = o; count = 1 }
 
 -- "If none matches on the chain, the tone's citation; if context only, nothing."
 abbrev pub listed : List ℕ → Pst → Context → ℕ → Walked → Look
 listed s st c o (Some w) = Some (rule_listing s (number_at s (get_or st.accents w.accent 0)) w.rule)
-listed s st c o None = cond (eqb (byte_at s (o + tone_knot_count)) 0) None (Some (citation c.accent o))
+listed s st c o None = cond (eqb (byte_at s (o + TONE_KNOT_COUNT)) 0) None (Some (citation c.accent o))
 
 -- the lookup, once accent and tone are found at their places
 abbrev pub look_at : List ℕ → Pst → Context → Found → Found → Look
@@ -130,30 +130,30 @@ look_up s st c = look_at s st c (index_of s st.accents c.accent) (index_of s st.
 
 -- the knots of the tone's record at o, and of the part's
 abbrev pub tone_knots_at : List ℕ → ℕ → List Float
-tone_knots_at s o = knots_at s (o + tone_knots) (byte_at s (o + tone_knot_count))
+tone_knots_at s o = knots_at s (o + TONE_KNOTS) (byte_at s (o + TONE_KNOT_COUNT))
 
 abbrev pub part_knots_at : List ℕ → ℕ → List Float
-part_knots_at s o = knots_at s (o + part_knots) (byte_at s (o + part_knot_count))
+part_knots_at s o = knots_at s (o + PART_KNOTS) (byte_at s (o + PART_KNOT_COUNT))
 
 -- component j of a listing. A citation has weight 1 and its knots in the tone's record; a part has both in its own. "Part number": its place in a mixture
 unfoldable pub component_of : List ℕ → Listing → ℕ → Component
 unfolding knots_at
 component_of s l j =
-    cond (eqb l.name.form citation_form) (record { name = l.name; part = 0; weight = one_f; points = expanded (tone_knots_at s l.at) })
+    cond (eqb l.name.form CITATION_FORM) (record { name = l.name; part = 0; weight = one_f; points = expanded (tone_knots_at s l.at) })
     (record {
       name = l.name;
-      part = cond (eqb l.name.form mixture_form) j 0;
-      weight = f32_at s (l.at + part_size * j + part_weight);
-      points = expanded (part_knots_at s (l.at + part_size * j));
+      part = cond (eqb l.name.form MIXTURE_FORM) j 0;
+      weight = f32_at s (l.at + PART_SIZE * j + PART_WEIGHT);
+      points = expanded (part_knots_at s (l.at + PART_SIZE * j));
     })
 
 -- its knots
 abbrev pub knots_of : List ℕ → Listing → ℕ → List Float
 knots_of s l j =
-    cond (eqb l.name.form citation_form) (tone_knots_at s l.at) (part_knots_at s (l.at + part_size * j))
+    cond (eqb l.name.form CITATION_FORM) (tone_knots_at s l.at) (part_knots_at s (l.at + PART_SIZE * j))
 
 -- component j can be read, as in each listing that a pack that loads gives: it stands within the bytes, and its knots are in their ranges
 pub record Listed (s : List ℕ) (l : Listing) (j : ℕ) : Type 0 where
-  pub inside : l.at + part_size * j + part_size ≤ length s
+  pub inside : l.at + PART_SIZE * j + PART_SIZE ≤ length s
   pub few : j < 4
   pub curve : Knots (knots_of s l j)

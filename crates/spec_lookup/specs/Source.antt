@@ -3,15 +3,15 @@ use Rattle.std.specs.Prelude.{ℕ, zero, suc, ◌+◌, Bool, false, cond, ◌||�
 use Rattle.std.proofs.Math.Option.{Option, none, some}
 use Rattle.std.specs.Float.{binary32}
 use Rattle.std.specs.Float.Ieee.{to_bits}
-use Rattle.tonekit_core.specs.Layout.{settings_temperature, settings_threshold, tone_prior, tone_region, tone_from, tone_to}
-use Rattle.tonekit_core.specs.Layout.{accent_contour, accent_onset, accent_offset, accent_turning}
-use Rattle.tonekit_bytes.specs.Fields.{byte_at, u32_at}
-use Rattle.tonekit_bytes.specs.Places.{number_at}
-use Rattle.tonekit_pack.specs.Pack.{Pst}
-use Rattle.tonekit_expect.specs.Lookup.{Look, look_up, component_of}
-use Rattle.tonekit_expect.specs.declared.Context.{Context}
-use Rattle.tonekit_expect.specs.declared.Listing.{Listing}
-use Rattle.tonekit_expect.specs.declared.Component.{Component}
+use Rattle.tonekit_core.specs.declared.layout.TheConstants.{SETTINGS_TEMPERATURE, SETTINGS_THRESHOLD, TONE_PRIOR, TONE_REGION, TONE_FROM, TONE_TO}
+use Rattle.tonekit_core.specs.declared.layout.TheConstants.{ACCENT_CONTOUR, ACCENT_ONSET, ACCENT_OFFSET, ACCENT_TURNING}
+use Rattle.spec_arithmetic.specs.Fields.{byte_at, u32_at}
+use Rattle.spec_arithmetic.specs.Places.{number_at}
+use Rattle.spec_pack.specs.Pack.{Pst}
+use Rattle.spec_lookup.specs.Lookup.{Look, look_up, component_of}
+use Rattle.spec_lookup.specs.declared.Context.{Context}
+use Rattle.spec_lookup.specs.declared.Listing.{Listing}
+use Rattle.spec_lookup.specs.declared.Component.{Component}
 
 -- "Settings are the two values of kind 1."
 pub record Settings : Type 0 where
@@ -74,24 +74,24 @@ given s None = none
 given s (Some l) = some (components s l l.count)
 
 abbrev pub settings_at : List ℕ → ℕ → Settings
-settings_at s o = record { temperature = u32_at s (o + settings_temperature); threshold = u32_at s (o + settings_threshold) }
+settings_at s o = record { temperature = u32_at s (o + SETTINGS_TEMPERATURE); threshold = u32_at s (o + SETTINGS_THRESHOLD) }
 
 abbrev pub tone_at : List ℕ → ℕ → Tone
 tone_at s o = record {
   number = number_at s o;
-  prior = u32_at s (o + tone_prior);
-  flag = byte_at s (o + tone_region);
-  from = u32_at s (o + tone_from);
-  to = u32_at s (o + tone_to);
+  prior = u32_at s (o + TONE_PRIOR);
+  flag = byte_at s (o + TONE_REGION);
+  from = u32_at s (o + TONE_FROM);
+  to = u32_at s (o + TONE_TO);
 }
 
 abbrev pub accent_at : List ℕ → ℕ → Accent
 accent_at s o = record {
   number = number_at s o;
-  contour = u32_at s (o + accent_contour);
-  onset = u32_at s (o + accent_onset);
-  offset = u32_at s (o + accent_offset);
-  turning = u32_at s (o + accent_turning);
+  contour = u32_at s (o + ACCENT_CONTOUR);
+  onset = u32_at s (o + ACCENT_ONSET);
+  offset = u32_at s (o + ACCENT_OFFSET);
+  turning = u32_at s (o + ACCENT_TURNING);
 }
 
 -- what a pack that was read holds

@@ -1,17 +1,17 @@
 -- Document 01's section Pack: which bytes are a pack, and the refusal and place of those that are not. A record is held by its offset.
 use Rattle.std.specs.Prelude.{ℕ, zero, suc, ◌+◌, ◌-◌, Bool, true, false, cond, not, ◌&&◌, ◌||◌, List, [], ◌∷◌, ◌++◌, eqb, leb, ltb, length, get_or, Result, Ok, Err}
 use Rattle.tonekit_core.specs.Loop.{Turn, next, stop, loop_to}
-use Rattle.tonekit_core.specs.Layout.{settings_kind, settings_size, settings_temperature, settings_threshold}
-use Rattle.tonekit_core.specs.Layout.{tone_kind, tone_size, tone_prior, tone_knot_count, tone_knots, tone_region}
-use Rattle.tonekit_core.specs.Layout.{accent_kind, accent_size, accent_parent, accent_contour}
-use Rattle.tonekit_core.specs.Layout.{rule_kind, rule_size, rule_tone, rule_prev, rule_final, rule_form}
-use Rattle.tonekit_core.specs.Layout.{part_kind, part_size, part_weight, part_knot_count, part_knots, end_kind, end_size}
+use Rattle.tonekit_core.specs.declared.layout.TheConstants.{SETTINGS_KIND, SETTINGS_SIZE, SETTINGS_TEMPERATURE, SETTINGS_THRESHOLD}
+use Rattle.tonekit_core.specs.declared.layout.TheConstants.{TONE_KIND, TONE_SIZE, TONE_PRIOR, TONE_KNOT_COUNT, TONE_KNOTS, TONE_REGION}
+use Rattle.tonekit_core.specs.declared.layout.TheConstants.{ACCENT_KIND, ACCENT_SIZE, ACCENT_PARENT, ACCENT_CONTOUR}
+use Rattle.tonekit_core.specs.declared.layout.TheConstants.{RULE_KIND, RULE_SIZE, RULE_TONE, RULE_PREV, RULE_FINAL, RULE_FORM}
+use Rattle.tonekit_core.specs.declared.layout.TheConstants.{PART_KIND, PART_SIZE, PART_WEIGHT, PART_KNOT_COUNT, PART_KNOTS, END_KIND, END_SIZE}
 use Rattle.tonekit_core.specs.declared.Refusal.{Refusal}
 use Rattle.tonekit_core.specs.declared.Refusal.TheVariants.{Misplaced, CutShort, Overrun, Crowded, OffScale, Doubled, Loose}
 use Rattle.tonekit_core.specs.declared.Rejection.{Rejection}
-use Rattle.tonekit_bytes.specs.Fields.{byte_at, u32_at, f32_at}
-use Rattle.tonekit_bytes.specs.Places.{number_at}
-use Rattle.tonekit_pack.specs.Ranges.{above_zero, a_share, weight_fine, knots_fine, region_fine, tolerances_fine}
+use Rattle.spec_arithmetic.specs.Fields.{byte_at, u32_at, f32_at}
+use Rattle.spec_arithmetic.specs.Places.{number_at}
+use Rattle.spec_pack.specs.Ranges.{above_zero, a_share, weight_fine, knots_fine, region_fine, tolerances_fine}
 
 -- what has been read: the last kind; the offsets of tones, accents and rules, in order; for each accent how many rules stood before it;
 -- the parts of the last rule, and all parts
@@ -32,21 +32,21 @@ pub data Out : Type 0 where
 -- "Order: Settings, Tones, then each Accent with its Rules, each Rule with its Parts, End": 1 to 8 tones, 1 to 8 accents, 1 to 4 parts a rule
 unfoldable pub due_after : ℕ → ℕ → Bool
 due_after last k =
-    cond (eqb k settings_kind) (eqb last 0)
-    (cond (eqb k tone_kind) (eqb last settings_kind || eqb last tone_kind)
-    (cond (eqb k accent_kind) (eqb last tone_kind || (eqb last accent_kind || eqb last part_kind))
-    (cond (eqb k rule_kind) (eqb last accent_kind || eqb last part_kind)
-    (cond (eqb k part_kind) (eqb last rule_kind || eqb last part_kind)
-    (eqb k end_kind && (eqb last accent_kind || eqb last part_kind))))))
+    cond (eqb k SETTINGS_KIND) (eqb last 0)
+    (cond (eqb k TONE_KIND) (eqb last SETTINGS_KIND || eqb last TONE_KIND)
+    (cond (eqb k ACCENT_KIND) (eqb last TONE_KIND || (eqb last ACCENT_KIND || eqb last PART_KIND))
+    (cond (eqb k RULE_KIND) (eqb last ACCENT_KIND || eqb last PART_KIND)
+    (cond (eqb k PART_KIND) (eqb last RULE_KIND || eqb last PART_KIND)
+    (eqb k END_KIND && (eqb last ACCENT_KIND || eqb last PART_KIND))))))
 
 -- the bytes of a record of each kind
 unfoldable pub size_of : ℕ → ℕ
 size_of k =
-    cond (eqb k settings_kind) settings_size
-    (cond (eqb k tone_kind) tone_size
-    (cond (eqb k accent_kind) accent_size
-    (cond (eqb k rule_kind) rule_size
-    (cond (eqb k part_kind) part_size end_size))))
+    cond (eqb k SETTINGS_KIND) SETTINGS_SIZE
+    (cond (eqb k TONE_KIND) TONE_SIZE
+    (cond (eqb k ACCENT_KIND) ACCENT_SIZE
+    (cond (eqb k RULE_KIND) RULE_SIZE
+    (cond (eqb k PART_KIND) PART_SIZE END_SIZE))))
 
 -- "A tone is held if a tone record of the pack gives its number as its own, an accent if an accent record does": number n among the records at these offsets
 unfoldable pub holds : List ℕ → List ℕ → ℕ → Bool
@@ -68,16 +68,16 @@ in_turn crowded fine new held =
 
 unfoldable pub settings_verdict : List ℕ → ℕ → Result Unit Refusal
 settings_verdict s o =
-    in_turn false (above_zero (f32_at s (o + settings_temperature)) && a_share (f32_at s (o + settings_threshold))) true true
+    in_turn false (above_zero (f32_at s (o + SETTINGS_TEMPERATURE)) && a_share (f32_at s (o + SETTINGS_THRESHOLD))) true true
 
 -- number, prior, knot count, ten slots, region
 abbrev pub tone_crowded : List ℕ → ℕ → Pst → Bool
-tone_crowded s o st = leb 8 (length st.tones) || ltb 10 (byte_at s (o + tone_knot_count))
+tone_crowded s o st = leb 8 (length st.tones) || ltb 10 (byte_at s (o + TONE_KNOT_COUNT))
 
 abbrev pub tone_fine : List ℕ → ℕ → Bool
 tone_fine s o =
     not (eqb (number_at s o) 0)
-    && (a_share (f32_at s (o + tone_prior)) && (knots_fine s (o + tone_knots) (byte_at s (o + tone_knot_count)) && region_fine s (o + tone_region)))
+    && (a_share (f32_at s (o + TONE_PRIOR)) && (knots_fine s (o + TONE_KNOTS) (byte_at s (o + TONE_KNOT_COUNT)) && region_fine s (o + TONE_REGION)))
 
 unfoldable pub tone_verdict : List ℕ → ℕ → Pst → Result Unit Refusal
 unfolding holds
@@ -85,7 +85,7 @@ tone_verdict s o st = in_turn (tone_crowded s o st) (tone_fine s o) (not (holds 
 
 -- number, parent ("A parent stands earlier in the file"), tolerances
 abbrev pub accent_fine : List ℕ → ℕ → Bool
-accent_fine s o = not (eqb (number_at s o) 0) && tolerances_fine s (o + accent_contour)
+accent_fine s o = not (eqb (number_at s o) 0) && tolerances_fine s (o + ACCENT_CONTOUR)
 
 unfoldable pub accent_verdict : List ℕ → ℕ → Pst → Result Unit Refusal
 unfolding holds zero_or_held
@@ -94,16 +94,16 @@ accent_verdict s o st =
     (leb 8 (length st.accents))
     (accent_fine s o)
     (not (holds s st.accents (number_at s o)))
-    (zero_or_held s st.accents (byte_at s (o + accent_parent)))
+    (zero_or_held s st.accents (byte_at s (o + ACCENT_PARENT)))
 
 -- label, tone, prev, final ("0 any, 1 no, 2 yes"), form ("2 is single, 3 mixture")
 abbrev pub rule_fine : List ℕ → ℕ → Bool
 rule_fine s o =
-    leb (byte_at s (o + rule_final)) 2 && (eqb (byte_at s (o + rule_form)) 2 || eqb (byte_at s (o + rule_form)) 3)
+    leb (byte_at s (o + RULE_FINAL)) 2 && (eqb (byte_at s (o + RULE_FORM)) 2 || eqb (byte_at s (o + RULE_FORM)) 3)
 
 abbrev pub rule_held : List ℕ → ℕ → Pst → Bool
 rule_held s o st =
-    zero_or_held s st.tones (byte_at s (o + rule_tone)) && zero_or_held s st.tones (byte_at s (o + rule_prev))
+    zero_or_held s st.tones (byte_at s (o + RULE_TONE)) && zero_or_held s st.tones (byte_at s (o + RULE_PREV))
 
 unfoldable pub rule_verdict : List ℕ → ℕ → Pst → Result Unit Refusal
 unfolding zero_or_held
@@ -115,18 +115,18 @@ last_rule st = get_or st.rules (length st.rules - 1) 0
 
 -- "Form 2 is single"
 abbrev pub single : List ℕ → Pst → Bool
-single s st = eqb (byte_at s (last_rule st + rule_form)) 2
+single s st = eqb (byte_at s (last_rule st + RULE_FORM)) 2
 
 -- weight, knot count, ten slots. Of a single rule "its part's weight is 1, else 5; a second part is 4"
 abbrev pub part_crowded : List ℕ → ℕ → Pst → Bool
 part_crowded s o st =
-    leb 4 st.parts || (leb 128 st.total || ((single s st && leb 1 st.parts) || ltb 10 (byte_at s (o + part_knot_count))))
+    leb 4 st.parts || (leb 128 st.total || ((single s st && leb 1 st.parts) || ltb 10 (byte_at s (o + PART_KNOT_COUNT))))
 
 abbrev pub part_fine : Bool → List ℕ → ℕ → Bool
 part_fine one s o =
-    weight_fine (u32_at s (o + part_weight))
-    && ((not one || eqb (u32_at s (o + part_weight)) 0x3f80_0000)
-    && (not (eqb (byte_at s (o + part_knot_count)) 0) && knots_fine s (o + part_knots) (byte_at s (o + part_knot_count))))
+    weight_fine (u32_at s (o + PART_WEIGHT))
+    && ((not one || eqb (u32_at s (o + PART_WEIGHT)) 0x3f80_0000)
+    && (not (eqb (byte_at s (o + PART_KNOT_COUNT)) 0) && knots_fine s (o + PART_KNOTS) (byte_at s (o + PART_KNOT_COUNT))))
 
 unfoldable pub part_verdict : List ℕ → ℕ → Pst → Result Unit Refusal
 part_verdict s o st = in_turn (part_crowded s o st) (part_fine (single s st) s o) true true
@@ -134,11 +134,11 @@ part_verdict s o st = in_turn (part_crowded s o st) (part_fine (single s st) s o
 unfoldable pub body_verdict : ℕ → List ℕ → ℕ → Pst → Result Unit Refusal
 unfolding settings_verdict tone_verdict accent_verdict rule_verdict part_verdict
 body_verdict k s o st =
-    cond (eqb k settings_kind) (settings_verdict s o)
-    (cond (eqb k tone_kind) (tone_verdict s o st)
-    (cond (eqb k accent_kind) (accent_verdict s o st)
-    (cond (eqb k rule_kind) (rule_verdict s o st)
-    (cond (eqb k part_kind) (part_verdict s o st) (Ok tt)))))
+    cond (eqb k SETTINGS_KIND) (settings_verdict s o)
+    (cond (eqb k TONE_KIND) (tone_verdict s o st)
+    (cond (eqb k ACCENT_KIND) (accent_verdict s o st)
+    (cond (eqb k RULE_KIND) (rule_verdict s o st)
+    (cond (eqb k PART_KIND) (part_verdict s o st) (Ok tt)))))
 
 -- "in each 1, 2, 4, 5, 6, 7"; past the input's end a due record is missing: 2
 unfoldable pub record_verdict : List ℕ → ℕ → Pst → Result Unit Refusal
@@ -152,20 +152,20 @@ record_verdict s o st =
 -- what has been read once the record of kind k at o is fine
 unfoldable pub added : ℕ → ℕ → Pst → Pst
 added k o st =
-    cond (eqb k tone_kind)
+    cond (eqb k TONE_KIND)
     (record { last = k; tones = st.tones ++ (o ∷ []); accents = st.accents; firsts = st.firsts; rules = st.rules; parts = st.parts; total = st.total })
-    (cond (eqb k accent_kind)
+    (cond (eqb k ACCENT_KIND)
     (record { last = k; tones = st.tones; accents = st.accents ++ (o ∷ []); firsts = st.firsts ++ (length st.rules ∷ []); rules = st.rules; parts = st.parts; total = st.total })
-    (cond (eqb k rule_kind)
+    (cond (eqb k RULE_KIND)
     (record { last = k; tones = st.tones; accents = st.accents; firsts = st.firsts; rules = st.rules ++ (o ∷ []); parts = 0; total = st.total })
-    (cond (eqb k part_kind)
+    (cond (eqb k PART_KIND)
     (record { last = k; tones = st.tones; accents = st.accents; firsts = st.firsts; rules = st.rules; parts = st.parts + 1; total = st.total + 1 })
     (record { last = k; tones = st.tones; accents = st.accents; firsts = st.firsts; rules = st.rules; parts = st.parts; total = st.total }))))
 
 -- "each Rule with its Parts": the parts that stand from an offset on, at most n
 unfoldable pub parts_from : ℕ → List ℕ → ℕ → ℕ
 parts_from zero s o = 0
-parts_from (suc n) s o = cond (eqb (byte_at s o) part_kind) (suc (parts_from n s (o + part_size))) 0
+parts_from (suc n) s o = cond (eqb (byte_at s o) PART_KIND) (suc (parts_from n s (o + PART_SIZE))) 0
 
 -- a place in the pack: the offset of the record due, and what stood before it
 pub record Here : Type 0 where
@@ -176,7 +176,7 @@ pub record Here : Type 0 where
 abbrev pub on_verdict : List ℕ → Here → Result Unit Refusal → Turn Here Out
 on_verdict s h (Err r) = stop (refused r h.at)
 on_verdict s h (Ok u) =
-    cond (eqb (byte_at s h.at) end_kind) (stop (loaded h.st (h.at + end_size)))
+    cond (eqb (byte_at s h.at) END_KIND) (stop (loaded h.st (h.at + END_SIZE)))
     (next (record { at = h.at + size_of (byte_at s h.at); st = added (byte_at s h.at) h.at h.st }))
 
 abbrev pub record_turn : List ℕ → Here → Turn Here Out

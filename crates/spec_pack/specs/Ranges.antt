@@ -4,8 +4,8 @@ use Rattle.std.specs.Float.{inf, fin}
 use Rattle.std.specs.Float.Ieee.{lt, le, neg}
 use Rattle.std.specs.Float.Ieee.Scale.{finite}
 use Rattle.tonekit_core.specs.Loop.{range}
-use Rattle.tonekit_core.specs.Layout.{f32_size, region_from, region_to, tolerance_onset, tolerance_offset, tolerance_turning}
-use Rattle.tonekit_bytes.specs.Fields.{byte_at, u32_at, f32_at}
+use Rattle.tonekit_core.specs.declared.layout.TheConstants.{F32_SIZE, REGION_FROM, REGION_TO, TOLERANCE_ONSET, TOLERANCE_OFFSET, TOLERANCE_TURNING}
+use Rattle.spec_arithmetic.specs.Fields.{byte_at, u32_at, f32_at}
 
 abbrev pub zero_f : Float
 zero_f = fin false 0 (pos 0)
@@ -39,7 +39,7 @@ weight_fine bits = ltb bits 0x7f80_0000
 -- ten slots from an offset on, of which the first n are knots; "unused slots are zero bytes"
 unfoldable pub slot_fine : List ℕ → ℕ → ℕ → ℕ → Bool
 unfolding knot_fine
-slot_fine s o n k = cond (ltb k n) (knot_fine (f32_at s (o + f32_size * k))) (eqb (u32_at s (o + f32_size * k)) 0)
+slot_fine s o n k = cond (ltb k n) (knot_fine (f32_at s (o + F32_SIZE * k))) (eqb (u32_at s (o + F32_SIZE * k)) 0)
 
 abbrev pub slot_turn : List ℕ → ℕ → ℕ → ℕ → Bool → Bool
 slot_turn s o n k ok = ok && slot_fine s o n k
@@ -51,11 +51,11 @@ knots_fine s o n = range (slot_turn s o n) 0 10 true
 -- "flag 0 or 1; regions finite, from ≤ to"; "from and to where the flag is 0, are zero bytes". The flag stands at o, from and to behind it
 unfoldable pub region_fine : List ℕ → ℕ → Bool
 region_fine s o =
-    cond (eqb (byte_at s o) 0) (eqb (u32_at s (o + region_from)) 0 && eqb (u32_at s (o + region_to)) 0)
-    (eqb (byte_at s o) 1 && (finite (f32_at s (o + region_from)) && (finite (f32_at s (o + region_to)) && le (f32_at s (o + region_from)) (f32_at s (o + region_to)))))
+    cond (eqb (byte_at s o) 0) (eqb (u32_at s (o + REGION_FROM)) 0 && eqb (u32_at s (o + REGION_TO)) 0)
+    (eqb (byte_at s o) 1 && (finite (f32_at s (o + REGION_FROM)) && (finite (f32_at s (o + REGION_TO)) && le (f32_at s (o + REGION_FROM)) (f32_at s (o + REGION_TO)))))
 
 -- the four tolerances from an offset on
 unfoldable pub tolerances_fine : List ℕ → ℕ → Bool
 unfolding above_zero
 tolerances_fine s o =
-    above_zero (f32_at s o) && (above_zero (f32_at s (o + tolerance_onset)) && (above_zero (f32_at s (o + tolerance_offset)) && above_zero (f32_at s (o + tolerance_turning))))
+    above_zero (f32_at s o) && (above_zero (f32_at s (o + TOLERANCE_ONSET)) && (above_zero (f32_at s (o + TOLERANCE_OFFSET)) && above_zero (f32_at s (o + TOLERANCE_TURNING))))

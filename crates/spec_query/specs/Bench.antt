@@ -4,8 +4,8 @@ use Rattle.std.specs.Float.{fin, binary32}
 use Rattle.std.specs.Float.Ieee.{of_bits, lt}
 use Rattle.tonekit_core.specs.Loop.{turns, range, turns_to, range_to}
 use Rattle.tonekit_core.specs.declared.Refusal.TheVariants.{Misplaced, CutShort, Overrun, Crowded, BadQuery}
-use Rattle.tonekit_query.specs.Query.{variant_fine, variants_fine, record_verdict, frame_verdict, fields_of, read_query, load_query, check_query, frames_of, variant_tone, variant_weight}
-use Rattle.tonekit_query.specs.Frames.{frame_at}
+use Rattle.spec_query.specs.Query.{variant_fine, variants_fine, record_verdict, frame_verdict, fields_of, read_query, load_query, check_query, frames_of, variant_tone, variant_weight}
+use Rattle.spec_query.specs.Frames.{frame_at}
 
 -- a fixed record: final, the high byte of the issues, the variant count and variants, the two bytes of the frame count
 abbrev fixed : ℕ → ℕ → ℕ → List ℕ → ℕ → ℕ → List ℕ

@@ -2,9 +2,9 @@
 use Rattle.std.specs.Prelude.{ℕ, ◌+◌, ◌*◌, Bool, true, false, cond, ◌&&◌, List, eqb, pos, Float, Option, Some, None}
 use Rattle.std.specs.Float.{inf, fin}
 use Rattle.std.specs.Float.Ieee.{lt}
-use Rattle.tonekit_core.specs.Layout.{frame_size, frame_voiced, frame_hz, frame_voiced_p}
-use Rattle.tonekit_bytes.specs.Fields.{byte_at, f32_at}
-use Rattle.tonekit_query.specs.declared.Voiced.{Voiced}
+use Rattle.tonekit_core.specs.declared.layout.TheConstants.{FRAME_SIZE, FRAME_VOICED, FRAME_HZ, FRAME_VOICED_P}
+use Rattle.spec_arithmetic.specs.Fields.{byte_at, f32_at}
+use Rattle.spec_query.specs.declared.Voiced.{Voiced}
 
 -- above 0 and finite
 abbrev pub pitch : Float → Bool
@@ -12,13 +12,13 @@ pitch hz = lt (fin false 0 (pos 0)) hz && lt hz (inf false)
 
 -- whether the frame at an offset is voiced
 abbrev pub voiced_at : List ℕ → ℕ → Bool
-voiced_at frames at = eqb (byte_at frames (at + frame_voiced)) 1 && pitch (f32_at frames (at + frame_hz))
+voiced_at frames at = eqb (byte_at frames (at + FRAME_VOICED)) 1 && pitch (f32_at frames (at + FRAME_HZ))
 
 -- frame i of the part that holds the frames: its hz and voiced_p
 unfoldable pub frame_at : List ℕ → ℕ → Option Voiced
 frame_at frames i =
-    cond (voiced_at frames (frame_size * i))
-    (Some (record { hz = f32_at frames (frame_size * i + frame_hz); voiced_p = f32_at frames (frame_size * i + frame_voiced_p) }))
+    cond (voiced_at frames (FRAME_SIZE * i))
+    (Some (record { hz = f32_at frames (FRAME_SIZE * i + FRAME_HZ); voiced_p = f32_at frames (FRAME_SIZE * i + FRAME_VOICED_P) }))
     None
 
 abbrev pub voiced_of : Option Voiced → Bool

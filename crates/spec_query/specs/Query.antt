@@ -1,20 +1,20 @@
 -- Document 01's section Query: which bytes are a query, and the refusal and place of those that are not.
 use Rattle.std.specs.Prelude.{ℕ, ◌+◌, ◌*◌, Bool, true, cond, not, ◌&&◌, ◌||◌, List, eqb, leb, ltb, length, take, drop, Float, Result, Ok, Err}
 use Rattle.tonekit_core.specs.Loop.{Turn, next, stop, range, range_to}
-use Rattle.tonekit_core.specs.Layout.{query_kind, query_size, query_accent, query_tone, query_prev, query_final, query_start, query_end}
-use Rattle.tonekit_core.specs.Layout.{query_floor, query_ceil, query_issues, query_variant_count, variant_tones, variant_weights}
-use Rattle.tonekit_core.specs.Layout.{variant_size, query_frame_count, frame_kind, frame_size, frame_voiced}
+use Rattle.tonekit_core.specs.declared.layout.TheConstants.{QUERY_KIND, QUERY_SIZE, QUERY_ACCENT, QUERY_TONE, QUERY_PREV, QUERY_FINAL, QUERY_START, QUERY_END}
+use Rattle.tonekit_core.specs.declared.layout.TheConstants.{QUERY_FLOOR, QUERY_CEIL, QUERY_ISSUES, QUERY_VARIANT_COUNT, VARIANT_TONES, VARIANT_WEIGHTS}
+use Rattle.tonekit_core.specs.declared.layout.TheConstants.{VARIANT_SIZE, QUERY_FRAME_COUNT, FRAME_KIND, FRAME_SIZE, FRAME_VOICED}
 use Rattle.tonekit_core.specs.declared.Refusal.TheVariants.{Misplaced, CutShort, Overrun, Crowded, BadQuery}
 use Rattle.tonekit_core.specs.declared.Refusal.{Refusal}
 use Rattle.tonekit_core.specs.declared.Rejection.{Rejection}
-use Rattle.tonekit_bytes.specs.Fields.{byte_at, u16_at, u32_at, f32_at}
-use Rattle.tonekit_query.specs.declared.Query.{Query}
+use Rattle.spec_arithmetic.specs.Fields.{byte_at, u16_at, u32_at, f32_at}
+use Rattle.spec_query.specs.declared.Query.{Query}
 
 -- "variant count u8 (at most 4), 4 times (tone u8, weight f32), unused ones zero": five zero bytes
 unfoldable pub variant_fine : List ℕ → ℕ → Bool
 variant_fine s i =
-    ltb i (byte_at s query_variant_count)
-    || (eqb (byte_at s (variant_tones + variant_size * i)) 0 && eqb (u32_at s (variant_weights + variant_size * i)) 0)
+    ltb i (byte_at s QUERY_VARIANT_COUNT)
+    || (eqb (byte_at s (VARIANT_TONES + VARIANT_SIZE * i)) 0 && eqb (u32_at s (VARIANT_WEIGHTS + VARIANT_SIZE * i)) 0)
 
 abbrev pub variant_turn : List ℕ → ℕ → Bool → Bool
 variant_turn s i ok = ok && variant_fine s i
@@ -26,53 +26,53 @@ variants_fine s = range (variant_turn s) 0 4 true
 unfoldable pub record_verdict : List ℕ → Result Unit Refusal
 record_verdict s =
     cond (eqb (length s) 0) (Err CutShort)
-    (cond (not (eqb (byte_at s 0) query_kind)) (Err Misplaced)
-    (cond (ltb (length s) query_size) (Err CutShort)
-    (cond (ltb 4 (byte_at s query_variant_count) || ltb 1024 (u16_at s query_frame_count)) (Err Crowded)
-    (cond (leb (byte_at s query_final) 1 && (ltb (u16_at s query_issues) 1024 && variants_fine s)) (Ok tt) (Err BadQuery)))))
+    (cond (not (eqb (byte_at s 0) QUERY_KIND)) (Err Misplaced)
+    (cond (ltb (length s) QUERY_SIZE) (Err CutShort)
+    (cond (ltb 4 (byte_at s QUERY_VARIANT_COUNT) || ltb 1024 (u16_at s QUERY_FRAME_COUNT)) (Err Crowded)
+    (cond (leb (byte_at s QUERY_FINAL) 1 && (ltb (u16_at s QUERY_ISSUES) 1024 && variants_fine s)) (Ok tt) (Err BadQuery)))))
 
 -- the frame record at an offset; the voiced flag is 0 or 1, all else may be any bits
 unfoldable pub frame_verdict : List ℕ → ℕ → Result Unit Refusal
 frame_verdict s at =
     cond (leb (length s) at) (Err CutShort)
-    (cond (not (eqb (byte_at s at) frame_kind)) (Err Misplaced)
-    (cond (ltb (length s) (at + frame_size)) (Err CutShort)
-    (cond (leb (byte_at s (at + frame_voiced)) 1) (Ok tt) (Err BadQuery))))
+    (cond (not (eqb (byte_at s at) FRAME_KIND)) (Err Misplaced)
+    (cond (ltb (length s) (at + FRAME_SIZE)) (Err CutShort)
+    (cond (leb (byte_at s (at + FRAME_VOICED)) 1) (Ok tt) (Err BadQuery))))
 
 -- what the fixed record says; the variants stay in the bytes
 unfoldable pub fields_of : List ℕ → Query
 fields_of s = record {
-  accent = byte_at s query_accent;
-  tone = byte_at s query_tone;
-  prev = byte_at s query_prev;
-  last = not (eqb (byte_at s query_final) 0);
-  start = u32_at s query_start;
-  end = u32_at s query_end;
-  floor = f32_at s query_floor;
-  ceil = f32_at s query_ceil;
-  issues = u16_at s query_issues;
-  variants = byte_at s query_variant_count;
-  count = u16_at s query_frame_count;
+  accent = byte_at s QUERY_ACCENT;
+  tone = byte_at s QUERY_TONE;
+  prev = byte_at s QUERY_PREV;
+  last = not (eqb (byte_at s QUERY_FINAL) 0);
+  start = u32_at s QUERY_START;
+  end = u32_at s QUERY_END;
+  floor = f32_at s QUERY_FLOOR;
+  ceil = f32_at s QUERY_CEIL;
+  issues = u16_at s QUERY_ISSUES;
+  variants = byte_at s QUERY_VARIANT_COUNT;
+  count = u16_at s QUERY_FRAME_COUNT;
 }
 
 -- where a query of so many frames ends
 abbrev pub end_of : ℕ → ℕ
-end_of count = query_size + frame_size * count
+end_of count = QUERY_SIZE + FRAME_SIZE * count
 
 -- the frames in order: the first that is refused decides, and its place is its offset
 abbrev pub after_frame : ℕ → Result Unit Refusal → Turn ℕ (Result Query Rejection)
-after_frame at (Ok u) = next (at + frame_size)
+after_frame at (Ok u) = next (at + FRAME_SIZE)
 after_frame at (Err r) = stop (Err (record { why = r; place = at }))
 
 abbrev pub frame_turn : List ℕ → ℕ → ℕ → Turn ℕ (Result Query Rejection)
 frame_turn s i at = after_frame at (frame_verdict s at)
 
 abbrev pub read_frames : List ℕ → ℕ → Result Query Rejection
-read_frames s count = range_to (frame_turn s) (λ at. Ok (fields_of s)) 0 count query_size
+read_frames s count = range_to (frame_turn s) (λ at. Ok (fields_of s)) 0 count QUERY_SIZE
 
 -- a query at the front of a longer input: its fixed record, then as many frames as that counts
 abbrev pub after_record : List ℕ → Result Unit Refusal → Result Query Rejection
-after_record s (Ok u) = read_frames s (u16_at s query_frame_count)
+after_record s (Ok u) = read_frames s (u16_at s QUERY_FRAME_COUNT)
 after_record s (Err r) = Err (record { why = r; place = 0 })
 
 unfoldable pub read_query : List ℕ → Result Query Rejection
@@ -95,11 +95,11 @@ check_query s = said (load_query s)
 
 -- "the part of the caller's bytes that holds the frames": after the fixed record, exactly the counted frames
 abbrev pub frames_of : List ℕ → ℕ → List ℕ
-frames_of s count = take (frame_size * count) (drop query_size s)
+frames_of s count = take (FRAME_SIZE * count) (drop QUERY_SIZE s)
 
 -- variant i
 abbrev pub variant_tone : List ℕ → ℕ → ℕ
-variant_tone s i = byte_at s (variant_tones + variant_size * i)
+variant_tone s i = byte_at s (VARIANT_TONES + VARIANT_SIZE * i)
 
 abbrev pub variant_weight : List ℕ → ℕ → Float
-variant_weight s i = f32_at s (variant_weights + variant_size * i)
+variant_weight s i = f32_at s (VARIANT_WEIGHTS + VARIANT_SIZE * i)

@@ -3,9 +3,9 @@ use Rattle.std.specs.Prelude.{ℕ, Bool, cond, ◌&&◌, List, Float, Option, So
 use Rattle.std.specs.Float.{binary64}
 use Rattle.std.specs.Float.Ieee.{add, sub, mul, div, lt, of_bits}
 use Rattle.std.specs.Float.Ieee.Scale.{finite}
-use Rattle.tonekit_log.specs.Log.{log2_of}
-use Rattle.tonekit_query.specs.Frames.{frame_at, voiced_of}
-use Rattle.tonekit_query.specs.declared.Voiced.{Voiced}
+use Rattle.spec_arithmetic.specs.Log.{log2_of}
+use Rattle.spec_query.specs.Frames.{frame_at, voiced_of}
+use Rattle.spec_query.specs.declared.Voiced.{Voiced}
 
 -- +0, 1, 4, 12 and 55
 abbrev pub zero64 : Float

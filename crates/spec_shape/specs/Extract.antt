@@ -2,17 +2,17 @@
 use Rattle.std.specs.Prelude.{ℕ, zero, suc, ◌+◌, ◌-◌, ◌≤◌, ◌<◌, ◌≡◌, cond, List, [], ◌∷◌, ◌++◌, eqb, min, pos, length, get_or, set, replicate, Float, Option, Some, None}
 use Rattle.std.specs.Float.{nan, binary32, binary64}
 use Rattle.std.specs.Float.Ieee.{add, sub, mul, div, of_int, of_bits}
-use Rattle.tonekit_contour.specs.Range.{range_in}
+use Rattle.spec_shape.specs.Range.{range_in}
 use Rattle.tonekit_core.specs.Loop.{range}
-use Rattle.tonekit_float.specs.Narrow.{narrowed}
-use Rattle.tonekit_contour.specs.Position.{whole64}
-use Rattle.tonekit_contour.specs.Turning.{turning_point}
-use Rattle.tonekit_query.specs.Frames.{frame_at}
-use Rattle.tonekit_fit.specs.Chao.{zero64, semitones_of, voiced, confidence_of, width_of, st_to_chao}
-use Rattle.tonekit_fit.specs.Fit.{Part, line_slope, quadratic_coefficient}
-use Rattle.tonekit_window.specs.Window.{contour_at, weight_at}
-use Rattle.tonekit_shape.specs.declared.Extent.{Extent}
-use Rattle.tonekit_shape.specs.declared.ToneShape.{ToneShape}
+use Rattle.spec_arithmetic.specs.Narrow.{narrowed}
+use Rattle.spec_arithmetic.specs.Position.{whole64}
+use Rattle.spec_shape.specs.Turning.{turning_point}
+use Rattle.spec_query.specs.Frames.{frame_at}
+use Rattle.spec_shape.specs.Chao.{zero64, semitones_of, voiced, confidence_of, width_of, st_to_chao}
+use Rattle.spec_shape.specs.Fit.{Part, line_slope, quadratic_coefficient}
+use Rattle.spec_shape.specs.Window.{contour_at, weight_at}
+use Rattle.spec_shape.specs.declared.Extent.{Extent}
+use Rattle.spec_shape.specs.declared.ToneShape.{ToneShape}
 
 -- `voiced_frames`: the voiced frames of the span, clamped to the frames; how many, the first and the last
 abbrev pub extent_turn : List ℕ → ℕ → Extent → Extent

@@ -3,12 +3,12 @@ use Rattle.std.specs.Prelude.{ℕ, ◌+◌, ◌-◌, ◌<◌, ◌^◌, ◌≡◌
 use Rattle.std.specs.Float.{nan, binary64}
 use Rattle.std.specs.Float.Ieee.{add, sub, mul, div, lt, of_bits}
 use Rattle.tonekit_core.specs.Loop.{Turn, next, stop, range, range_to}
-use Rattle.tonekit_float.specs.Magnitude.{magnitude}
-use Rattle.tonekit_float.specs.Magnitude.{total_le}
-use Rattle.tonekit_contour.specs.Position.{whole64}
-use Rattle.tonekit_fit.specs.Chao.{zero64, one64, voiced}
-use Rattle.tonekit_fit.specs.declared.Sums.{Sums}
-use Rattle.tonekit_fit.specs.declared.Moments.{Moments}
+use Rattle.spec_arithmetic.specs.Magnitude.{magnitude}
+use Rattle.spec_arithmetic.specs.Magnitude.{total_le}
+use Rattle.spec_arithmetic.specs.Position.{whole64}
+use Rattle.spec_shape.specs.Chao.{zero64, one64, voiced}
+use Rattle.spec_shape.specs.declared.Sums.{Sums}
+use Rattle.spec_shape.specs.declared.Moments.{Moments}
 
 -- the part: its frames' bytes, its first frame, its curve in Chao values
 pub record Part : Type 0 where

@@ -3,10 +3,10 @@ use Rattle.std.specs.Prelude.{ℕ, ◌≡◌, refl, [], ◌∷◌, pos, negsuc, 
 use Rattle.std.specs.Float.{binary64, float_with_sign}
 use Rattle.std.specs.Float.Ieee.{add, sub, mul, div, neg, lt, le, of_bits, of_int, round, is_nan}
 use Rattle.tonekit_core.specs.Loop.{range, turns}
-use Rattle.tonekit_float.specs.Magnitude.{total_le}
-use Rattle.tonekit_log.specs.Log.{log2_of}
-use Rattle.tonekit_fit.specs.Chao.{hz_to_st, width_of, st_to_chao}
-use Rattle.tonekit_fit.specs.Fit.{pivot_of}
+use Rattle.spec_arithmetic.specs.Magnitude.{total_le}
+use Rattle.spec_arithmetic.specs.Log.{log2_of}
+use Rattle.spec_shape.specs.Chao.{hz_to_st, width_of, st_to_chao}
+use Rattle.spec_shape.specs.Fit.{pivot_of}
 
 abbrev num : ℕ → Float
 num n = of_int binary64 (pos n)

@@ -3,7 +3,7 @@ use Rattle.std.specs.Prelude.{ℕ, true, false, List, get_or, Float}
 use Rattle.std.specs.Float.{Format, nan, inf}
 use Rattle.std.specs.Float.Ieee.{sub}
 use Rattle.tonekit_core.specs.Loop.{range}
-use Rattle.tonekit_float.specs.Pick.{lesser, greater}
+use Rattle.spec_arithmetic.specs.Pick.{lesser, greater}
 
 abbrev pub lesser_turn : List Float → ℕ → Float → Float
 lesser_turn l k t = lesser t (get_or l k nan)

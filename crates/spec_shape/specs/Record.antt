@@ -1,17 +1,17 @@
 -- The shape record, kind 51, written from a query alone.
 use Rattle.std.specs.Prelude.{ℕ, cond, List, [], ◌∷◌, ◌++◌, ltb, Float, Option, Some, None, Result, Ok, Err}
 use Rattle.tonekit_core.specs.Calls.{Outcome, refused, written}
-use Rattle.tonekit_core.specs.Layout.{shape_kind}
+use Rattle.tonekit_core.specs.declared.layout.TheConstants.{SHAPE_KIND}
 use Rattle.tonekit_core.specs.Words.{with_issue}
 use Rattle.tonekit_core.specs.declared.Refusal.TheVariants as refusal
 use Rattle.tonekit_core.specs.declared.MeasureIssue.TheVariants as issue
-use Rattle.tonekit_bytes.specs.Fields.{le16, le32, f32_bytes, f32s_bytes}
-use Rattle.tonekit_query.specs.Query.{load_query, frames_of}
-use Rattle.tonekit_query.specs.declared.Query.{Query}
+use Rattle.spec_arithmetic.specs.Fields.{le16, le32, f32_bytes, f32s_bytes}
+use Rattle.spec_query.specs.Query.{load_query, frames_of}
+use Rattle.spec_query.specs.declared.Query.{Query}
 use Rattle.tonekit_core.specs.declared.Rejection.{Rejection}
-use Rattle.tonekit_shape.specs.Extract.{zero32, extent_of, shape_of}
-use Rattle.tonekit_shape.specs.declared.Extent.{Extent}
-use Rattle.tonekit_shape.specs.declared.ToneShape.{ToneShape}
+use Rattle.spec_shape.specs.Extract.{zero32, extent_of, shape_of}
+use Rattle.spec_shape.specs.declared.Extent.{Extent}
+use Rattle.spec_shape.specs.declared.ToneShape.{ToneShape}
 
 -- "First to last voiced count n < 8 adds TooShort to the issues"
 unfoldable pub united : ℕ → ℕ → ℕ
@@ -19,7 +19,7 @@ united issues n = cond (ltb n 8) (with_issue issues issue.TooShort) issues
 
 -- "Kind 51: span start, end u32"
 abbrev pub span_bytes : ℕ → ℕ → List ℕ
-span_bytes start end = (shape_kind ∷ []) ++ (le32 start ++ le32 end)
+span_bytes start end = (SHAPE_KIND ∷ []) ++ (le32 start ++ le32 end)
 
 -- the turning point's flag and value: 1 and the place, or 0 and +0
 abbrev pub turns_of : Option Float → ℕ

@@ -2,29 +2,29 @@
 use Rattle.std.specs.Prelude.{ℕ, ◌≡◌, refl, true, false, List, [], ◌∷◌, ◌++◌, map, pos, negsuc, length, replicate, Float, Some, None}
 use Rattle.std.specs.Float.{nan, inf, fin, binary32, float_with_sign}
 use Rattle.std.specs.Float.Ieee.{add, sub, mul, div, lt, le, eq, neg, of_bits, to_bits, of_int, round, is_nan}
-use Rattle.tonekit_contour.specs.Range.{range_in}
+use Rattle.spec_shape.specs.Range.{range_in}
 use Rattle.tonekit_core.specs.Calls.{refused}
 use Rattle.tonekit_core.specs.Loop.{range, range_to, while}
 use Rattle.tonekit_core.specs.Words.{with_issue}
 use Rattle.tonekit_core.specs.declared.Refusal.TheVariants.{CutShort, Unvoiced}
-use Rattle.tonekit_float.specs.Magnitude.{total_le}
-use Rattle.tonekit_float.specs.Narrow.{narrowed}
-use Rattle.tonekit_float.specs.Pick.{lesser, greater}
-use Rattle.tonekit_float.specs.Whole.{whole_part, round_up}
-use Rattle.tonekit_contour.specs.Position.{position}
-use Rattle.tonekit_contour.specs.Turning.{greatest, first_near, last_near, extremum, stands, chosen, turning_point}
-use Rattle.tonekit_log.specs.Log.{log2_of}
-use Rattle.tonekit_query.specs.Frames.{frame_at}
-use Rattle.tonekit_query.specs.Query.{variant_fine, variants_fine, record_verdict, frame_verdict, fields_of, read_query, load_query}
-use Rattle.tonekit_fit.specs.Chao.{hz_to_st, width_of, st_to_chao}
-use Rattle.tonekit_fit.specs.Fit.{line_slope, point_added, moments_of, normal_equations, first_unknown, lead_of, quadratic_coefficient}
-use Rattle.tonekit_window.specs.Window.{half_width, reach, curve_at, step_of, mean_over, rounded}
-use Rattle.tonekit_shape.specs.Extract.{extent_of, semitones, holes_filled, chao_curve, drawn, mean_with, list_of, smoothed, mean_of, range_of, confidence, shape_of}
-use Rattle.tonekit_bytes.specs.Fields.{byte_at, u16_at, u32_at, f32s_bytes}
-use Rattle.tonekit_core.specs.Layout.{shape_size, shape_start, shape_end, shape_contour, shape_weights, shape_mean, shape_slope, shape_curvature}
-use Rattle.tonekit_core.specs.Layout.{shape_turns, shape_turning, shape_range, shape_duration, shape_fraction, shape_confidence, shape_issues}
-use Rattle.tonekit_shape.specs.declared.ToneShape.{ToneShape}
-use Rattle.tonekit_shape.specs.Record.{united, fit_bytes, measure_bytes, shape_bytes, shape_outcome}
+use Rattle.spec_arithmetic.specs.Magnitude.{total_le}
+use Rattle.spec_arithmetic.specs.Narrow.{narrowed}
+use Rattle.spec_arithmetic.specs.Pick.{lesser, greater}
+use Rattle.spec_arithmetic.specs.Whole.{whole_part, round_up}
+use Rattle.spec_arithmetic.specs.Position.{position}
+use Rattle.spec_shape.specs.Turning.{greatest, first_near, last_near, extremum, stands, chosen, turning_point}
+use Rattle.spec_arithmetic.specs.Log.{log2_of}
+use Rattle.spec_query.specs.Frames.{frame_at}
+use Rattle.spec_query.specs.Query.{variant_fine, variants_fine, record_verdict, frame_verdict, fields_of, read_query, load_query}
+use Rattle.spec_shape.specs.Chao.{hz_to_st, width_of, st_to_chao}
+use Rattle.spec_shape.specs.Fit.{line_slope, point_added, moments_of, normal_equations, first_unknown, lead_of, quadratic_coefficient}
+use Rattle.spec_shape.specs.Window.{half_width, reach, curve_at, step_of, mean_over, rounded}
+use Rattle.spec_shape.specs.Extract.{extent_of, semitones, holes_filled, chao_curve, drawn, mean_with, list_of, smoothed, mean_of, range_of, confidence, shape_of}
+use Rattle.spec_arithmetic.specs.Fields.{byte_at, u16_at, u32_at, f32s_bytes}
+use Rattle.tonekit_core.specs.declared.layout.TheConstants.{SHAPE_SIZE, SHAPE_START, SHAPE_END, SHAPE_CONTOUR, SHAPE_WEIGHTS, SHAPE_MEAN, SHAPE_SLOPE, SHAPE_CURVATURE}
+use Rattle.tonekit_core.specs.declared.layout.TheConstants.{SHAPE_TURNS, SHAPE_TURNING, SHAPE_RANGE, SHAPE_DURATION, SHAPE_FRACTION, SHAPE_CONFIDENCE, SHAPE_ISSUES}
+use Rattle.spec_shape.specs.declared.ToneShape.{ToneShape}
+use Rattle.spec_shape.specs.Record.{united, fit_bytes, measure_bytes, shape_bytes, shape_outcome}
 
 abbrev num : ℕ → Float
 num n = fin false n (pos 0)
@@ -134,9 +134,9 @@ unfolding shape_bytes fit_bytes measure_bytes united f32s_bytes of_bits to_bits 
 fields51 = refl
 
 -- read by the names of their offsets
-names51 : (map (u32_at record51) (shape_start ∷ shape_end ∷ shape_contour ∷ shape_weights ∷ shape_mean ∷ shape_slope ∷ [])
+names51 : (map (u32_at record51) (SHAPE_START ∷ SHAPE_END ∷ SHAPE_CONTOUR ∷ SHAPE_WEIGHTS ∷ SHAPE_MEAN ∷ SHAPE_SLOPE ∷ [])
     ≡ 0x0403_0201 ∷ 0x0807_0605 ∷ 0x0c0b_0a09 ∷ 0x3433_3231 ∷ 0x5c5b_5a59 ∷ 0x605f_5e5d ∷ [])
-    × (map (u32_at record51) (shape_curvature ∷ shape_turning ∷ shape_range ∷ shape_duration ∷ shape_fraction ∷ shape_confidence ∷ [])
+    × (map (u32_at record51) (SHAPE_CURVATURE ∷ SHAPE_TURNING ∷ SHAPE_RANGE ∷ SHAPE_DURATION ∷ SHAPE_FRACTION ∷ SHAPE_CONFIDENCE ∷ [])
     ≡ 0x6463_6261 ∷ 0x6968_6766 ∷ 0x6d6c_6b6a ∷ 0x7170_6f6e ∷ 0x7574_7372 ∷ 0x7978_7776 ∷ [])
-    × (byte_at record51 shape_turns ≡ 1) × (u16_at record51 shape_issues ≡ 0x7b7a) × (length record51 ≡ shape_size) × (shape_turns ≡ 101)
+    × (byte_at record51 SHAPE_TURNS ≡ 1) × (u16_at record51 SHAPE_ISSUES ≡ 0x7b7a) × (length record51 ≡ SHAPE_SIZE) × (SHAPE_TURNS ≡ 101)
 names51 = (refl, refl, refl, refl, refl, refl)

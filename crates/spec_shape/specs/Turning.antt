@@ -3,10 +3,10 @@ use Rattle.std.specs.Prelude.{ℕ, ◌+◌, ◌-◌, Bool, true, cond, ◌&&◌,
 use Rattle.std.specs.Float.{nan, inf, binary64}
 use Rattle.std.specs.Float.Ieee.{neg, sub, mul, div, lt, le, of_bits}
 use Rattle.tonekit_core.specs.Loop.{Turn, next, stop, range, range_to}
-use Rattle.tonekit_float.specs.Pick.{lesser, greater}
-use Rattle.tonekit_contour.specs.Position.{whole64}
-use Rattle.tonekit_contour.specs.declared.Extreme.{Extreme}
-use Rattle.tonekit_contour.specs.declared.Excursion.{Excursion}
+use Rattle.spec_arithmetic.specs.Pick.{lesser, greater}
+use Rattle.spec_arithmetic.specs.Position.{whole64}
+use Rattle.spec_shape.specs.declared.Extreme.{Extreme}
+use Rattle.spec_shape.specs.declared.Excursion.{Excursion}
 
 -- TURN_MIN_EXCURSION 0.5, TURN_INTERIOR (0.1, 0.9), PLATEAU_EPS 1e-9
 abbrev pub half : Float

@@ -3,9 +3,9 @@ use Rattle.std.specs.Prelude.{◌≡◌, refl, [], ◌∷◌, ◌++◌, replicat
 use Rattle.std.specs.Float.{binary64}
 use Rattle.std.specs.Float.Ieee.{neg, add, sub, mul, div, lt, le, is_nan, round, of_int, of_bits}
 use Rattle.tonekit_core.specs.Loop.{range, turns, range_to, turns_to}
-use Rattle.tonekit_float.specs.Pick.{lesser, greater}
-use Rattle.tonekit_contour.specs.Position.{whole64, position}
-use Rattle.tonekit_contour.specs.Turning.{greatest, first_near, last_near, extremum, stands, chosen, turning_point}
+use Rattle.spec_arithmetic.specs.Pick.{lesser, greater}
+use Rattle.spec_arithmetic.specs.Position.{whole64, position}
+use Rattle.spec_shape.specs.Turning.{greatest, first_near, last_near, extremum, stands, chosen, turning_point}
 
 -- point 3 of ten in eight frames: (3 / 9) · 7, which is a unit below 3 · 7 / 9
 third_of_eight : position 3 7 ≡ of_bits binary64 0x4002_aaaa_aaaa_aaaa

@@ -3,15 +3,15 @@ use Rattle.std.specs.Prelude.{ℕ, ◌+◌, ◌-◌, ◌≤◌, ◌<◌, Bool, f
 use Rattle.std.specs.Float.{nan, fin, binary64}
 use Rattle.std.specs.Float.Ieee.{add, sub, mul, div, lt, of_bits}
 use Rattle.tonekit_core.specs.Loop.{while, range}
-use Rattle.tonekit_float.specs.Pick.{lesser, greater}
-use Rattle.tonekit_float.specs.Whole.{whole_part, round_up}
-use Rattle.tonekit_float.specs.Narrow.{narrowed}
-use Rattle.tonekit_float.specs.Bounds.{In}
-use Rattle.tonekit_contour.specs.Position.{whole64, position}
-use Rattle.tonekit_fit.specs.Chao.{zero64, one64, voiced}
-use Rattle.tonekit_window.specs.declared.Sweep.{Sweep}
-use Rattle.tonekit_window.specs.declared.Span.{Span}
-use Rattle.tonekit_window.specs.declared.FrameRange.{FrameRange}
+use Rattle.spec_arithmetic.specs.Pick.{lesser, greater}
+use Rattle.spec_arithmetic.specs.Whole.{whole_part, round_up}
+use Rattle.spec_arithmetic.specs.Narrow.{narrowed}
+use Rattle.spec_arithmetic.specs.Bounds.{In}
+use Rattle.spec_arithmetic.specs.Position.{whole64, position}
+use Rattle.spec_shape.specs.Chao.{zero64, one64, voiced}
+use Rattle.spec_shape.specs.declared.Sweep.{Sweep}
+use Rattle.spec_shape.specs.declared.Span.{Span}
+use Rattle.spec_shape.specs.declared.FrameRange.{FrameRange}
 
 -- WINDOW_FRACTION 0.05, MIN_HALF_WINDOW 0.5, EDGE_EPS 1e-9
 abbrev pub share : Float

@@ -4,11 +4,11 @@ use Rattle.std.specs.Prelude.{◌≡◌, refl, false, List, [], ◌∷◌, pos, 
 use Rattle.std.specs.Float.{fin, binary64}
 use Rattle.std.specs.Float.Ieee.{of_bits, add, sub, mul, div, of_int, lt, is_nan, round}
 use Rattle.tonekit_core.specs.Loop.{while}
-use Rattle.tonekit_float.specs.Pick.{lesser, greater}
-use Rattle.tonekit_float.specs.Whole.{whole_part, round_up}
-use Rattle.tonekit_float.specs.Narrow.{narrowed}
-use Rattle.tonekit_contour.specs.Position.{position}
-use Rattle.tonekit_window.specs.Window.{span_at, reach, half_width, frames_at, rounded, contour_at, mean_over, curve_at, step_of}
+use Rattle.spec_arithmetic.specs.Pick.{lesser, greater}
+use Rattle.spec_arithmetic.specs.Whole.{whole_part, round_up}
+use Rattle.spec_arithmetic.specs.Narrow.{narrowed}
+use Rattle.spec_arithmetic.specs.Position.{position}
+use Rattle.spec_shape.specs.Window.{span_at, reach, half_width, frames_at, rounded, contour_at, mean_over, curve_at, step_of}
 
 span_8 : span_at 8 3 ≡ record { low = of_bits binary64 0x3ffd_5555_5555_5554; high = of_bits binary64 0x4006_aaaa_aaaa_aaaa }
 unfolding position reach half_width lesser greater add sub mul div of_int of_bits lt is_nan

@@ -1,8 +1,8 @@
 -- Demand 3's words, of what two stations hold: held, agree, the same.
 use Rattle.std.specs.Prelude.{ℕ, ◌<◌, ◌≡◌, ◌⊎◌, true, List, get_or}
 use Rattle.std.proofs.Math.Option.{some}
-use Rattle.tonekit_expect.specs.Source.{Accent, Source, accent_in, tone_in}
-use Rattle.tonekit_expect.specs.declared.Context.{Context}
+use Rattle.spec_lookup.specs.Source.{Accent, Source, accent_in, tone_in}
+use Rattle.spec_lookup.specs.declared.Context.{Context}
 
 -- a list of bytes
 abbrev pub Bytes : List ℕ → Type 0

@@ -1,48 +1,48 @@
 -- What a station holds that was read from a sheet.
 use Rattle.std.specs.Prelude.{ℕ, zero, suc, ◌+◌, ◌*◌, cond, List, [], ◌∷◌, ◌++◌, Option as Found, Some, None, map, eqb, length, get_or}
 use Rattle.std.proofs.Math.Option.{Option, none, some}
-use Rattle.tonekit_core.specs.Layout.{f32_size, sheet_tone_prior, sheet_tone_region, sheet_tone_from, sheet_tone_to}
-use Rattle.tonekit_core.specs.Layout.{sheet_accent_contour, sheet_accent_onset, sheet_accent_offset, sheet_accent_turning, sheet_row_list, sheet_row_final_list}
-use Rattle.tonekit_core.specs.Layout.{sheet_list_size, sheet_list_owner, sheet_list_form, sheet_list_label, sheet_list_count}
-use Rattle.tonekit_core.specs.Layout.{sheet_component_size, sheet_component_weight, sheet_component_points}
-use Rattle.tonekit_bytes.specs.Fields.{byte_at, u16_at, u32_at}
-use Rattle.tonekit_bytes.specs.Places.{number_at, index_of}
-use Rattle.tonekit_expect.specs.Source.{Tone, Accent, Carried, Source, settings_at}
-use Rattle.tonekit_expect.specs.declared.Context.{Context}
-use Rattle.tonekit_sheet.specs.Reader.{Sst, row_at}
+use Rattle.tonekit_core.specs.declared.layout.TheConstants.{F32_SIZE, SHEET_TONE_PRIOR, SHEET_TONE_REGION, SHEET_TONE_FROM, SHEET_TONE_TO}
+use Rattle.tonekit_core.specs.declared.layout.TheConstants.{SHEET_ACCENT_CONTOUR, SHEET_ACCENT_ONSET, SHEET_ACCENT_OFFSET, SHEET_ACCENT_TURNING, SHEET_ROW_LIST, SHEET_ROW_FINAL_LIST}
+use Rattle.tonekit_core.specs.declared.layout.TheConstants.{SHEET_LIST_SIZE, SHEET_LIST_OWNER, SHEET_LIST_FORM, SHEET_LIST_LABEL, SHEET_LIST_COUNT}
+use Rattle.tonekit_core.specs.declared.layout.TheConstants.{SHEET_COMPONENT_SIZE, SHEET_COMPONENT_WEIGHT, SHEET_COMPONENT_POINTS}
+use Rattle.spec_arithmetic.specs.Fields.{byte_at, u16_at, u32_at}
+use Rattle.spec_arithmetic.specs.Places.{number_at, index_of}
+use Rattle.spec_lookup.specs.Source.{Tone, Accent, Carried, Source, settings_at}
+use Rattle.spec_lookup.specs.declared.Context.{Context}
+use Rattle.spec_sheet.specs.Reader.{Sst, row_at}
 
 abbrev pub tone_at : List ℕ → ℕ → Tone
 tone_at s o = record {
   number = number_at s o;
-  prior = u32_at s (o + sheet_tone_prior);
-  flag = byte_at s (o + sheet_tone_region);
-  from = u32_at s (o + sheet_tone_from);
-  to = u32_at s (o + sheet_tone_to);
+  prior = u32_at s (o + SHEET_TONE_PRIOR);
+  flag = byte_at s (o + SHEET_TONE_REGION);
+  from = u32_at s (o + SHEET_TONE_FROM);
+  to = u32_at s (o + SHEET_TONE_TO);
 }
 
 abbrev pub accent_at : List ℕ → ℕ → Accent
 accent_at s o = record {
   number = number_at s o;
-  contour = u32_at s (o + sheet_accent_contour);
-  onset = u32_at s (o + sheet_accent_onset);
-  offset = u32_at s (o + sheet_accent_offset);
-  turning = u32_at s (o + sheet_accent_turning);
+  contour = u32_at s (o + SHEET_ACCENT_CONTOUR);
+  onset = u32_at s (o + SHEET_ACCENT_ONSET);
+  offset = u32_at s (o + SHEET_ACCENT_OFFSET);
+  turning = u32_at s (o + SHEET_ACCENT_TURNING);
 }
 
 -- n numbers of four bytes from an offset on
 unfoldable pub bits_at : List ℕ → ℕ → ℕ → List ℕ
 bits_at s o zero = []
-bits_at s o (suc n) = u32_at s o ∷ bits_at s (o + f32_size) n
+bits_at s o (suc n) = u32_at s o ∷ bits_at s (o + F32_SIZE) n
 
 -- component j of the list at o
 unfoldable pub carried_at : List ℕ → ℕ → ℕ → Carried
 carried_at s o j = record {
-  owner = byte_at s (o + sheet_list_owner);
-  form = byte_at s (o + sheet_list_form);
-  label = u16_at s (o + sheet_list_label);
-  part = cond (eqb (byte_at s (o + sheet_list_form)) 3) j 0;
-  weight = u32_at s (o + sheet_list_size + sheet_component_size * j + sheet_component_weight);
-  points = bits_at s (o + sheet_list_size + sheet_component_size * j + sheet_component_points) 10;
+  owner = byte_at s (o + SHEET_LIST_OWNER);
+  form = byte_at s (o + SHEET_LIST_FORM);
+  label = u16_at s (o + SHEET_LIST_LABEL);
+  part = cond (eqb (byte_at s (o + SHEET_LIST_FORM)) 3) j 0;
+  weight = u32_at s (o + SHEET_LIST_SIZE + SHEET_COMPONENT_SIZE * j + SHEET_COMPONENT_WEIGHT);
+  points = bits_at s (o + SHEET_LIST_SIZE + SHEET_COMPONENT_SIZE * j + SHEET_COMPONENT_POINTS) 10;
 }
 
 -- its first n components
@@ -53,14 +53,14 @@ carried_from s o (suc n) = carried_from s o n ++ (carried_at s o n ∷ [])
 -- what a list number stands for: "0 nothing", else the list at that place, from 1
 abbrev pub list_numbered : List ℕ → Sst → ℕ → Option (List Carried)
 list_numbered s st zero = none
-list_numbered s st (suc i) = let o = get_or st.lists i 0 in some (carried_from s o (byte_at s (o + sheet_list_count)))
+list_numbered s st (suc i) = let o = get_or st.lists i 0 in some (carried_from s o (byte_at s (o + SHEET_LIST_COUNT)))
 
 -- a lookup by position: the row of an accent, a tone and what stood before it
 abbrev pub row_place : Sst → ℕ → ℕ → ℕ → ℕ
 row_place st a t p = (a * length st.tones + t) * (length st.tones + 1) + p
 
 abbrev pub final_place : Context → ℕ
-final_place c = cond c.last sheet_row_final_list sheet_row_list
+final_place c = cond c.last SHEET_ROW_FINAL_LIST SHEET_ROW_LIST
 
 abbrev pub prev_found : List ℕ → Sst → ℕ → Found ℕ
 prev_found s st n = cond (eqb n 0) (Some 0) (after (index_of s st.tones n))

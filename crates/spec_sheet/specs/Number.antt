@@ -1,7 +1,7 @@
 -- "Lists equal in every bit are one, numbered from 1 by first use along the rows."
 use Rattle.std.specs.Prelude.{ℕ, zero, suc, Bool, true, false, cond, ◌&&◌, ◌||◌, List, [], ◌∷◌, ◌++◌, eqb}
 use Rattle.std.proofs.Math.Option.{Option, none, some}
-use Rattle.tonekit_expect.specs.Source.{Carried}
+use Rattle.spec_lookup.specs.Source.{Carried}
 
 -- equal in every bit: numbers one by one, components in all that they carry, lists one by one
 unfoldable pub same_numbers : List ℕ → List ℕ → Bool

@@ -2,9 +2,9 @@
 use Rattle.std.specs.Prelude.{List, ℕ}
 use Rattle.tonekit_core.specs.Calls.{Outcome, written}
 use Rattle.tonekit_core.specs.Calls as calls
-use Rattle.tonekit_pack.specs.Pack.{Out, loaded, refused, load_pack}
-use Rattle.tonekit_expect.specs.Source.{source_of_pack}
-use Rattle.tonekit_sheet.specs.Sheet.{sheet}
+use Rattle.spec_pack.specs.Pack.{Out, loaded, refused, load_pack}
+use Rattle.spec_lookup.specs.Source.{source_of_pack}
+use Rattle.spec_sheet.specs.Sheet.{sheet}
 
 abbrev pub sheet_of : List ℕ → Out → Outcome
 sheet_of s (loaded st e) = written (sheet (source_of_pack s st))

@@ -3,19 +3,20 @@ use Rattle.std.specs.Prelude.{ℕ, zero, suc, ◌+◌, ◌-◌, ◌*◌, max, Bo
 use Rattle.std.specs.Float.{fin}
 use Rattle.std.specs.Float.Ieee.{le}
 use Rattle.tonekit_core.specs.Loop.{Turn, next, stop, range, range_to, loop_to}
-use Rattle.tonekit_core.specs.Layout.{f32_size, settings_size, sheet_settings_kind, sheet_tone_kind, sheet_tone_size, sheet_tone_prior, sheet_tone_region}
-use Rattle.tonekit_core.specs.Layout.{sheet_accent_kind, sheet_accent_size, sheet_accent_contour, sheet_row_kind, sheet_row_size, sheet_row_accent, sheet_row_tone}
-use Rattle.tonekit_core.specs.Layout.{sheet_row_prev, sheet_row_list, sheet_row_final_list, sheet_list_kind, sheet_list_size, sheet_list_owner, sheet_list_form}
-use Rattle.tonekit_core.specs.Layout.{sheet_list_label, sheet_list_count, sheet_component_kind, sheet_component_size, sheet_component_weight}
-use Rattle.tonekit_core.specs.Layout.{sheet_component_points, sheet_end_kind, sheet_end_size, sheet_accent_at, sheet_row_at}
+use Rattle.tonekit_core.specs.declared.layout.TheConstants.{F32_SIZE, SETTINGS_SIZE, SHEET_SETTINGS_KIND, SHEET_TONE_KIND, SHEET_TONE_SIZE, SHEET_TONE_PRIOR, SHEET_TONE_REGION}
+use Rattle.tonekit_core.specs.declared.layout.TheConstants.{SHEET_ACCENT_KIND, SHEET_ACCENT_SIZE, SHEET_ACCENT_CONTOUR, SHEET_ROW_KIND, SHEET_ROW_SIZE, SHEET_ROW_ACCENT, SHEET_ROW_TONE}
+use Rattle.tonekit_core.specs.declared.layout.TheConstants.{SHEET_ROW_PREV, SHEET_ROW_LIST, SHEET_ROW_FINAL_LIST, SHEET_LIST_KIND, SHEET_LIST_SIZE, SHEET_LIST_OWNER, SHEET_LIST_FORM}
+use Rattle.tonekit_core.specs.declared.layout.TheConstants.{SHEET_LIST_LABEL, SHEET_LIST_COUNT, SHEET_COMPONENT_KIND, SHEET_COMPONENT_SIZE, SHEET_COMPONENT_WEIGHT}
+use Rattle.tonekit_core.specs.declared.layout.TheConstants.{SHEET_COMPONENT_POINTS, SHEET_END_KIND, SHEET_END_SIZE}
+use Rattle.tonekit_core.specs.Layout.{sheet_accent_at, sheet_row_at}
 use Rattle.tonekit_core.specs.declared.Refusal.{Refusal}
 use Rattle.tonekit_core.specs.declared.Refusal.TheVariants.{Misplaced, CutShort, Overrun, Loose, Unordered}
 use Rattle.tonekit_core.specs.declared.Rejection.{Rejection}
-use Rattle.tonekit_bytes.specs.Fields.{byte_at, u16_at, u32_at, f32_at}
-use Rattle.tonekit_pack.specs.Ranges.{a_share, weight_fine, region_fine, tolerances_fine}
-use Rattle.tonekit_bytes.specs.Places.{number_at}
-use Rattle.tonekit_pack.specs.Pack.{holds, zero_or_held, in_turn, settings_verdict}
-use Rattle.tonekit_sheet.specs.Sheet.{row_count, accent_place, tone_place, prev_place}
+use Rattle.spec_arithmetic.specs.Fields.{byte_at, u16_at, u32_at, f32_at}
+use Rattle.spec_pack.specs.Ranges.{a_share, weight_fine, region_fine, tolerances_fine}
+use Rattle.spec_arithmetic.specs.Places.{number_at}
+use Rattle.spec_pack.specs.Pack.{holds, zero_or_held, in_turn, settings_verdict}
+use Rattle.spec_sheet.specs.Sheet.{row_count, accent_place, tone_place, prev_place}
 
 -- what has been read: the last kind; the offsets of tones and accents; how many rows; the offsets of lists; the components that the last list is still due, and all components
 pub record Sst : Type 0 where
@@ -39,51 +40,51 @@ rows_due st = row_count (length st.accents) (length st.tones)
 -- all rows are there, and all components of the last list: a list, or the end
 unfoldable pub complete : Sst → Bool
 complete st =
-    cond (eqb st.last sheet_row_kind) (eqb st.rows (rows_due st)) (eqb st.last sheet_component_kind && eqb st.due 0)
+    cond (eqb st.last SHEET_ROW_KIND) (eqb st.rows (rows_due st)) (eqb st.last SHEET_COMPONENT_KIND && eqb st.due 0)
 
 -- "Kinds, in this order"; "A row or component too few or too many is 1"
 unfoldable pub due_next : Sst → ℕ → Bool
 due_next st k =
-    cond (eqb k sheet_settings_kind) (eqb st.last 0)
-    (cond (eqb k sheet_tone_kind) (eqb st.last sheet_settings_kind || eqb st.last sheet_tone_kind)
-    (cond (eqb k sheet_accent_kind) (eqb st.last sheet_tone_kind || eqb st.last sheet_accent_kind)
-    (cond (eqb k sheet_row_kind) ((eqb st.last sheet_accent_kind || eqb st.last sheet_row_kind) && ltb st.rows (rows_due st))
-    (cond (eqb k sheet_component_kind) (ltb 0 st.due)
-    ((eqb k sheet_list_kind || eqb k sheet_end_kind) && complete st)))))
+    cond (eqb k SHEET_SETTINGS_KIND) (eqb st.last 0)
+    (cond (eqb k SHEET_TONE_KIND) (eqb st.last SHEET_SETTINGS_KIND || eqb st.last SHEET_TONE_KIND)
+    (cond (eqb k SHEET_ACCENT_KIND) (eqb st.last SHEET_TONE_KIND || eqb st.last SHEET_ACCENT_KIND)
+    (cond (eqb k SHEET_ROW_KIND) ((eqb st.last SHEET_ACCENT_KIND || eqb st.last SHEET_ROW_KIND) && ltb st.rows (rows_due st))
+    (cond (eqb k SHEET_COMPONENT_KIND) (ltb 0 st.due)
+    ((eqb k SHEET_LIST_KIND || eqb k SHEET_END_KIND) && complete st)))))
 
 -- the bytes of a record of each kind
 unfoldable pub size_of : ℕ → ℕ
 size_of k =
-    cond (eqb k sheet_settings_kind) settings_size
-    (cond (eqb k sheet_tone_kind) sheet_tone_size
-    (cond (eqb k sheet_accent_kind) sheet_accent_size
-    (cond (eqb k sheet_row_kind) sheet_row_size
-    (cond (eqb k sheet_list_kind) sheet_list_size
-    (cond (eqb k sheet_component_kind) sheet_component_size sheet_end_size)))))
+    cond (eqb k SHEET_SETTINGS_KIND) SETTINGS_SIZE
+    (cond (eqb k SHEET_TONE_KIND) SHEET_TONE_SIZE
+    (cond (eqb k SHEET_ACCENT_KIND) SHEET_ACCENT_SIZE
+    (cond (eqb k SHEET_ROW_KIND) SHEET_ROW_SIZE
+    (cond (eqb k SHEET_LIST_KIND) SHEET_LIST_SIZE
+    (cond (eqb k SHEET_COMPONENT_KIND) SHEET_COMPONENT_SIZE SHEET_END_SIZE)))))
 
 -- "Fields have the pack's ranges": number, prior, region
 abbrev pub tone_fine : List ℕ → ℕ → Bool
 tone_fine s o =
-    not (eqb (number_at s o) 0) && (a_share (f32_at s (o + sheet_tone_prior)) && region_fine s (o + sheet_tone_region))
+    not (eqb (number_at s o) 0) && (a_share (f32_at s (o + SHEET_TONE_PRIOR)) && region_fine s (o + SHEET_TONE_REGION))
 
 unfoldable pub tone_verdict : List ℕ → ℕ → Sst → Result (Unit {0}) Refusal
 tone_verdict s o st = in_turn (leb 8 (length st.tones)) (tone_fine s o) (not (holds s st.tones (number_at s o))) true
 
 -- number, tolerances
 abbrev pub accent_fine : List ℕ → ℕ → Bool
-accent_fine s o = not (eqb (number_at s o) 0) && tolerances_fine s (o + sheet_accent_contour)
+accent_fine s o = not (eqb (number_at s o) 0) && tolerances_fine s (o + SHEET_ACCENT_CONTOUR)
 
 unfoldable pub accent_verdict : List ℕ → ℕ → Sst → Result (Unit {0}) Refusal
 accent_verdict s o st = in_turn (leb 8 (length st.accents)) (accent_fine s o) (not (holds s st.accents (number_at s o))) true
 
 -- a row names an accent, a tone, and a tone before it or none, that are held; its two lists are judged at the end
 abbrev pub row_fine : List ℕ → ℕ → Bool
-row_fine s o = not (eqb (byte_at s (o + sheet_row_accent)) 0) && not (eqb (byte_at s (o + sheet_row_tone)) 0)
+row_fine s o = not (eqb (byte_at s (o + SHEET_ROW_ACCENT)) 0) && not (eqb (byte_at s (o + SHEET_ROW_TONE)) 0)
 
 abbrev pub row_held : List ℕ → ℕ → Sst → Bool
 row_held s o st =
-    holds s st.accents (byte_at s (o + sheet_row_accent))
-    && (holds s st.tones (byte_at s (o + sheet_row_tone)) && zero_or_held s st.tones (byte_at s (o + sheet_row_prev)))
+    holds s st.accents (byte_at s (o + SHEET_ROW_ACCENT))
+    && (holds s st.tones (byte_at s (o + SHEET_ROW_TONE)) && zero_or_held s st.tones (byte_at s (o + SHEET_ROW_PREV)))
 
 unfoldable pub row_verdict : List ℕ → ℕ → Sst → Result (Unit {0}) Refusal
 row_verdict s o st = in_turn false (row_fine s o) true (row_held s o st)
@@ -92,26 +93,26 @@ row_verdict s o st = in_turn false (row_fine s o) true (row_held s o st)
 abbrev pub list_crowded : List ℕ → ℕ → Sst → Bool
 list_crowded s o st =
     leb 128 (length st.lists)
-    || (ltb 4 (byte_at s (o + sheet_list_count)) || (ltb 1 (byte_at s (o + sheet_list_count)) && not (eqb (byte_at s (o + sheet_list_form)) 3)))
+    || (ltb 4 (byte_at s (o + SHEET_LIST_COUNT)) || (ltb 1 (byte_at s (o + SHEET_LIST_COUNT)) && not (eqb (byte_at s (o + SHEET_LIST_FORM)) 3)))
 
 -- number, owner, "Form is 1 to 3", "label is 0 in form 1", count
 abbrev pub list_fine : List ℕ → ℕ → Bool
 list_fine s o =
     not (eqb (number_at s o) 0)
-    && (not (eqb (byte_at s (o + sheet_list_owner)) 0)
-    && ((leb 1 (byte_at s (o + sheet_list_form)) && leb (byte_at s (o + sheet_list_form)) 3)
-    && (not (eqb (byte_at s (o + sheet_list_count)) 0)
-    && (not (eqb (byte_at s (o + sheet_list_form)) 1) || eqb (u16_at s (o + sheet_list_label)) 0))))
+    && (not (eqb (byte_at s (o + SHEET_LIST_OWNER)) 0)
+    && ((leb 1 (byte_at s (o + SHEET_LIST_FORM)) && leb (byte_at s (o + SHEET_LIST_FORM)) 3)
+    && (not (eqb (byte_at s (o + SHEET_LIST_COUNT)) 0)
+    && (not (eqb (byte_at s (o + SHEET_LIST_FORM)) 1) || eqb (u16_at s (o + SHEET_LIST_LABEL)) 0))))
 
 unfoldable pub list_verdict : List ℕ → ℕ → Sst → Result (Unit {0}) Refusal
-list_verdict s o st = in_turn (list_crowded s o st) (list_fine s o) true (holds s st.accents (byte_at s (o + sheet_list_owner)))
+list_verdict s o st = in_turn (list_crowded s o st) (list_fine s o) true (holds s st.accents (byte_at s (o + SHEET_LIST_OWNER)))
 
 -- "points are finite, size at most 128"
 unfoldable pub point_fine : Float → Bool
 point_fine x = le (fin true 1 (pos 7)) x && le x (fin false 1 (pos 7))
 
 abbrev pub point_turn : List ℕ → ℕ → ℕ → Bool → Bool
-point_turn s o k ok = ok && point_fine (f32_at s (o + f32_size * k))
+point_turn s o k ok = ok && point_fine (f32_at s (o + F32_SIZE * k))
 
 unfoldable pub points_fine : List ℕ → ℕ → Bool
 points_fine s o = range (point_turn s o) 0 10 true
@@ -123,21 +124,21 @@ last_list st = get_or st.lists (length st.lists - 1) 0
 -- "forms 1 and 2 have one component of weight 1"
 abbrev pub component_fine : List ℕ → ℕ → Sst → Bool
 component_fine s o st =
-    weight_fine (u32_at s (o + sheet_component_weight))
-    && ((eqb (byte_at s (last_list st + sheet_list_form)) 3 || eqb (u32_at s (o + sheet_component_weight)) 0x3f80_0000)
-    && points_fine s (o + sheet_component_points))
+    weight_fine (u32_at s (o + SHEET_COMPONENT_WEIGHT))
+    && ((eqb (byte_at s (last_list st + SHEET_LIST_FORM)) 3 || eqb (u32_at s (o + SHEET_COMPONENT_WEIGHT)) 0x3f80_0000)
+    && points_fine s (o + SHEET_COMPONENT_POINTS))
 
 unfoldable pub component_verdict : List ℕ → ℕ → Sst → Result (Unit {0}) Refusal
 component_verdict s o st = in_turn (leb 192 st.total) (component_fine s o st) true true
 
 unfoldable pub body_verdict : ℕ → List ℕ → ℕ → Sst → Result (Unit {0}) Refusal
 body_verdict k s o st =
-    cond (eqb k sheet_settings_kind) (settings_verdict s o)
-    (cond (eqb k sheet_tone_kind) (tone_verdict s o st)
-    (cond (eqb k sheet_accent_kind) (accent_verdict s o st)
-    (cond (eqb k sheet_row_kind) (row_verdict s o st)
-    (cond (eqb k sheet_list_kind) (list_verdict s o st)
-    (cond (eqb k sheet_component_kind) (component_verdict s o st) (Ok tt))))))
+    cond (eqb k SHEET_SETTINGS_KIND) (settings_verdict s o)
+    (cond (eqb k SHEET_TONE_KIND) (tone_verdict s o st)
+    (cond (eqb k SHEET_ACCENT_KIND) (accent_verdict s o st)
+    (cond (eqb k SHEET_ROW_KIND) (row_verdict s o st)
+    (cond (eqb k SHEET_LIST_KIND) (list_verdict s o st)
+    (cond (eqb k SHEET_COMPONENT_KIND) (component_verdict s o st) (Ok tt))))))
 
 -- "in each 1, 2, 4, 5, 6, 7"; past the input's end a due record is missing: 2
 unfoldable pub record_verdict : List ℕ → ℕ → Sst → Result (Unit {0}) Refusal
@@ -150,15 +151,15 @@ record_verdict s o st =
 -- what has been read once the record of kind k at o, a list of so many components, is fine
 unfoldable pub added : ℕ → ℕ → ℕ → Sst → Sst
 added k o count st =
-    cond (eqb k sheet_tone_kind)
+    cond (eqb k SHEET_TONE_KIND)
     (record { last = k; tones = st.tones ++ (o ∷ []); accents = st.accents; rows = st.rows; lists = st.lists; due = st.due; total = st.total })
-    (cond (eqb k sheet_accent_kind)
+    (cond (eqb k SHEET_ACCENT_KIND)
     (record { last = k; tones = st.tones; accents = st.accents ++ (o ∷ []); rows = st.rows; lists = st.lists; due = st.due; total = st.total })
-    (cond (eqb k sheet_row_kind)
+    (cond (eqb k SHEET_ROW_KIND)
     (record { last = k; tones = st.tones; accents = st.accents; rows = st.rows + 1; lists = st.lists; due = st.due; total = st.total })
-    (cond (eqb k sheet_list_kind)
+    (cond (eqb k SHEET_LIST_KIND)
     (record { last = k; tones = st.tones; accents = st.accents; rows = st.rows; lists = st.lists ++ (o ∷ []); due = count; total = st.total })
-    (cond (eqb k sheet_component_kind)
+    (cond (eqb k SHEET_COMPONENT_KIND)
     (record { last = k; tones = st.tones; accents = st.accents; rows = st.rows; lists = st.lists; due = st.due - 1; total = st.total + 1 })
     (record { last = k; tones = st.tones; accents = st.accents; rows = st.rows; lists = st.lists; due = st.due; total = st.total })))))
 
@@ -173,8 +174,8 @@ row_at st r = sheet_row_at (length st.tones) (length st.accents) r
 abbrev pub loose_turn : List ℕ → Sst → ℕ → ℕ → Turn ℕ (Option ℕ)
 loose_turn s st r u =
     cond
-    (zero_or_held s st.lists (byte_at s (row_at st r + sheet_row_list))
-    && zero_or_held s st.lists (byte_at s (row_at st r + sheet_row_final_list)))
+    (zero_or_held s st.lists (byte_at s (row_at st r + SHEET_ROW_LIST))
+    && zero_or_held s st.lists (byte_at s (row_at st r + SHEET_ROW_FINAL_LIST)))
     (next u)
     (stop (Some (row_at st r)))
 
@@ -198,20 +199,20 @@ prev_due s st (suc p) = number_at s (get_or st.tones p 0)
 unfoldable pub row_due : List ℕ → Sst → ℕ → Bool
 row_due s st r =
     let t = length st.tones in
-    eqb (byte_at s (row_at st r + sheet_row_accent)) (number_at s (get_or st.accents (accent_place t r) 0))
-    && (eqb (byte_at s (row_at st r + sheet_row_tone)) (number_at s (get_or st.tones (tone_place t r) 0))
-    && eqb (byte_at s (row_at st r + sheet_row_prev)) (prev_due s st (prev_place t r)))
+    eqb (byte_at s (row_at st r + SHEET_ROW_ACCENT)) (number_at s (get_or st.accents (accent_place t r) 0))
+    && (eqb (byte_at s (row_at st r + SHEET_ROW_TONE)) (number_at s (get_or st.tones (tone_place t r) 0))
+    && eqb (byte_at s (row_at st r + SHEET_ROW_PREV)) (prev_due s st (prev_place t r)))
 
 -- "a row naming a list above 1 more than the greatest before it", m, not final before final
 unfoldable pub row_names : List ℕ → Sst → ℕ → ℕ → Bool
 row_names s st r m =
-    let n = byte_at s (row_at st r + sheet_row_list) in
-    leb n (m + 1) && leb (byte_at s (row_at st r + sheet_row_final_list)) (max m n + 1)
+    let n = byte_at s (row_at st r + SHEET_ROW_LIST) in
+    leb n (m + 1) && leb (byte_at s (row_at st r + SHEET_ROW_FINAL_LIST)) (max m n + 1)
 
 abbrev pub row_turn : List ℕ → Sst → ℕ → ℕ → Turn ℕ (Option ℕ)
 row_turn s st r m =
     cond (row_due s st r && row_names s st r m)
-    (next (max (max m (byte_at s (row_at st r + sheet_row_list))) (byte_at s (row_at st r + sheet_row_final_list))))
+    (next (max (max m (byte_at s (row_at st r + SHEET_ROW_LIST))) (byte_at s (row_at st r + SHEET_ROW_FINAL_LIST))))
     (stop (Some (row_at st r)))
 
 unfoldable pub row_wrong : List ℕ → Sst → Option ℕ
@@ -219,20 +220,20 @@ row_wrong s st = range_to (row_turn s st) (λ m. None) 0 st.rows 0
 
 -- a row names list n
 abbrev pub names_turn : List ℕ → Sst → ℕ → ℕ → Bool → Bool
-names_turn s st n r used = used || (eqb (byte_at s (row_at st r + sheet_row_list)) n || eqb (byte_at s (row_at st r + sheet_row_final_list)) n)
+names_turn s st n r used = used || (eqb (byte_at s (row_at st r + SHEET_ROW_LIST)) n || eqb (byte_at s (row_at st r + SHEET_ROW_FINAL_LIST)) n)
 
 unfoldable pub named : List ℕ → Sst → ℕ → Bool
 named s st n = range (names_turn s st n) 0 st.rows false
 
 -- the bytes of a list and its components, and two lists equal but for their numbers
 abbrev pub list_size : List ℕ → ℕ → ℕ
-list_size s o = sheet_list_size + sheet_component_size * byte_at s (o + sheet_list_count)
+list_size s o = SHEET_LIST_SIZE + SHEET_COMPONENT_SIZE * byte_at s (o + SHEET_LIST_COUNT)
 
 abbrev pub same_turn : List ℕ → ℕ → ℕ → ℕ → Bool → Bool
 same_turn s a b k ok = ok && eqb (byte_at s (a + k)) (byte_at s (b + k))
 
 unfoldable pub same_lists : List ℕ → ℕ → ℕ → Bool
-same_lists s a b = range (same_turn s a b) sheet_list_owner (list_size s a) true
+same_lists s a b = range (same_turn s a b) SHEET_LIST_OWNER (list_size s a) true
 
 -- one of the first n lists is equal to the one at o
 abbrev pub equal_turn : List ℕ → List ℕ → ℕ → ℕ → Bool → Bool
@@ -275,10 +276,10 @@ pub record Here : Type 0 where
 abbrev pub on_verdict : List ℕ → Here → Result (Unit {0}) Refusal → Turn Here Out
 on_verdict s h (Err r) = stop (refused r h.at)
 on_verdict s h (Ok u) =
-    cond (eqb (byte_at s h.at) sheet_end_kind) (stop (finished s h.st (h.at + sheet_end_size)))
+    cond (eqb (byte_at s h.at) SHEET_END_KIND) (stop (finished s h.st (h.at + SHEET_END_SIZE)))
     (next (record {
       at = h.at + size_of (byte_at s h.at);
-      st = added (byte_at s h.at) h.at (byte_at s (h.at + sheet_list_count)) h.st;
+      st = added (byte_at s h.at) h.at (byte_at s (h.at + SHEET_LIST_COUNT)) h.st;
     }))
 
 abbrev pub record_turn : List ℕ → Here → Turn Here Out

@@ -2,13 +2,13 @@
 use Rattle.std.specs.Prelude.{ℕ, zero, suc, ◌+◌, ◌*◌, ◌/◌, ◌%◌, Bool, true, false, List, [], ◌∷◌, ◌++◌, length, get_or}
 use Rattle.std.proofs.Math.Option.{Option, none, some}
 use Rattle.tonekit_core.specs.Loop.{range}
-use Rattle.tonekit_core.specs.Layout.{sheet_settings_kind, sheet_tone_kind, sheet_accent_kind, sheet_row_kind}
-use Rattle.tonekit_core.specs.Layout.{sheet_list_kind, sheet_component_kind, sheet_end_kind}
-use Rattle.tonekit_bytes.specs.Fields.{le16, le32}
-use Rattle.tonekit_expect.specs.Source.{Settings, Tone, Accent, Carried, Source, accent_in}
-use Rattle.tonekit_expect.specs.declared.Context.{Context}
-use Rattle.tonekit_sheet.specs.Number.{noted, number_in}
-use Rattle.tonekit_sheet.specs.Gather.{gather}
+use Rattle.tonekit_core.specs.declared.layout.TheConstants.{SHEET_SETTINGS_KIND, SHEET_TONE_KIND, SHEET_ACCENT_KIND, SHEET_ROW_KIND}
+use Rattle.tonekit_core.specs.declared.layout.TheConstants.{SHEET_LIST_KIND, SHEET_COMPONENT_KIND, SHEET_END_KIND}
+use Rattle.spec_arithmetic.specs.Fields.{le16, le32}
+use Rattle.spec_lookup.specs.Source.{Settings, Tone, Accent, Carried, Source, accent_in}
+use Rattle.spec_lookup.specs.declared.Context.{Context}
+use Rattle.spec_sheet.specs.Number.{noted, number_in}
+use Rattle.spec_sheet.specs.Pieces.{gather}
 
 -- the accents that are held "ascending by number": of the numbers from n on, k of them
 abbrev pub or_skip : Option Accent → List Accent → List Accent
@@ -79,22 +79,22 @@ lists_of v = range (note_turn v) 0 (rows_of v) []
 
 -- "17 as Settings"
 abbrev pub settings_bytes : Settings → List ℕ
-settings_bytes x = (sheet_settings_kind ∷ []) ++ (le32 x.temperature ++ le32 x.threshold)
+settings_bytes x = (SHEET_SETTINGS_KIND ∷ []) ++ (le32 x.temperature ++ le32 x.threshold)
 
 -- "18 tone, in pack order: number, prior, flag, from, to"
 abbrev pub tone_bytes : Tone → List ℕ
 tone_bytes t =
-    (sheet_tone_kind ∷ t.number ∷ []) ++ (le32 t.prior ++ ((t.flag ∷ []) ++ (le32 t.from ++ le32 t.to)))
+    (SHEET_TONE_KIND ∷ t.number ∷ []) ++ (le32 t.prior ++ ((t.flag ∷ []) ++ (le32 t.from ++ le32 t.to)))
 
 -- "19 accent: number, tolerances"
 abbrev pub accent_bytes : Accent → List ℕ
 accent_bytes a =
-    (sheet_accent_kind ∷ a.number ∷ [])
+    (SHEET_ACCENT_KIND ∷ a.number ∷ [])
     ++ (le32 a.contour ++ (le32 a.onset ++ (le32 a.offset ++ le32 a.turning)))
 
 -- "20 row: accent, tone, prev, list when not final, list when final (u8, 0 nothing)"
 abbrev pub row_bytes : Context → ℕ → ℕ → List ℕ
-row_bytes c n m = sheet_row_kind ∷ c.accent ∷ c.tone ∷ c.prev ∷ n ∷ m ∷ []
+row_bytes c n m = SHEET_ROW_KIND ∷ c.accent ∷ c.tone ∷ c.prev ∷ n ∷ m ∷ []
 
 -- "22 components: weight, 10 points"
 unfoldable pub bits_bytes : List ℕ → List ℕ
@@ -102,7 +102,7 @@ bits_bytes [] = []
 bits_bytes (x ∷ xs) = le32 x ++ bits_bytes xs
 
 abbrev pub component_bytes : Carried → List ℕ
-component_bytes c = (sheet_component_kind ∷ []) ++ (le32 c.weight ++ bits_bytes c.points)
+component_bytes c = (SHEET_COMPONENT_KIND ∷ []) ++ (le32 c.weight ++ bits_bytes c.points)
 
 unfoldable pub components_bytes : List Carried → List ℕ
 components_bytes [] = []
@@ -113,7 +113,7 @@ abbrev pub no_carried : Carried
 no_carried = record { owner = 0; form = 0; label = 0; part = 0; weight = 0; points = [] }
 
 abbrev pub head_bytes : ℕ → Carried → ℕ → List ℕ
-head_bytes n c count = (sheet_list_kind ∷ n ∷ c.owner ∷ c.form ∷ []) ++ (le16 c.label ++ (count ∷ []))
+head_bytes n c count = (SHEET_LIST_KIND ∷ n ∷ c.owner ∷ c.form ∷ []) ++ (le16 c.label ++ (count ∷ []))
 
 abbrev pub list_bytes : ℕ → List Carried → List ℕ
 list_bytes n cs = head_bytes n (get_or cs 0 no_carried) (length cs) ++ components_bytes cs
@@ -136,7 +136,7 @@ bytes_with v lists =
     settings_bytes v.settings
     ++ (gather (tone_piece v) 0 (length v.tones)
     ++ (gather (accent_piece v) 0 (length v.accents)
-    ++ (gather (row_piece v lists) 0 (rows_of v) ++ (gather (list_piece lists) 0 (length lists) ++ (sheet_end_kind ∷ [])))))
+    ++ (gather (row_piece v lists) 0 (rows_of v) ++ (gather (list_piece lists) 0 (length lists) ++ (SHEET_END_KIND ∷ [])))))
 
 unfoldable pub bytes_of : View → List ℕ
 bytes_of v = bytes_with v (lists_of v)

@@ -3,16 +3,16 @@ use Rattle.std.specs.Prelude.{ℕ, ◌≡◌, refl, Bool, true, false, cond, Lis
 use Rattle.std.proofs.Math.Option.{Option, none, some}
 use Rattle.std.proofs.Common.{inl, inr}
 use Rattle.tonekit_core.specs.Loop.{turns, range, turns_to, range_to}
-use Rattle.tonekit_expect.specs.Source.{Settings, Tone, Accent, Carried, Source, accent_in, tone_in, settings_at}
-use Rattle.tonekit_bytes.specs.Places.{index_of}
-use Rattle.tonekit_expect.specs.declared.Context.{Context}
-use Rattle.tonekit_sheet.specs.Agree.{Held}
-use Rattle.tonekit_sheet.specs.Number.{same_numbers, same_carried, same, seen_in, place_in, noted, number_in}
-use Rattle.tonekit_sheet.specs.Gather.{pieces, gather}
-use Rattle.tonekit_sheet.specs.Sheet.{asc_from, ascending, row_context, view_of, lists_of, bits_bytes, components_bytes, bytes_with, bytes_of, sheet}
-use Rattle.tonekit_sheet.specs.Sheet.{settings_bytes, tone_bytes, accent_bytes, row_bytes, head_bytes, component_bytes}
-use Rattle.tonekit_sheet.specs.Reader.{Sst, row_due, row_names, list_size}
-use Rattle.tonekit_sheet.specs.FromSheet.{tone_at, accent_at, bits_at, carried_at, carried_from, look_sheet}
+use Rattle.spec_lookup.specs.Source.{Settings, Tone, Accent, Carried, Source, accent_in, tone_in, settings_at}
+use Rattle.spec_arithmetic.specs.Places.{index_of}
+use Rattle.spec_lookup.specs.declared.Context.{Context}
+use Rattle.spec_sheet.specs.Agree.{Held}
+use Rattle.spec_sheet.specs.Number.{same_numbers, same_carried, same, seen_in, place_in, noted, number_in}
+use Rattle.spec_sheet.specs.Pieces.{pieces, gather}
+use Rattle.spec_sheet.specs.Sheet.{asc_from, ascending, row_context, view_of, lists_of, bits_bytes, components_bytes, bytes_with, bytes_of, sheet}
+use Rattle.spec_sheet.specs.Sheet.{settings_bytes, tone_bytes, accent_bytes, row_bytes, head_bytes, component_bytes}
+use Rattle.spec_sheet.specs.Reader.{Sst, row_due, row_names, list_size}
+use Rattle.spec_sheet.specs.FromSheet.{tone_at, accent_at, bits_at, carried_at, carried_from, look_sheet}
 
 -- a component of this owner, label, weight and first point
 abbrev curve : ℕ → ℕ → ℕ → ℕ → Carried

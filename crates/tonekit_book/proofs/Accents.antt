@@ -3,13 +3,13 @@ use Rattle.std.proofs.Common.{ℕ, ◌+◌, ◌-◌, ◌≤◌, ◌<◌, ◌≡�
 use borrow.Author.Tests.{eqb-false}
 use lib.ListN.{get_or-append}
 use Rattle.std.specs.Prelude.{Ok}
-use Rattle.tonekit_bytes.specs.Fields.{byte_at}
-use Rattle.tonekit_bytes.specs.Places.{number_at}
-use Rattle.tonekit_pack.specs.Pack.{Pst, size_of, rule_fine, part_fine, added, start}
+use Rattle.spec_arithmetic.specs.Fields.{byte_at}
+use Rattle.spec_arithmetic.specs.Places.{number_at}
+use Rattle.spec_pack.specs.Pack.{Pst, size_of, rule_fine, part_fine, added, start}
 use Rattle.tonekit_core.proofs.Split.{split, both, either, neither}
 use Rattle.tonekit_pack.proofs.Records.{passed, size_pos}
-use Rattle.tonekit_expect.specs.Lookup.{to_rule}
-use Rattle.tonekit_expect.specs.Source.{accent_at}
+use Rattle.spec_lookup.specs.Lookup.{to_rule}
+use Rattle.spec_lookup.specs.Source.{accent_at}
 use Rattle.tonekit_bytes.proofs.Stands.{Stands, stands_front}
 use Rattle.tonekit_records.specs.Records.{Tally, no_tally, zero_or_among, kind, last_single, body_verdict_of, ReadsOn, none, more, records_bytes, added_all}
 use Rattle.tonekit_records.proofs.OwnBytes.{byte_same, u32_same}

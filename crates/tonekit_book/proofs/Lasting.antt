@@ -2,7 +2,7 @@
 use Rattle.std.proofs.Common.{ℕ, ◌+◌, ◌≤◌, ◌<◌, ◌≡◌, refl, ◌∙◌, ap, false, List, [], ◌∷◌, ◌++◌, arith, eqb, length, get_or, length-append}
 use lib.ListN.{get_or-append}
 use lib.Seq.{get_or-append_seam}
-use Rattle.tonekit_pack.specs.Pack.{Pst, added}
+use Rattle.spec_pack.specs.Pack.{Pst, added}
 use Rattle.tonekit_core.proofs.Split.{split}
 use Rattle.tonekit_records.specs.Records.{kind, added_all}
 

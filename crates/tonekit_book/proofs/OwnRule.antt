@@ -2,13 +2,13 @@
 use Rattle.std.proofs.Common.{ℕ, zero, suc, ◌+◌, ◌*◌, ◌≤◌, ◌<◌, min, ◌≡◌, refl, sym, ◌∙◌, ap, ap₂, cond, List, [], ◌∷◌, ◌++◌, arith, eqb, eq-eqb, ne_eqb, length, length-append, get_or-append-add, Float}
 use native.Mathlib.Nat.{zero-min, min-zero, suc-min-suc, min-le_right}
 use lib.ListN.{get_or-append, get_or-eq_default}
-use Rattle.tonekit_bytes.specs.Fields.{byte_at, u16_at}
-use Rattle.tonekit_pack.specs.Pack.{parts_from}
-use Rattle.tonekit_expect.specs.declared.Listing.{Listing}
-use Rattle.tonekit_expect.specs.declared.Component.{Component}
-use Rattle.tonekit_expect.specs.Knots.{knots_at, expanded}
-use Rattle.tonekit_expect.specs.Lookup.{rule_listing, component_of}
-use Rattle.tonekit_expect.specs.Source.{Carried, carried, components}
+use Rattle.spec_arithmetic.specs.Fields.{byte_at, u16_at}
+use Rattle.spec_pack.specs.Pack.{parts_from}
+use Rattle.spec_lookup.specs.declared.Listing.{Listing}
+use Rattle.spec_lookup.specs.declared.Component.{Component}
+use Rattle.spec_lookup.specs.Knots.{knots_at, expanded}
+use Rattle.spec_lookup.specs.Lookup.{rule_listing, component_of}
+use Rattle.spec_lookup.specs.Source.{Carried, carried, components}
 use Rattle.tonekit_bytes.proofs.Stands.{Stands}
 use Rattle.tonekit_records.specs.Records.{kind, records_bytes}
 use Rattle.tonekit_records.proofs.OwnBytes.{byte_same, f32_same}

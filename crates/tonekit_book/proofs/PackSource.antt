@@ -2,14 +2,14 @@
 use Rattle.std.proofs.Common.{ℕ, zero, suc, ◌+◌, ◌-◌, ◌≡◌, refl, sym, ◌∙◌, ap, ap₂, Bool, true, false, cond, ◌&&◌, List, arith, eqb, length, get_or}
 use mathlib.Core.Option.{Option, none, some}
 use Rattle.tonekit_core.specs.Loop.{Turn, next, stop, fold, turns, range, turns_to, range_to, loop_on, loop_to}
-use Rattle.tonekit_bytes.specs.Fields.{byte_at}
-use Rattle.tonekit_bytes.specs.Places.{index_of, index_turn, number_at}
-use Rattle.tonekit_pack.specs.Pack.{Pst, parts_from}
+use Rattle.spec_arithmetic.specs.Fields.{byte_at}
+use Rattle.spec_arithmetic.specs.Places.{index_of, index_turn, number_at}
+use Rattle.spec_pack.specs.Pack.{Pst, parts_from}
 use Rattle.tonekit_core.proofs.Split.{split}
-use Rattle.tonekit_expect.specs.declared.Context.{Context}
+use Rattle.spec_lookup.specs.declared.Context.{Context}
 use Rattle.std.specs.Prelude.{Some, None}
-use Rattle.tonekit_expect.specs.Lookup.{Found, Walked, won, matches, specificity, more_than, better_of, from_rule, to_rule, best_turn, best_rule, parent_of, or_parent, climb_turn, find_rule, rule_listing, listed, look_at, look_up}
-use Rattle.tonekit_expect.specs.Source.{Carried, components, given, settings_at, tone_at, accent_at, source_of_pack}
+use Rattle.spec_lookup.specs.Lookup.{Found, Walked, won, matches, specificity, more_than, better_of, from_rule, to_rule, best_turn, best_rule, parent_of, or_parent, climb_turn, find_rule, rule_listing, listed, look_at, look_up}
+use Rattle.spec_lookup.specs.Source.{Carried, components, given, settings_at, tone_at, accent_at, source_of_pack}
 use Rattle.tonekit_book.specs.Book.{Rule, BookAccent, BookTone, first_with, book_accent_in, rule_matches, conditions, better_rule, best_of, given_or, from_parent, climb, or_citation, look_with, look_in, source_of, tabulate, book_tone_at, rule_at, pack_tone, pack_accent, book_of}
 use Rattle.tonekit_book.proofs.Tabulate.{tabulate_length, map_tabulate, tabulate_all}
 

@@ -1,8 +1,8 @@
 -- The sheet of a pack is a function of its book (`pack_sheet`): packs with one book hold the same and have one sheet. Assumes nothing.
 use Rattle.std.proofs.Common.{ℕ, ◌≡◌, sym, ◌∙◌, ap, List}
-use Rattle.tonekit_pack.specs.Pack.{Pst}
-use Rattle.tonekit_expect.specs.Source.{source_of_pack}
-use Rattle.tonekit_sheet.specs.Sheet.{sheet}
+use Rattle.spec_pack.specs.Pack.{Pst}
+use Rattle.spec_lookup.specs.Source.{source_of_pack}
+use Rattle.spec_sheet.specs.Sheet.{sheet}
 use Rattle.tonekit_book.specs.Book.{source_of, book_of}
 use Rattle.tonekit_book.proofs.PackSource.{pack_source}
 

@@ -2,15 +2,15 @@
 use Rattle.std.proofs.Common.{ℕ, ◌+◌, ◌-◌, ◌≤◌, ◌≡◌, refl, sym, ◌∙◌, ap, ap₂, true, not, cond, ◌||◌, List, [], ◌∷◌, ◌++◌, map, append_assoc, arith, eqb, leb, ltb, eqb-true, ltb-false, length, drop}
 use mathlib.Core.Option.{none, some}
 use Rattle.std.specs.Prelude.{Ok}
-use Rattle.tonekit_bytes.specs.Fields.{byte_at}
-use Rattle.tonekit_bytes.specs.Places.{number_at}
-use Rattle.tonekit_pack.specs.Ranges.{one_f}
-use Rattle.tonekit_pack.specs.Pack.{Pst, size_of, tone_fine, added, start}
+use Rattle.spec_arithmetic.specs.Fields.{byte_at}
+use Rattle.spec_arithmetic.specs.Places.{number_at}
+use Rattle.spec_pack.specs.Ranges.{one_f}
+use Rattle.spec_pack.specs.Pack.{Pst, size_of, tone_fine, added, start}
 use Rattle.tonekit_core.proofs.Split.{split, neither}
 use Rattle.tonekit_pack.proofs.Records.{passed}
-use Rattle.tonekit_expect.specs.Knots.{knots_at, expanded}
-use Rattle.tonekit_expect.specs.Lookup.{citation, component_of}
-use Rattle.tonekit_expect.specs.Source.{carried, components, tone_at}
+use Rattle.spec_lookup.specs.Knots.{knots_at, expanded}
+use Rattle.spec_lookup.specs.Lookup.{citation, component_of}
+use Rattle.spec_lookup.specs.Source.{carried, components, tone_at}
 use Rattle.tonekit_bytes.proofs.Stands.{Stands, stands_front}
 use Rattle.tonekit_records.specs.Records.{Tally, no_tally, among, kind, body_verdict_of, ReadsOn, none as no_more, more, records_bytes, added_all}
 use Rattle.tonekit_records.proofs.OwnBytes.{byte_same, u32_same}

@@ -3,15 +3,15 @@ use Rattle.std.specs.Prelude.{ℕ, ◌≡◌, refl, List, [], ◌∷◌, ◌++�
 use Rattle.std.proofs.Math.Option.{none, some}
 use Rattle.std.specs.Float.Ieee.{lt, le, to_bits, of_bits, of_int, add, sub, mul, div}
 use Rattle.tonekit_core.specs.Loop.{fold, range, turns, loop_to, loop_on}
-use Rattle.tonekit_float.specs.Whole.{whole_part}
-use Rattle.tonekit_float.specs.Narrow.{narrowed}
-use Rattle.tonekit_contour.specs.Position.{position}
-use Rattle.tonekit_pack.specs.Ranges.{above_zero, a_share, knot_fine, weight_fine, slot_fine, knots_fine, region_fine, tolerances_fine}
-use Rattle.tonekit_pack.specs.Pack.{Pst, loaded, due_after, size_of, holds, zero_or_held, settings_verdict, tone_verdict, accent_verdict, rule_verdict, part_verdict, body_verdict, record_verdict, added, parts_from, read_pack}
-use Rattle.tonekit_expect.specs.declared.Context.{Context}
-use Rattle.tonekit_expect.specs.Knots.{segment, fraction, on_line, point_at, first_points, knots_at}
-use Rattle.tonekit_expect.specs.Lookup.{meets, component_of}
-use Rattle.tonekit_expect.specs.Source.{Accent, Carried, carried, components}
+use Rattle.spec_arithmetic.specs.Whole.{whole_part}
+use Rattle.spec_arithmetic.specs.Narrow.{narrowed}
+use Rattle.spec_arithmetic.specs.Position.{position}
+use Rattle.spec_pack.specs.Ranges.{above_zero, a_share, knot_fine, weight_fine, slot_fine, knots_fine, region_fine, tolerances_fine}
+use Rattle.spec_pack.specs.Pack.{Pst, loaded, due_after, size_of, holds, zero_or_held, settings_verdict, tone_verdict, accent_verdict, rule_verdict, part_verdict, body_verdict, record_verdict, added, parts_from, read_pack}
+use Rattle.spec_lookup.specs.declared.Context.{Context}
+use Rattle.spec_lookup.specs.Knots.{segment, fraction, on_line, point_at, first_points, knots_at}
+use Rattle.spec_lookup.specs.Lookup.{meets, component_of}
+use Rattle.spec_lookup.specs.Source.{Accent, Carried, carried, components}
 use Rattle.tonekit_records.specs.Records.{records_bytes}
 use Rattle.tonekit_records.specs.Bench.{settings, tone, accent, rule, part, second_part}
 use Rattle.tonekit_book.specs.Book.{Rule, Book, first_with, rule_matches, conditions, better_rule, best_of, climb, look_in, tabulate, book_of}

@@ -2,14 +2,14 @@
 -- lookup goes by numbers here.
 use Rattle.std.specs.Prelude.{ℕ, zero, suc, ◌+◌, ◌-◌, Bool, true, cond, ◌&&◌, List, [], ◌∷◌, map, eqb, ltb, length, get_or}
 use Rattle.std.proofs.Math.Option.{Option, none, some}
-use Rattle.tonekit_core.specs.Layout.{tone_knot_count, accent_parent, rule_size, rule_tone, rule_prev, rule_final}
+use Rattle.tonekit_core.specs.declared.layout.TheConstants.{TONE_KNOT_COUNT, ACCENT_PARENT, RULE_SIZE, RULE_TONE, RULE_PREV, RULE_FINAL}
 use Rattle.tonekit_core.specs.Loop.{fold}
-use Rattle.tonekit_bytes.specs.Fields.{byte_at}
-use Rattle.tonekit_bytes.specs.Places.{number_at}
-use Rattle.tonekit_pack.specs.Pack.{Pst, parts_from}
-use Rattle.tonekit_expect.specs.declared.Context.{Context}
-use Rattle.tonekit_expect.specs.Lookup.{final_of, meets, one_if, from_rule, to_rule, rule_listing, citation}
-use Rattle.tonekit_expect.specs.Source.{Settings, Tone, Accent, Carried, Source, components, settings_at, tone_at, accent_at}
+use Rattle.spec_arithmetic.specs.Fields.{byte_at}
+use Rattle.spec_arithmetic.specs.Places.{number_at}
+use Rattle.spec_pack.specs.Pack.{Pst, parts_from}
+use Rattle.spec_lookup.specs.declared.Context.{Context}
+use Rattle.spec_lookup.specs.Lookup.{final_of, meets, one_if, from_rule, to_rule, rule_listing, citation}
+use Rattle.spec_lookup.specs.Source.{Settings, Tone, Accent, Carried, Source, components, settings_at, tone_at, accent_at}
 
 -- what a rule asks for, and the components that it gives: its parts, under the number of the accent whose rule it is
 pub record Rule : Type 0 where
@@ -109,10 +109,10 @@ tabulate f (suc k) i = f i ∷ tabulate f k (i + 1)
 
 -- the tone, and the rule with the parts behind it, of the records at an offset
 abbrev pub book_tone_at : List ℕ → ℕ → BookTone
-book_tone_at s o = record { tone = tone_at s o; cited = λ n. cond (eqb (byte_at s (o + tone_knot_count)) 0) none (some (components s (citation n o) 1)) }
+book_tone_at s o = record { tone = tone_at s o; cited = λ n. cond (eqb (byte_at s (o + TONE_KNOT_COUNT)) 0) none (some (components s (citation n o) 1)) }
 
 abbrev pub rule_at : List ℕ → ℕ → ℕ → Rule
-rule_at s owner o = record { tone = byte_at s (o + rule_tone); prev = byte_at s (o + rule_prev); final = byte_at s (o + rule_final); gives = components s (rule_listing s owner o) (parts_from 4 s (o + rule_size)) }
+rule_at s owner o = record { tone = byte_at s (o + RULE_TONE); prev = byte_at s (o + RULE_PREV); final = byte_at s (o + RULE_FINAL); gives = components s (rule_listing s owner o) (parts_from 4 s (o + RULE_SIZE)) }
 
 -- tone i and accent i of the pack
 abbrev pub pack_tone : List ℕ → Pst → ℕ → BookTone
@@ -121,7 +121,7 @@ pack_tone s st i = book_tone_at s (get_or st.tones i 0)
 abbrev pub pack_accent : List ℕ → Pst → ℕ → BookAccent
 pack_accent s st i =
     let o = get_or st.accents i 0 in
-    record { accent = accent_at s o; parent = byte_at s (o + accent_parent); rules = tabulate (λ k. rule_at s (number_at s o) (get_or st.rules k 0)) (to_rule st i - from_rule st i) (from_rule st i) }
+    record { accent = accent_at s o; parent = byte_at s (o + ACCENT_PARENT); rules = tabulate (λ k. rule_at s (number_at s o) (get_or st.rules k 0)) (to_rule st i - from_rule st i) (from_rule st i) }
 
 unfoldable pub book_of : List ℕ → Pst → Book
 unfolding tabulate

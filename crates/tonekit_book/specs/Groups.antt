@@ -1,9 +1,9 @@
 -- The book of a list of records, each by its own bytes: a rule's record with its parts, an accent's with its rules. They are grouped from the list's end.
 use Rattle.std.specs.Prelude.{ℕ, cond, List, [], ◌∷◌, ◌++◌, map, eqb}
-use Rattle.tonekit_core.specs.Layout.{tone_kind, accent_kind, accent_parent, rule_kind, part_kind}
-use Rattle.tonekit_bytes.specs.Fields.{byte_at}
-use Rattle.tonekit_bytes.specs.Places.{number_at}
-use Rattle.tonekit_expect.specs.Source.{settings_at, accent_at}
+use Rattle.tonekit_core.specs.declared.layout.TheConstants.{TONE_KIND, ACCENT_KIND, ACCENT_PARENT, RULE_KIND, PART_KIND}
+use Rattle.spec_arithmetic.specs.Fields.{byte_at}
+use Rattle.spec_arithmetic.specs.Places.{number_at}
+use Rattle.spec_lookup.specs.Source.{settings_at, accent_at}
 use Rattle.tonekit_records.specs.Records.{kind, records_bytes}
 use Rattle.tonekit_book.specs.Book.{BookAccent, BookTone, Book, book_tone_at, rule_at}
 
@@ -21,9 +21,9 @@ pub record Groups : Type 0 where
 -- one record more in front
 abbrev pub grouped_with : List ℕ → Groups → Groups
 grouped_with r g =
-    cond (eqb (kind r) accent_kind) (record { parts = []; rules = []; accents = record { head = r; rules = g.rules } ∷ g.accents })
-    (cond (eqb (kind r) rule_kind) (record { parts = []; rules = (r ++ records_bytes g.parts) ∷ g.rules; accents = g.accents })
-    (cond (eqb (kind r) part_kind) (record { parts = r ∷ g.parts; rules = g.rules; accents = g.accents })
+    cond (eqb (kind r) ACCENT_KIND) (record { parts = []; rules = []; accents = record { head = r; rules = g.rules } ∷ g.accents })
+    (cond (eqb (kind r) RULE_KIND) (record { parts = []; rules = (r ++ records_bytes g.parts) ∷ g.rules; accents = g.accents })
+    (cond (eqb (kind r) PART_KIND) (record { parts = r ∷ g.parts; rules = g.rules; accents = g.accents })
     (record { parts = []; rules = g.rules; accents = g.accents })))
 
 unfoldable pub grouped : List (List ℕ) → Groups
@@ -32,12 +32,12 @@ grouped (r ∷ rs) = grouped_with r (grouped rs)
 
 -- the accent of a group
 abbrev pub accent_of_group : AccentGroup → BookAccent
-accent_of_group g = record { accent = accent_at g.head 0; parent = byte_at g.head accent_parent; rules = map (λ (r : List ℕ). rule_at r (number_at g.head 0) 0) g.rules }
+accent_of_group g = record { accent = accent_at g.head 0; parent = byte_at g.head ACCENT_PARENT; rules = map (λ (r : List ℕ). rule_at r (number_at g.head 0) 0) g.rules }
 
 -- the tones' records, in order
 unfoldable pub tone_records : List (List ℕ) → List (List ℕ)
 tone_records [] = []
-tone_records (r ∷ rs) = cond (eqb (kind r) tone_kind) (r ∷ tone_records rs) (tone_records rs)
+tone_records (r ∷ rs) = cond (eqb (kind r) TONE_KIND) (r ∷ tone_records rs) (tone_records rs)
 
 abbrev pub tone_of_record : List ℕ → BookTone
 tone_of_record r = book_tone_at r 0

@@ -2,7 +2,7 @@
 use Rattle.std.proofs.Common.{ℕ, ◌+◌, ◌≤◌, ◌<◌, ◌≡◌, refl, sym, ap, ◌∙◌, List, Bool, true, false, arith, leb, ltb, length, take, take_all, length-take-le, get_or-take, leb-true, leb-false, lt-ltb, le-ltb}
 use lib.Ieee.{binary32, of_bits}
 use borrow.Author.Tests.{lt-leb}
-use Rattle.tonekit_bytes.specs.Fields.{byte_at, u16_at, u32_at, f32_at}
+use Rattle.spec_arithmetic.specs.Fields.{byte_at, u16_at, u32_at, f32_at}
 
 -- the same bytes, and no place up to n that only one of them reaches
 pub record Agree (n : ℕ) (t s : List ℕ) : Type 0 where

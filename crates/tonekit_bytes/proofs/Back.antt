@@ -1,7 +1,7 @@
 -- A field and its bytes, there and back: what was written is read, and what was read is written. Assumes nothing.
 use Rattle.std.proofs.Common.{ℕ, ◌+◌, ◌*◌, ◌/◌, ◌%◌, ◌<◌, ◌≡◌, sym, ap, ◌∙◌, [], ◌∷◌, mod-eq_of_lt, arith}
 use native.Mathlib.Nat.{div-div-eq-div-mul, div-add-mod}
-use Rattle.tonekit_bytes.specs.Fields.{u16_at, u32_at, le16, le32}
+use Rattle.spec_arithmetic.specs.Fields.{u16_at, u32_at, le16, le32}
 
 pub le16_back : (v : ℕ) → v < 65536 → u16_at (le16 v) 0 ≡ v
 le16_back v h = omega arith

@@ -1,7 +1,7 @@
 -- Worked examples of fields, by computing. -1,000,000 is the llr of document 01's bench record, "00 24 74 C9". Assumes nothing.
 use Rattle.std.proofs.Common.{◌≡◌, refl, true, false, List, [], ◌∷◌, ℕ, pos, negsuc, Float}
 use lib.Ieee.{nan, inf, fin, of_bits, to_bits}
-use Rattle.tonekit_bytes.specs.Fields.{byte_at, u16_at, u32_at, f32_at, f32_bytes, f32s_bytes}
+use Rattle.spec_arithmetic.specs.Fields.{byte_at, u16_at, u32_at, f32_at, f32_bytes, f32s_bytes}
 
 abbrev five : List ℕ
 five = 1 ∷ 2 ∷ 3 ∷ 4 ∷ 5 ∷ []

@@ -1,7 +1,7 @@
 -- The ranges of fields in a list of bytes, and what stands past its end. Assumes nothing.
 use Rattle.std.proofs.Common.{◌≡◌, List, ℕ, ◌+◌, ◌≤◌, ◌<◌, arith, length}
 use lib.ListN.{get_or-eq_default}
-use Rattle.tonekit_bytes.specs.Fields.{byte_at, u16_at, u32_at}
+use Rattle.spec_arithmetic.specs.Fields.{byte_at, u16_at, u32_at}
 
 -- every element is a byte: what `shared-slice-known.given` says of a slice of u8
 abbrev pub Bytes : List ℕ → Type 0

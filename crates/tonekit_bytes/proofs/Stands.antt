@@ -3,8 +3,8 @@ use Rattle.std.proofs.Common.{ℕ, zero, suc, ◌+◌, ◌*◌, ◌≤◌, ◌<�
 use lib.ListN.{get_or-append}
 use lib.Ieee.{nan, binary32, of_bits, fits}
 use lib.Ieee.Bits.{to_bits-lt, of_bits-to_bits}
-use Rattle.tonekit_core.specs.Layout.{f32_size}
-use Rattle.tonekit_bytes.specs.Fields.{byte_at, u16_at, u32_at, f32_at, f32_bytes, f32s_bytes}
+use Rattle.tonekit_core.specs.declared.layout.TheConstants.{F32_SIZE}
+use Rattle.spec_arithmetic.specs.Fields.{byte_at, u16_at, u32_at, f32_at, f32_bytes, f32s_bytes}
 use Rattle.tonekit_bytes.proofs.Back.{le32_back}
 
 -- bs stand in s from o on
@@ -30,7 +30,7 @@ module _ {s : List ℕ} {o : ℕ} {bs : List ℕ} (w : Stands s o bs) where
   pub kind : 1 ≤ length bs → byte_at s o ≡ byte_at bs 0
   kind h = let e : o + 0 ≡ o = omega arith in rw e at (w.byte 0 h)
 
-  pub field_f32 : (k : ℕ) → k + f32_size ≤ length bs → f32_at s (o + k) ≡ f32_at bs k
+  pub field_f32 : (k : ℕ) → k + F32_SIZE ≤ length bs → f32_at s (o + k) ≡ f32_at bs k
   field_f32 k h = ap (of_bits binary32) (field32 k h)
 
 -- at an offset that comes to the same
@@ -68,10 +68,10 @@ f32_back {s} {o} x h w =
     ∙ of_bits-to_bits binary32 x h
 
 -- each of a run of floats
-pub floats_stand : {s : List ℕ} {o : ℕ} (xs : List Float) (k : ℕ) → k < length xs → Stands s o (f32s_bytes xs) → Stands s (o + f32_size * k) (f32_bytes (get_or xs k nan))
+pub floats_stand : {s : List ℕ} {o : ℕ} (xs : List Float) (k : ℕ) → k < length xs → Stands s o (f32s_bytes xs) → Stands s (o + F32_SIZE * k) (f32_bytes (get_or xs k nan))
 unfolding f32s_bytes
 floats_stand {o = o} [] k h w = absurd (not-suc-le-zero h)
 floats_stand {o = o} (x ∷ xs) zero h w = stands_at (f32_bytes x) (stands_first (f32_bytes x) (f32s_bytes xs) w) (omega arith)
 floats_stand {s = s} {o = o} (x ∷ xs) (suc k) h w =
     stands_at (f32_bytes (get_or xs k nan))
-    (floats_stand {o = o + f32_size} xs k (le_of_suc-le-suc h) (stands_then (f32_bytes x) (f32s_bytes xs) (o + f32_size) (omega arith) w)) (omega arith)
+    (floats_stand {o = o + F32_SIZE} xs k (le_of_suc-le-suc h) (stands_then (f32_bytes x) (f32s_bytes xs) (o + F32_SIZE) (omega arith) w)) (omega arith)

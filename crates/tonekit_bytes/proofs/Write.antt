@@ -6,7 +6,7 @@ use borrow.Author.Tests.{lt-leb}
 use Rattle.tonekit_core.specs.declared.Refusal.TheVariants.{ShortBuffer}
 use Rattle.std.specs.Prelude.{Ok, Err}
 use Rattle.tonekit_core.specs.Calls.{answer_in, buffer_after, written, Delivers}
-use Rattle.tonekit_bytes.specs.Fields.{f32_bytes, f32s_bytes}
+use Rattle.spec_arithmetic.specs.Fields.{f32_bytes, f32s_bytes}
 
 -- stores from index 0 on replace the list's start
 front : (bs l : List ℕ) → length bs ≤ length l → sets l 0 bs ≡ bs ++ drop (length bs) l

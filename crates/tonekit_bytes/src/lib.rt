@@ -5,7 +5,7 @@
 ghost use Rattle.std.specs.Prelude.{◌≡◌, [], ◌∷◌, ◌+◌, ◌-◌, ◌*◌, ◌≤◌, ◌<◌, length};
 ghost use Rattle.std.proofs.lemmas.List.Edits.{sets};
 ghost use Rattle.tonekit_core.specs.Calls.{Delivers, written};
-ghost use Rattle.tonekit_bytes.specs.Fields.{byte_at, u16_at, u32_at, f32_at, le16, le32, f32_bytes, f32s_bytes};
+ghost use Rattle.spec_arithmetic.specs.Fields.{byte_at, u16_at, u32_at, f32_at, le16, le32, f32_bytes, f32s_bytes};
 
 use tonekit_core::{Refusal, Rejection};
 use tonekit_float::AnyFloat;
@@ -107,7 +107,7 @@ pub fn put_f32(out: &mut [u8], at: usize, x: f32)
 }
 
 // Writes floats one after the other from an index on.
-#[tactic(auto, using(crate::proofs::Write::f32s_step), unfolding(crate::specs::Fields::f32s_bytes))]
+#[tactic(auto, using(crate::proofs::Write::f32s_step), unfolding(spec_arithmetic::specs::Fields::f32s_bytes))]
 pub fn put_f32s(out: &mut [u8], at: usize, xs: &[f32])
     requires { at + 4 * length xs.now ≤ length out.old }
     ensures { out.new ≡ sets out.old at (f32s_bytes xs.now) }

@@ -5,16 +5,17 @@
 ghost use Rattle.std.specs.Prelude.{◌≡◌, length};
 ghost use Rattle.std.specs.Float.{binary32, binary64};
 ghost use Rattle.std.specs.Float.Ieee.{of_bits, to_bits};
-ghost use Rattle.tonekit_float.specs.Narrow.{narrowed};
-ghost use Rattle.tonekit_root.specs.Root.{root_of};
-ghost use Rattle.tonekit_log.specs.Log.{ln_of, log2_of};
-ghost use Rattle.tonekit_log.specs.Exp.{exp_of};
-ghost use Rattle.tonekit_pack.specs.Pack.{check_pack};
-ghost use Rattle.tonekit_query.specs.Query.{check_query};
-ghost use Rattle.tonekit_sheet.specs.Reader.{check_sheet};
-ghost use Rattle.tonekit_sheet_write.specs.Outcome.{sheet_outcome};
-ghost use Rattle.tonekit_shape.specs.Record.{shape_outcome};
-ghost use Rattle.tonekit_station.specs.Judgement.{judge_outcome, judge_sheet_outcome};
+ghost use Rattle.spec_arithmetic.specs.Narrow.{narrowed};
+ghost use Rattle.spec_arithmetic.specs.Root.{root_of};
+ghost use Rattle.spec_arithmetic.specs.Log.{ln_of, log2_of};
+ghost use Rattle.spec_arithmetic.specs.Exp.{exp_of};
+ghost use Rattle.spec_pack.specs.Pack.{check_pack};
+ghost use Rattle.spec_query.specs.Query.{check_query};
+ghost use Rattle.spec_sheet.specs.Reader.{check_sheet};
+ghost use Rattle.spec_sheet.specs.Outcome.{sheet_outcome};
+ghost use Rattle.spec_shape.specs.Record.{shape_outcome};
+ghost use Rattle.spec_judgement.specs.Judgement.{judge_outcome};
+ghost use Rattle.spec_sheet.specs.JudgeSheet.{judge_sheet_outcome};
 ghost use Rattle.tonekit_c.specs.Export.{checked_number, checked_place, answer_number, answer_place, Hands};
 
 use tonekit_core::Rejection;

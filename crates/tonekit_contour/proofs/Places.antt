@@ -3,12 +3,12 @@ use Rattle.std.proofs.Common.{ℕ, ◌^◌, ◌≤◌, zero-le, false, arith, T,
 use lib.Ieee.{fin, binary64, div, le, lt, of_int, of_bits, round, fits}
 use lib.Ieee.Fits.{of_int-fits, mul-fits}
 use lib.Ieee.Scale.{finite}
-use Rattle.tonekit_float.specs.Bounds.{In}
+use Rattle.spec_arithmetic.specs.Bounds.{In}
 use Rattle.tonekit_float.proofs.Order.{le_lt, le_trans_float, between_finite}
 use Rattle.tonekit_float.proofs.Monotone.{zero_f}
 use Rattle.tonekit_float.proofs.Bounds.{in_div}
 use Rattle.tonekit_float.proofs.Exact.{one_f, whole_le, whole_worth, in_part}
-use Rattle.tonekit_contour.specs.Position.{whole64, position}
+use Rattle.spec_arithmetic.specs.Position.{whole64, position}
 
 ninth : (k : ℕ) → k ≤ 9 → In zero_f one_f (div binary64 (whole64 k) (of_bits binary64 0x4022_0000_0000_0000))
 unfolding of_int div of_bits

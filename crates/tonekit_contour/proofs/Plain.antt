@@ -1,7 +1,7 @@
 -- Excursions are compared plainly: one that stands is no NaN, so none reaches the comparison that the Rust makes by `total_cmp`.
 use Rattle.std.proofs.Common.{◌≡◌, refl, sym, subst, true, false, T, Float}
 use lib.Ieee.{nan, inf, fin, is_nan, le, of_bits}
-use Rattle.tonekit_contour.specs.Turning.{stands}
+use Rattle.spec_shape.specs.Turning.{stands}
 
 pub stands_number : (x u : Float) → stands (record { size = x; at = u }) ≡ true → is_nan x ≡ false
 unfolding stands is_nan le of_bits

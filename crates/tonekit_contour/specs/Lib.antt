@@ -1,4 +1,0 @@
-pub mod Range
-pub mod Position
-pub mod Turning
-pub mod Bench

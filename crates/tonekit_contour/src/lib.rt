@@ -3,29 +3,15 @@
 #![tactic(auto)]
 
 ghost use Rattle.std.specs.Prelude.{◌≡◌, ◌<◌, ◌≤◌, length, map};
-ghost use Rattle.tonekit_contour.specs.Range.{range_in};
-ghost use Rattle.tonekit_contour.specs.Position.{position};
-ghost use Rattle.tonekit_contour.specs.Turning.{greatest, near, first_near, last_near, extremum, stands, chosen, turning_point};
+ghost use Rattle.spec_shape.specs.Range.{range_in};
+ghost use Rattle.spec_arithmetic.specs.Position.{position};
+ghost use Rattle.spec_shape.specs.Turning.{greatest, near, first_near, last_near, extremum, stands, chosen, turning_point};
 
+pub use spec_shape::{Excursion, Extreme};
 use tonekit_float::AnyFloat;
 
-// An extreme value of a curve, and the middle of the frames that reach it.
-#[derive(Clone, Copy)]
-pub struct Extreme {
-    pub value: f64,
-    pub index: f64,
-}
-
-// How far an extreme stands beyond the nearer end of its curve, and where it lies, as a fraction of
-// the curve.
-#[derive(Clone, Copy)]
-pub struct Excursion {
-    pub size: f64,
-    pub at: f64,
-}
-
 // Where point k of a contour's ten lies among the frames or knots 0 to last.
-#[tactic(auto, unfolding(crate::specs::Position::position))]
+#[tactic(auto, unfolding(spec_arithmetic::specs::Position::position))]
 pub fn position(k: usize, last: usize) -> f64
     ensures { result ≡ position k last }
 {
@@ -47,7 +33,7 @@ pub fn range_of<F: AnyFloat>(ten: &[F; 10]) -> F
 }
 
 // The greatest of sign * v over the curve, from minus infinity.
-#[tactic(auto, using(tonekit_core::specs::Loop::again, tonekit_core::specs::Loop::ended), unfolding(crate::specs::Turning::greatest))]
+#[tactic(auto, using(tonekit_core::specs::Loop::again, tonekit_core::specs::Loop::ended), unfolding(spec_shape::specs::Turning::greatest))]
 fn greatest(curve: &[f64], sign: f64) -> f64
     ensures { result ≡ greatest curve.now sign }
 {
@@ -66,7 +52,7 @@ fn near(sign: f64, best: f64, v: f64) -> bool
 }
 
 // The first frame of the plateau, or 0.
-#[tactic(auto, using(tonekit_core::specs::Loop::to_again, tonekit_core::specs::Loop::to_stop, tonekit_core::specs::Loop::to_ended), unfolding(crate::specs::Turning::first_near))]
+#[tactic(auto, using(tonekit_core::specs::Loop::to_again, tonekit_core::specs::Loop::to_stop, tonekit_core::specs::Loop::to_ended), unfolding(spec_shape::specs::Turning::first_near))]
 fn first_near(curve: &[f64], sign: f64, best: f64) -> usize
     ensures { (result ≡ first_near curve.now sign best) × (result ≤ length curve.now) }
 {
@@ -79,7 +65,7 @@ fn first_near(curve: &[f64], sign: f64, best: f64) -> usize
 }
 
 // The last frame of the plateau, or d.
-#[tactic(auto, using(tonekit_core::specs::Loop::again, tonekit_core::specs::Loop::ended), unfolding(crate::specs::Turning::last_near))]
+#[tactic(auto, using(tonekit_core::specs::Loop::again, tonekit_core::specs::Loop::ended), unfolding(spec_shape::specs::Turning::last_near))]
 fn last_near(curve: &[f64], sign: f64, best: f64, d: usize) -> usize
     requires { d ≤ length curve.now }
     ensures { (result ≡ last_near curve.now sign best d) × (result ≤ length curve.now) }
@@ -94,7 +80,7 @@ fn last_near(curve: &[f64], sign: f64, best: f64, d: usize) -> usize
 }
 
 // The maximum of the curve with sign 1, its minimum with sign -1.
-#[tactic(auto, unfolding(crate::specs::Turning::extremum))]
+#[tactic(auto, unfolding(spec_shape::specs::Turning::extremum))]
 fn extremum(curve: &[f64], sign: f64) -> Extreme
     requires { length curve.now ≤ 1024 }
     ensures { result ≡ extremum curve.now sign }
@@ -109,7 +95,7 @@ fn extremum(curve: &[f64], sign: f64) -> Extreme
 }
 
 // Whether an excursion is large enough, and lies inside.
-#[tactic(auto, unfolding(crate::specs::Turning::stands))]
+#[tactic(auto, unfolding(spec_shape::specs::Turning::stands))]
 fn stands(e: Excursion) -> bool
     ensures { result ≡ stands e }
 {
@@ -117,7 +103,7 @@ fn stands(e: Excursion) -> bool
 }
 
 // Where the larger excursion of the two that stand lies, the maximum's where they are equal.
-#[tactic(auto, unfolding(crate::specs::Turning::chosen))]
+#[tactic(auto, unfolding(spec_shape::specs::Turning::chosen))]
 fn chosen(low: Excursion, high: Excursion) -> Option<f64>
     ensures { result ≡ chosen low high }
 {
@@ -131,7 +117,7 @@ fn chosen(low: Excursion, high: Excursion) -> Option<f64>
 
 // Where the curve turns, as a fraction of its length, if it does. A curve has at most 1,024 frames:
 // no more are ever read.
-#[tactic(auto, unfolding(crate::specs::Turning::turning_point))]
+#[tactic(auto, unfolding(spec_shape::specs::Turning::turning_point))]
 pub fn turning_point(curve: &[f64]) -> Option<f64>
     requires { length curve.now ≤ 1024 }
     ensures { result ≡ turning_point curve.now }

@@ -1,5 +1,5 @@
 // Document 01's records by name: of each kind its number, its size with the kind, and where its fields
-// stand from the record's start on. specs/Layout.antt has the same names, and contracts tie the two.
+// stand from the record's start on. Definitions and contracts read these constants.
 ghost use Rattle.std.specs.Prelude.{◌≡◌, ◌≤◌};
 ghost use Rattle.tonekit_core.specs.Layout.{sheet_tone_at, sheet_accent_at, sheet_row_at};
 

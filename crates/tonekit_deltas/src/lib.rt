@@ -2,26 +2,12 @@
 #![tactic(auto)]
 
 ghost use Rattle.std.specs.Prelude.{◌≡◌};
-ghost use Rattle.tonekit_deltas.specs.Deltas.{no_deltas, above, kept, offer, offer_end, offer_turn, end_deltas, inner_deltas, deltas_of};
+ghost use Rattle.spec_judgement.specs.Deltas.{no_deltas, above, kept, offer, offer_end, offer_turn, end_deltas, inner_deltas, deltas_of};
 
+pub use spec_judgement::{Delta, Deltas};
 use tonekit_core::DeltaKind;
 use tonekit_score::Tolerance;
 use tonekit_shape::ToneShape;
-
-// Advice: its size in units of the tolerance, its kind and its amount.
-#[derive(Clone, Copy)]
-pub struct Delta {
-    pub z: f64,
-    pub kind: DeltaKind,
-    pub amount: f32,
-}
-
-// The two largest so far, in order.
-#[derive(Clone, Copy)]
-pub struct Deltas {
-    pub first: Option<Delta>,
-    pub second: Option<Delta>,
-}
 
 // No advice.
 pub fn no_deltas() -> Deltas
@@ -44,7 +30,7 @@ fn above(d: Option<Delta>, z: f64) -> bool
 }
 
 // The two largest with one more, an earlier one before a later of the same size.
-#[tactic(auto, unfolding(crate::specs::Deltas::kept))]
+#[tactic(auto, unfolding(spec_judgement::specs::Deltas::kept))]
 fn kept(ds: Deltas, d: Delta) -> Deltas
     ensures { result ≡ kept ds d }
 {
@@ -64,7 +50,7 @@ fn kept(ds: Deltas, d: Delta) -> Deltas
 }
 
 // Keeps a difference whose size is above 1 where both its numbers are finite.
-#[tactic(auto, unfolding(crate::specs::Deltas::offer))]
+#[tactic(auto, unfolding(spec_judgement::specs::Deltas::offer))]
 fn offer(ds: Deltas, z: f64, kind: DeltaKind, amount: f64) -> Deltas
     ensures { result ≡ offer ds z kind amount }
 {
@@ -84,7 +70,7 @@ fn offer(ds: Deltas, z: f64, kind: DeltaKind, amount: f64) -> Deltas
 }
 
 // Offers a difference d in units of s: below 0 it is of the first kind, else of the second.
-#[tactic(auto, unfolding(crate::specs::Deltas::offer_end))]
+#[tactic(auto, unfolding(spec_judgement::specs::Deltas::offer_end))]
 fn offer_end(ds: Deltas, d: f64, s: f64, below: DeltaKind, other: DeltaKind) -> Deltas
     ensures { result ≡ offer_end ds d s below other }
 {
@@ -93,7 +79,7 @@ fn offer_end(ds: Deltas, d: f64, s: f64, below: DeltaKind, other: DeltaKind) -> 
 }
 
 // Offers the difference in turning-point time, in milliseconds, where both have one.
-#[tactic(auto, unfolding(crate::specs::Deltas::offer_turn))]
+#[tactic(auto, unfolding(spec_judgement::specs::Deltas::offer_turn))]
 fn offer_turn(ds: Deltas, x: ToneShape, turning: Option<f64>, s: f64) -> Deltas
     ensures { result ≡ offer_turn ds x turning s }
 {
@@ -125,7 +111,7 @@ fn curve_of(points: &[f32; 10]) -> [f64; 10]
 // The advice from the two ends.
 // Stays: the tolerances and how far they are widened go from `deltas_of` to here and to `inner_deltas`; a struct of both would be made by its one caller and
 // taken apart at each `widened`.
-#[tactic(auto, unfolding(crate::specs::Deltas::end_deltas))]
+#[tactic(auto, unfolding(spec_judgement::specs::Deltas::end_deltas))]
 fn end_deltas(x: ToneShape, curve: &[f64; 10], t: Tolerance, widen: f64) -> Deltas
     ensures { result ≡ end_deltas x curve.now t widen }
 {
@@ -148,7 +134,7 @@ fn end_deltas(x: ToneShape, curve: &[f64; 10], t: Tolerance, widen: f64) -> Delt
 }
 
 // The advice from the ends, and from what is read off the contour.
-#[tactic(auto, using(crate::proofs::Range::each_itself), unfolding(crate::specs::Deltas::inner_deltas))]
+#[tactic(auto, using(crate::proofs::Range::each_itself), unfolding(spec_judgement::specs::Deltas::inner_deltas))]
 fn inner_deltas(ends: Deltas, x: ToneShape, curve: &[f64; 10], t: Tolerance, widen: f64) -> Deltas
     ensures { result ≡ inner_deltas ends x curve.now t widen }
 {
@@ -166,7 +152,7 @@ fn inner_deltas(ends: Deltas, x: ToneShape, curve: &[f64; 10], t: Tolerance, wid
 
 // The advice for a shape against a component of these points, the tolerances widened so much; only
 // from the ends where `ends_only`.
-#[tactic(auto, unfolding(crate::specs::Deltas::deltas_of))]
+#[tactic(auto, unfolding(spec_judgement::specs::Deltas::deltas_of))]
 pub fn deltas_of(
     x: ToneShape,
     points: &[f32; 10],

@@ -9,7 +9,8 @@ use Rattle.tonekit_core.specs.declared.Refusal.TheVariants.{ShortBuffer}
 use Rattle.tonekit_core.proofs.Split.{split}
 use Rattle.tonekit_score.proofs.Bounds.{Bounded, bounded_number}
 use Rattle.tonekit_judge.proofs.Bounds.{judgement_length, loglik_read, llr_read}
-use Rattle.tonekit_station.specs.Judgement.{judge_outcome, judge_sheet_outcome}
+use Rattle.spec_judgement.specs.Judgement.{judge_outcome}
+use Rattle.spec_sheet.specs.JudgeSheet.{judge_sheet_outcome}
 use Rattle.tonekit_station.proofs.Written.{Records, judge_writes, judge_sheet_writes}
 use Rattle.tonekit_demand.specs.Demand2.{WithinMillion, BoundedRecord, LeavesBounded, OutcomesBounded, BuffersBounded}
 

@@ -3,16 +3,17 @@
 use Rattle.std.proofs.Common.{ℕ, ◌≡◌, sym, ap, ap₂, ◌∙◌, List, length}
 use Rattle.tonekit_core.specs.Calls.{Outcome, written, answer_in, buffer_after}
 use Rattle.tonekit_pack.proofs.Single.{loads_alone}
-use Rattle.tonekit_expect.specs.Source.{Source}
-use Rattle.tonekit_sheet.specs.Sheet.{sheet}
-use Rattle.tonekit_sheet.specs.Agree.{Bytes, Agree}
+use Rattle.spec_lookup.specs.Source.{Source}
+use Rattle.spec_sheet.specs.Sheet.{sheet}
+use Rattle.spec_sheet.specs.Agree.{Bytes, Agree}
 use Rattle.tonekit_sheet.specs.Fit.{Fit}
 use Rattle.tonekit_sheet_fit.proofs.Fits.{fit_of_pack}
 use Rattle.tonekit_sheet_laws.proofs.Round.{round}
 use Rattle.tonekit_sheet_laws.proofs.Back.{read_back, settings_back, tones_back, accents_back, lookups_back}
 use Rattle.tonekit_sheet_laws.proofs.Exactly.{exactly}
-use Rattle.tonekit_sheet_write.specs.Outcome.{sheet_of, sheet_outcome}
-use Rattle.tonekit_station.specs.Judgement.{judgement, on_pack, on_sheet, judge_outcome, judge_sheet_outcome}
+use Rattle.spec_sheet.specs.Outcome.{sheet_of, sheet_outcome}
+use Rattle.spec_judgement.specs.Judgement.{judgement, on_pack, judge_outcome}
+use Rattle.spec_sheet.specs.JudgeSheet.{on_sheet, judge_sheet_outcome}
 use Rattle.tonekit_station.proofs.Depends.{judgement_same}
 use Rattle.tonekit_demand.specs.Demand3.{Loads, holds, SheetOf, OneSheetEach, SameOutcome, SameAnswer, StationsAgree, OneSheetExactly}
 

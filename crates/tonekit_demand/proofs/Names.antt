@@ -3,24 +3,24 @@ use Rattle.std.proofs.Common.{ℕ, ◌/◌, ◌%◌, ◌≤◌, ◌<◌, ◌≡�
 use mathlib.Core.Option.{Option, none, some}
 use lib.ListN.{length-map}
 use lib.Ieee.{nan}
-use Rattle.tonekit_pack.specs.Pack as pack
+use Rattle.spec_pack.specs.Pack as pack
 use Rattle.tonekit_pack.proofs.Single as pack-single
 use Rattle.tonekit_pack.proofs.Loads.{loads}
-use Rattle.tonekit_sheet.specs.Reader as sheet
-use Rattle.tonekit_sheet.specs.Sheet.{no_carried}
-use Rattle.tonekit_sheet.specs.FromSheet.{source_of_sheet}
-use Rattle.tonekit_sheet.specs.FromSheet as from_sheet
+use Rattle.spec_sheet.specs.Reader as sheet
+use Rattle.spec_sheet.specs.Sheet.{no_carried}
+use Rattle.spec_sheet.specs.FromSheet.{source_of_sheet}
+use Rattle.spec_sheet.specs.FromSheet as from_sheet
 use Rattle.tonekit_sheet.proofs.Turns as sheet-single
-use Rattle.tonekit_expect.specs.Source.{Carried, Source, source_of_pack}
-use Rattle.tonekit_expect.specs.Source as source
-use Rattle.tonekit_expect.specs.declared.Context.{Context}
-use Rattle.tonekit_score.specs.Score.{scoring_of}
+use Rattle.spec_lookup.specs.Source.{Carried, Source, source_of_pack}
+use Rattle.spec_lookup.specs.Source as source
+use Rattle.spec_lookup.specs.declared.Context.{Context}
+use Rattle.spec_judgement.specs.Score.{scoring_of}
 use Rattle.std.specs.Prelude.{Some}
-use Rattle.tonekit_judge.specs.Judge.{Targets, Placed, count_in, name_in, entry_at, slot_at, component_at, part_of, nearest_at, judgement_of}
-use Rattle.tonekit_judge.specs.declared.Slot.{Slot}
+use Rattle.spec_judgement.specs.Judge.{Targets, Placed, count_in, name_in, entry_at, slot_at, component_at, part_of, nearest_at, judgement_of}
+use Rattle.spec_judgement.specs.declared.Slot.{Slot}
 use Rattle.tonekit_core.specs.declared.Name.{Name}
 use Rattle.tonekit_judge.proofs.Winner.{winner_among, winner_named}
-use Rattle.tonekit_inventory.specs.Gather.{f32, named_of, slot_of, given_of, listings}
+use Rattle.spec_judgement.specs.Gather.{f32, named_of, slot_of, given_of, listings}
 use Rattle.tonekit_inventory.proofs.Going.{map_at}
 use Rattle.tonekit_inventory.proofs.Listed.{Entered, components_at, listings_enter, listed_tones}
 use Rattle.tonekit_inventory.proofs.Alike.{Alike, named_count, pack_alike}

@@ -3,12 +3,13 @@
 use Rattle.std.specs.Prelude.{ℕ, ◌+◌, ◌*◌, ◌<◌, ◌≡◌, refl, true, false, Result, Ok, List, T, length, take, Float}
 use Rattle.std.specs.Float.{binary32}
 use Rattle.std.specs.Float.Ieee.{is_nan, neg, le, of_bits}
-use Rattle.tonekit_core.specs.Layout.{f32_size, judgement_size, judgement_loglik, judgement_llr}
+use Rattle.tonekit_core.specs.declared.layout.TheConstants.{F32_SIZE, JUDGEMENT_SIZE, JUDGEMENT_LOGLIK, JUDGEMENT_LLR}
 use Rattle.tonekit_core.specs.Calls.{Outcome, written, Delivers}
 use Rattle.tonekit_core.specs.declared.Rejection.{Rejection}
-use Rattle.tonekit_bytes.specs.Fields.{f32_at}
-use Rattle.tonekit_score.specs.Score.{million}
-use Rattle.tonekit_station.specs.Judgement.{judge_outcome, judge_sheet_outcome}
+use Rattle.spec_arithmetic.specs.Fields.{f32_at}
+use Rattle.spec_judgement.specs.Score.{million}
+use Rattle.spec_judgement.specs.Judgement.{judge_outcome}
+use Rattle.spec_sheet.specs.JudgeSheet.{judge_sheet_outcome}
 
 -- "within ±1,000,000, never NaN"
 pub record WithinMillion (x : Float) : Type 0 where
@@ -18,9 +19,9 @@ pub record WithinMillion (x : Float) : Type 0 where
 
 -- a judgement's bytes: 64, and the eight log-likelihoods and the llr in them, read as f32s, are so
 pub record BoundedRecord (bs : List ℕ) : Type 0 where
-  pub size : length bs ≡ judgement_size
-  pub loglik : (k : ℕ) → k < 8 → WithinMillion (f32_at bs (judgement_loglik + f32_size * k))
-  pub llr : WithinMillion (f32_at bs judgement_llr)
+  pub size : length bs ≡ JUDGEMENT_SIZE
+  pub loglik : (k : ℕ) → k < 8 → WithinMillion (f32_at bs (JUDGEMENT_LOGLIK + F32_SIZE * k))
+  pub llr : WithinMillion (f32_at bs JUDGEMENT_LLR)
 
 -- what `judge` makes of any pack and any query, and `judge_sheet` of any sheet and any query, where it is bytes
 abbrev pub OutcomesBounded : Type 0

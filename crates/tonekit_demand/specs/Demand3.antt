@@ -3,11 +3,12 @@
 -- proofs/Demand3.antt proves them.
 use Rattle.std.specs.Prelude.{ℕ, ◌≡◌, ◌↔◌, List, length}
 use Rattle.tonekit_core.specs.Calls.{written, answer_in, buffer_after}
-use Rattle.tonekit_pack.specs.Pack.{Pst, loaded, load_pack}
-use Rattle.tonekit_expect.specs.Source.{Source, source_of_pack}
-use Rattle.tonekit_sheet.specs.Agree.{Bytes, Agree}
-use Rattle.tonekit_sheet_write.specs.Outcome.{sheet_outcome}
-use Rattle.tonekit_station.specs.Judgement.{judge_outcome, judge_sheet_outcome}
+use Rattle.spec_pack.specs.Pack.{Pst, loaded, load_pack}
+use Rattle.spec_lookup.specs.Source.{Source, source_of_pack}
+use Rattle.spec_sheet.specs.Agree.{Bytes, Agree}
+use Rattle.spec_sheet.specs.Outcome.{sheet_outcome}
+use Rattle.spec_judgement.specs.Judgement.{judge_outcome}
+use Rattle.spec_sheet.specs.JudgeSheet.{judge_sheet_outcome}
 
 -- "a pack or sheet loads if its own bytes call for no refusal"
 pub record Loads (p : List ℕ) : Type 0 where

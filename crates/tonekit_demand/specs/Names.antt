@@ -2,22 +2,22 @@
 use Rattle.std.specs.Prelude.{ℕ, ◌+◌, ◌*◌, ◌<◌, ◌≡◌, true, Some, List, length, get_or, Float}
 use Rattle.std.proofs.Math.Option.{some}
 use Rattle.std.specs.Float.{nan}
-use Rattle.tonekit_pack.specs.Pack as pack
-use Rattle.tonekit_sheet.specs.Reader as sheet
-use Rattle.tonekit_sheet.specs.Sheet.{no_carried}
-use Rattle.tonekit_sheet.specs.FromSheet.{source_of_sheet}
-use Rattle.tonekit_expect.specs.Source.{Carried, Source, source_of_pack}
-use Rattle.tonekit_expect.specs.declared.Context.{Context}
-use Rattle.tonekit_shape.specs.declared.ToneShape.{ToneShape}
-use Rattle.tonekit_score.specs.Score.{scoring_of, mixture_of}
-use Rattle.tonekit_score.specs.declared.Settings.{Settings}
-use Rattle.tonekit_score.specs.declared.Tolerance.{Tolerance}
-use Rattle.tonekit_score.specs.declared.Mixture.{Mixture}
-use Rattle.tonekit_score.specs.declared.Mixture.TheVariants.{Scored}
-use Rattle.tonekit_judge.specs.Judge.{Targets, Listings, Placed, usable, slot_at, component_at, target_mixing, judgement_of}
-use Rattle.tonekit_judge.specs.declared.Nearest.{Nearest}
-use Rattle.tonekit_judge.specs.declared.ToneJudgement.{ToneJudgement}
-use Rattle.tonekit_inventory.specs.Gather.{f32, no_tone, in_context, listings}
+use Rattle.spec_pack.specs.Pack as pack
+use Rattle.spec_sheet.specs.Reader as sheet
+use Rattle.spec_sheet.specs.Sheet.{no_carried}
+use Rattle.spec_sheet.specs.FromSheet.{source_of_sheet}
+use Rattle.spec_lookup.specs.Source.{Carried, Source, source_of_pack}
+use Rattle.spec_lookup.specs.declared.Context.{Context}
+use Rattle.spec_shape.specs.declared.ToneShape.{ToneShape}
+use Rattle.spec_judgement.specs.Score.{scoring_of, mixture_of}
+use Rattle.spec_judgement.specs.declared.Settings.{Settings}
+use Rattle.spec_judgement.specs.declared.Tolerance.{Tolerance}
+use Rattle.spec_judgement.specs.declared.Mixture.{Mixture}
+use Rattle.spec_judgement.specs.declared.Mixture.TheVariants.{Scored}
+use Rattle.spec_judgement.specs.Judge.{Targets, Listings, Placed, usable, slot_at, component_at, target_mixing, judgement_of}
+use Rattle.spec_judgement.specs.declared.Nearest.{Nearest}
+use Rattle.spec_judgement.specs.declared.ToneJudgement.{ToneJudgement}
+use Rattle.spec_judgement.specs.Gather.{f32, no_tone, in_context, listings}
 
 -- a slot of what is gathered for a context, and the component that the lookup gave: the tone's, at its place, with its weight and its ten points
 pub record Carries (src : Source) (c : Context) (slot : ℕ) (won : Carried) : Type 0 where

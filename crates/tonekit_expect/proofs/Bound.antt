@@ -4,14 +4,14 @@ use Rattle.std.proofs.Common.{ℕ, zero, suc, ◌+◌, ◌-◌, ◌≤◌, ◌<�
 use lib.Seq.{get_or_at}
 use lib.ListN.{get_or-append}
 use lib.Ieee.{nan, fin, binary32, binary64, add, sub, mul, div, neg, le, lt, eq, of_int, of_bits, round}
-use Rattle.tonekit_float.specs.Whole.{whole_part}
+use Rattle.spec_arithmetic.specs.Whole.{whole_part}
 use lib.Ieee.Fits.{and_l, and_r, eq→eqb}
 use lib.Ieee.Scale.{finite}
 use Rattle.tonekit_float.proofs.Order.{yes, no}
-use Rattle.tonekit_float.specs.Narrow.{narrowed}
-use Rattle.tonekit_contour.specs.Position.{position}
-use Rattle.tonekit_expect.specs.Knots.{segment, fraction, on_line, point_at, first_points, expanded, knots_at, point_least, point_most, Knot, Point, Knots}
-use Rattle.tonekit_float.specs.Bounds.{In}
+use Rattle.spec_arithmetic.specs.Narrow.{narrowed}
+use Rattle.spec_arithmetic.specs.Position.{position}
+use Rattle.spec_lookup.specs.Knots.{segment, fraction, on_line, point_at, first_points, expanded, knots_at, point_least, point_most, Knot, Point, Knots}
+use Rattle.spec_arithmetic.specs.Bounds.{In}
 use Rattle.tonekit_float.proofs.Monotone.{zero_f}
 use Rattle.tonekit_float.proofs.Bounds.{finite4, about0, in_wider, in_cut, in_add, in_sub, in_scale, in_narrow}
 

@@ -3,9 +3,9 @@ use Rattle.std.proofs.Common.{ℕ, zero, suc, ◌<◌, ◌≡◌, refl, ◌∙�
 use lib.Ieee.{to_bits}
 use lib.ListN.{get_or-append}
 use lib.Seq.{get_or_at}
-use Rattle.tonekit_expect.specs.declared.Listing.{Listing}
-use Rattle.tonekit_expect.specs.Lookup.{component_of}
-use Rattle.tonekit_expect.specs.Source.{Carried, carried, components}
+use Rattle.spec_lookup.specs.declared.Listing.{Listing}
+use Rattle.spec_lookup.specs.Lookup.{component_of}
+use Rattle.spec_lookup.specs.Source.{Carried, carried, components}
 use Rattle.tonekit_core.proofs.Split.{split}
 
 module _ (s : List ℕ) (l : Listing) where

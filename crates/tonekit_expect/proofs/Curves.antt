@@ -8,15 +8,15 @@ use lib.Ieee.Fits.{and_l, and_r}
 use borrow.Author.Tests.{eqb-false}
 use Rattle.tonekit_core.specs.Loop.{turns, range}
 use Rattle.tonekit_float.proofs.Order.{yes}
-use Rattle.tonekit_bytes.specs.Fields.{byte_at, f32_at}
-use Rattle.tonekit_bytes.specs.Places.{index_of, number_at}
-use Rattle.tonekit_pack.specs.Ranges.{knot_fine, slot_fine, slot_turn, knots_fine}
-use Rattle.tonekit_pack.specs.Pack.{Pst, loaded, read_pack, parts_from}
+use Rattle.spec_arithmetic.specs.Fields.{byte_at, f32_at}
+use Rattle.spec_arithmetic.specs.Places.{index_of, number_at}
+use Rattle.spec_pack.specs.Ranges.{knot_fine, slot_fine, slot_turn, knots_fine}
+use Rattle.spec_pack.specs.Pack.{Pst, loaded, read_pack, parts_from}
 use Rattle.std.specs.Prelude.{Some, None}
-use Rattle.tonekit_expect.specs.declared.Context.{Context}
-use Rattle.tonekit_expect.specs.declared.Listing.{Listing}
-use Rattle.tonekit_expect.specs.Knots.{Knot, Point, Knots, knots_at}
-use Rattle.tonekit_expect.specs.Lookup.{Found, Walked, to_rule, find_rule, rule_listing, citation, listed, look_at, look_up, knots_of, component_of, Listed}
+use Rattle.spec_lookup.specs.declared.Context.{Context}
+use Rattle.spec_lookup.specs.declared.Listing.{Listing}
+use Rattle.spec_lookup.specs.Knots.{Knot, Point, Knots, knots_at}
+use Rattle.spec_lookup.specs.Lookup.{Found, Walked, to_rule, find_rule, rule_listing, citation, listed, look_at, look_up, knots_of, component_of, Listed}
 use Rattle.tonekit_core.proofs.Split.{split}
 use Rattle.tonekit_pack.proofs.Loads.{RuleFine, Loads, loads, firsts_bound}
 use Rattle.tonekit_expect.proofs.Bound.{length_knots, points_bounded}

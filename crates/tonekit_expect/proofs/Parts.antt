@@ -1,7 +1,7 @@
 -- The parts that follow a rule, one by one.
 use Rattle.std.proofs.Common.{ℕ, zero, suc, ◌+◌, ◌-◌, ◌<◌, ◌≡◌, refl, List, arith, sub-one, eq-eqb, ne_eqb}
-use Rattle.tonekit_bytes.specs.Fields.{byte_at}
-use Rattle.tonekit_pack.specs.Pack.{parts_from}
+use Rattle.spec_arithmetic.specs.Fields.{byte_at}
+use Rattle.spec_pack.specs.Pack.{parts_from}
 
 pub parts_hit : (n : ℕ) (s : List ℕ) (o : ℕ) → 0 < n → byte_at s o ≡ 5 → parts_from n s o ≡ suc (parts_from (n - 1) s (o + 46))
 unfolding parts_from

@@ -1,13 +1,13 @@
 -- The search by number, and one step of the walk up the parents.
 use Rattle.std.proofs.Common.{ℕ, zero, suc, ◌+◌, ◌-◌, ◌≤◌, ◌<◌, ◌≡◌, refl, sym, ◌∙◌, ap, subst, ◌&&◌, List, arith, eqb, length, get_or, eqb-true}
 use Rattle.tonekit_core.specs.Loop.{Turn, next, stop, turns, range, turns_to, range_to, loop_on, loop_to}
-use Rattle.tonekit_bytes.specs.Places.{index_turn, index_of, number_at}
-use Rattle.tonekit_pack.specs.Pack.{Pst}
+use Rattle.spec_arithmetic.specs.Places.{index_turn, index_of, number_at}
+use Rattle.spec_pack.specs.Pack.{Pst}
 use Rattle.tonekit_core.proofs.Split.{split}
 use Rattle.std.specs.Prelude.{Some, None}
-use Rattle.tonekit_expect.specs.declared.Winner.{Winner}
-use Rattle.tonekit_expect.specs.declared.Context.{Context}
-use Rattle.tonekit_expect.specs.Lookup.{Found, Walked, won, matches, more_than, better_of, from_rule, to_rule, best_turn, best_rule, parent_of, or_parent, to_parent, climb_turn, find_rule, listed, look_at, look_up}
+use Rattle.spec_lookup.specs.declared.Winner.{Winner}
+use Rattle.spec_lookup.specs.declared.Context.{Context}
+use Rattle.spec_lookup.specs.Lookup.{Found, Walked, won, matches, more_than, better_of, from_rule, to_rule, best_turn, best_rule, parent_of, or_parent, to_parent, climb_turn, find_rule, listed, look_at, look_up}
 
 -- ---- the search
 module _ (s os : List ℕ) (n : ℕ) where

@@ -4,55 +4,20 @@
 ghost use Rattle.std.specs.Prelude.{◌≡◌, ℕ, ◌+◌, ◌*◌, ◌≤◌, ◌<◌, None, false, cond, T, eqb, pos, get_or};
 ghost use Rattle.std.specs.Float.{fin, nan};
 ghost use Rattle.std.specs.Float.Ieee.{le, lt};
-ghost use Rattle.tonekit_core.specs.Layout.{mixture_form};
+ghost use Rattle.tonekit_core.specs.declared.layout.TheConstants.{MIXTURE_FORM};
 ghost use Rattle.tonekit_core.specs.Loop.{range};
-ghost use Rattle.tonekit_bytes.specs.Places.{index_of};
+ghost use Rattle.spec_arithmetic.specs.Places.{index_of};
 ghost use Rattle.tonekit_pack.specs.Held.{shown};
-ghost use Rattle.tonekit_expect.specs.Knots.{knot_before, on_line, point_at, expanded, knots_at, Point, Knots};
-ghost use Rattle.tonekit_pack.specs.Pack.{parts_from};
-ghost use Rattle.tonekit_expect.specs.Lookup.{final_of, meets, matches, one_if, specificity, better_of, best_turn, best_rule, parent_of, find_rule, Placed, rule_listing, citation, listed, look_up, component_of, Listed};
+ghost use Rattle.spec_lookup.specs.Knots.{knot_before, on_line, point_at, expanded, knots_at, Point, Knots};
+ghost use Rattle.spec_pack.specs.Pack.{parts_from};
+ghost use Rattle.spec_lookup.specs.Lookup.{final_of, meets, matches, one_if, specificity, better_of, best_turn, best_rule, parent_of, find_rule, Placed, rule_listing, citation, listed, look_up, component_of, Listed};
 
+pub use spec_lookup::{Component, Context, Listing, Winner};
 use tonekit_bytes::places::index_of;
 use tonekit_bytes::{byte_at, f32_at, u16_at};
 use tonekit_core::{Name, layout};
 use tonekit_float::{f64_of, floor_index, narrow};
 use tonekit_pack::PackView;
-
-// The rule that a walk up the parents found: its accent's index and its own offset.
-#[derive(Clone, Copy)]
-pub struct Winner {
-    pub accent: usize,
-    pub rule: usize,
-}
-
-// A context, by the numbers of its accent, tone and previous tone (0 none), and whether it is the end
-// of a phrase.
-// Stays: `prev` is 0 for none, as rules and rows hold it and `meets` compares it; an Option would be turned back to that byte at each.
-#[derive(Clone, Copy)]
-pub struct Context {
-    pub accent: u8,
-    pub tone: u8,
-    pub prev: u8,
-    pub last: bool,
-}
-
-// The curves of a context: what they are called, and how many components stand at an offset.
-#[derive(Clone, Copy)]
-pub struct Listing {
-    pub name: Name,
-    pub at: usize,
-    pub count: usize,
-}
-
-// One weighted curve, as in the Rust: what it is called, its weight and its ten points.
-// Stays: tonekit_judge's Component is what mixtures take of a slot, and has no field in common but the weight.
-#[derive(Drop)]
-pub struct Component {
-    pub name: Name,
-    pub part: u8,
-    pub weight: f32,
-    pub points: [f32; 10],
-}
 
 // The place of the accent with number n among a pack's accents, or none.
 // Stays: accents and tones are one call each of the one search, which takes the offsets already; the two names say whose.
@@ -71,7 +36,7 @@ pub fn tone_index(v: PackView<'_>, n: u8) -> Option<usize>
 }
 
 // Whether a condition allows a value: 0 allows any.
-#[tactic(auto, unfolding(crate::specs::Lookup::meets))]
+#[tactic(auto, unfolding(spec_lookup::specs::Lookup::meets))]
 fn meets(c: u8, x: u8) -> bool
     ensures { result ≡ meets c x }
 {
@@ -87,7 +52,7 @@ fn final_of(c: Context) -> u8
 }
 
 // Whether the rule at r matches the context.
-#[tactic(auto, unfolding(crate::specs::Lookup::matches))]
+#[tactic(auto, unfolding(spec_lookup::specs::Lookup::matches))]
 fn matches(s: &[u8], c: Context, r: usize) -> bool
     ensures { result ≡ matches s.now c r }
 {
@@ -104,7 +69,7 @@ fn one_if(c: u8) -> usize
 }
 
 // How many conditions a rule states.
-#[tactic(auto, unfolding(crate::specs::Lookup::specificity))]
+#[tactic(auto, unfolding(spec_lookup::specs::Lookup::specificity))]
 fn specificity(s: &[u8], r: usize) -> usize
     ensures { result ≡ specificity s.now r }
 {
@@ -114,7 +79,7 @@ fn specificity(s: &[u8], r: usize) -> usize
 }
 
 // The rule at r where it matches and states more than the best so far, else that one.
-#[tactic(auto, unfolding(crate::specs::Lookup::better_of))]
+#[tactic(auto, unfolding(spec_lookup::specs::Lookup::better_of))]
 fn better(s: &[u8], c: Context, best: Option<usize>, r: usize) -> Option<usize>
     ensures { result ≡ better_of s.now c best r }
 {
@@ -282,7 +247,7 @@ fn segment(x: f64, last: usize) -> usize
 }
 
 // The point at t of the line from a to b.
-#[tactic(auto, unfolding(crate::specs::Knots::on_line))]
+#[tactic(auto, unfolding(spec_lookup::specs::Knots::on_line))]
 fn on_line(a: f32, b: f32, t: f64) -> f32
     ensures { result ≡ on_line a b t }
 {
@@ -290,7 +255,7 @@ fn on_line(a: f32, b: f32, t: f64) -> f32
 }
 
 // Point i of ten.
-#[tactic(auto, unfolding(crate::specs::Knots::point_at, crate::specs::Knots::fraction, crate::specs::Knots::segment))]
+#[tactic(auto, unfolding(spec_lookup::specs::Knots::point_at, spec_lookup::specs::Knots::fraction, spec_lookup::specs::Knots::segment))]
 fn point(knots: &[f32], i: usize) -> f32
     requires { Knots knots.now × (i < 10) }
     ensures { result ≡ point_at knots.now i }
@@ -326,7 +291,7 @@ pub fn expand_knots(knots: &[f32]) -> [f32; 10]
 // A part's number: its place in a mixture.
 fn part_number(name: Name, j: usize) -> u8
     requires { j < 4 }
-    ensures { result ≡ cond (eqb name.form mixture_form) j 0 }
+    ensures { result ≡ cond (eqb name.form MIXTURE_FORM) j 0 }
 {
     if name.form == layout::MIXTURE_FORM {
         j as u8
@@ -349,7 +314,7 @@ fn points_at(s: &[u8], o: usize, n: usize) -> [f32; 10]
 
 // Component j of a listing: a citation's, with weight 1, or a part of the rule. The listing is one
 // that `look_up` gave for these bytes, and j below its count: no other has curves.
-#[tactic(auto, unfolding(crate::specs::Lookup::component_of))]
+#[tactic(auto, unfolding(spec_lookup::specs::Lookup::component_of))]
 pub fn component_at(s: &[u8], l: Listing, j: usize) -> Component
     requires { Listed s.now l j }
     ensures { (result ≡ component_of s.now l j) × ((k : ℕ) → k < 10 → Point (get_or result.points k nan)) }

@@ -2,9 +2,9 @@
 use Rattle.std.proofs.Common.{ℕ, zero, suc, ◌+◌, ◌-◌, ◌≡◌, refl, ap, ◌∙◌, Bool, true, false, cond, Float, length}
 use lib.Ieee.{binary64, add}
 use Rattle.tonekit_core.specs.Loop.{turns, range}
-use Rattle.tonekit_fit.specs.declared.Sums.{Sums}
-use Rattle.tonekit_fit.specs.Chao.{zero64, voiced}
-use Rattle.tonekit_fit.specs.Fit.{Part, chao_at, voiced_step, voiced_turn, voiced_sum, walk}
+use Rattle.spec_shape.specs.declared.Sums.{Sums}
+use Rattle.spec_shape.specs.Chao.{zero64, voiced}
+use Rattle.spec_shape.specs.Fit.{Part, chao_at, voiced_step, voiced_turn, voiced_sum, walk}
 
 module _ (p : Part) (a : ℕ → Float) (b : ℕ → Float → Float) where
   abbrev pub both : Sums → ℕ → Float → Sums

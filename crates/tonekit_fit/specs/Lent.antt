@@ -1,5 +1,5 @@
 -- A part as the code lends it, and what the definitions read of it.
-use Rattle.tonekit_fit.specs.Fit as fit
+use Rattle.spec_shape.specs.Fit as fit
 use Rattle.tonekit_fit.specs.declared.Part.{Part}
 
 abbrev pub part_of : Part → fit.Part

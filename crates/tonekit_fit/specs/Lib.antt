@@ -1,4 +1,1 @@
-pub mod Chao
-pub mod Fit
 pub mod Lent
-pub mod Bench

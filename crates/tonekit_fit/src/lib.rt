@@ -3,9 +3,11 @@
 #![tactic(auto)]
 
 ghost use Rattle.std.specs.Prelude.{◌≡◌, ℕ, ◌+◌, ◌≤◌, ◌<◌, ◌^◌, length};
-ghost use Rattle.tonekit_query.specs.Frames.{frame_at};
-ghost use Rattle.tonekit_fit.specs.Chao.{hz_to_st, width_of, st_to_chao, voiced, semitones_of};
-ghost use Rattle.tonekit_fit.specs.Fit.{seconds, point_added, normal_equations, pivot_of, row_cleared, below_cleared, first_unknown, lead_of};
+ghost use Rattle.spec_query.specs.Frames.{frame_at};
+ghost use Rattle.spec_shape.specs.Chao.{hz_to_st, width_of, st_to_chao, voiced, semitones_of};
+ghost use Rattle.spec_shape.specs.Fit.{seconds, point_added, normal_equations, pivot_of, row_cleared, below_cleared, first_unknown, lead_of};
+
+pub use spec_shape::{Moments, Sums};
 
 // The frames of a query from one of them on: the bytes that hold them all, and that first one. A
 // query has at most 1,024 frames.
@@ -23,22 +25,8 @@ pub struct Part<'f, 'c> {
     pub chao: &'c [f64],
 }
 
-// A sum along the times, and one with the Chao values.
-#[derive(Clone, Copy)]
-pub struct Sums {
-    pub x: f64,
-    pub y: f64,
-}
-
-// Sums of powers of x, and of y times powers of x.
-#[derive(Clone, Copy)]
-pub struct Moments {
-    pub s: [f64; 5],
-    pub t: [f64; 3],
-}
-
 // Semitones re 55 Hz.
-#[tactic(auto, unfolding(crate::specs::Chao::hz_to_st))]
+#[tactic(auto, unfolding(spec_shape::specs::Chao::hz_to_st))]
 pub fn hz_to_st(hz: f64) -> f64
     ensures { result ≡ hz_to_st hz }
 {
@@ -46,7 +34,7 @@ pub fn hz_to_st(hz: f64) -> f64
 }
 
 // The register's width, or 4 where that is not a finite number above 0.
-#[tactic(auto, unfolding(crate::specs::Chao::width_of))]
+#[tactic(auto, unfolding(spec_shape::specs::Chao::width_of))]
 pub fn width_of(floor: f32, ceil: f32) -> f64
     ensures { result ≡ width_of floor ceil }
 {
@@ -59,7 +47,7 @@ pub fn width_of(floor: f32, ceil: f32) -> f64
 }
 
 // The Chao value of a semitone value in the register, unclamped.
-#[tactic(auto, unfolding(crate::specs::Chao::st_to_chao))]
+#[tactic(auto, unfolding(spec_shape::specs::Chao::st_to_chao))]
 pub fn st_to_chao(floor: f64, width: f64, st: f64) -> f64
     ensures { result ≡ st_to_chao floor width st }
 {
@@ -113,7 +101,7 @@ impl Frames<'_> {
 }
 
 impl Part<'_, '_> {
-    ghost use Rattle.tonekit_fit.specs.Fit.{Walks, voiced_sum, fraction, point_sums, product_sums, line_slope, moments_of, quadratic_coefficient};
+    ghost use Rattle.spec_shape.specs.Fit.{Walks, voiced_sum, fraction, point_sums, product_sums, line_slope, moments_of, quadratic_coefficient};
     ghost use Rattle.tonekit_fit.specs.Lent.{part_of};
 
     // What a step makes of the voiced frames, one after the other. It is given what the earlier
@@ -160,7 +148,7 @@ impl Part<'_, '_> {
 
     // The least-squares slope of Chao values against seconds over the voiced frames, of which there
     // are `count`; 0 where the times do not vary.
-    #[tactic(auto, unfolding(crate::specs::Fit::line_slope))]
+    #[tactic(auto, unfolding(spec_shape::specs::Fit::line_slope))]
     pub fn line_slope(self, count: usize) -> f64
         ensures { result ≡ line_slope (part_of self.entry) count }
     {
@@ -193,7 +181,7 @@ impl Part<'_, '_> {
     // The leading coefficient of the least-squares quadratic of Chao values against the fraction of
     // the part, over the voiced frames, of which there are `count`; 0 where they determine no
     // parabola.
-    #[tactic(auto, unfolding(crate::specs::Fit::quadratic_coefficient))]
+    #[tactic(auto, unfolding(spec_shape::specs::Fit::quadratic_coefficient))]
     pub fn quadratic_coefficient(self, count: usize) -> f64
         requires { 1 ≤ length self.chao.now }
         ensures { result ≡ quadratic_coefficient (part_of self.entry) count }
@@ -205,7 +193,7 @@ impl Part<'_, '_> {
 }
 
 // One point more, x from the mean.
-#[tactic(auto, using(tonekit_core::specs::Loop::again, tonekit_core::specs::Loop::ended), unfolding(crate::specs::Fit::point_added))]
+#[tactic(auto, using(tonekit_core::specs::Loop::again, tonekit_core::specs::Loop::ended), unfolding(spec_shape::specs::Fit::point_added))]
 fn point_added(m: Moments, x: f64, y: f64) -> Moments
     ensures { result ≡ point_added x y m }
 {
@@ -223,7 +211,7 @@ fn point_added(m: Moments, x: f64, y: f64) -> Moments
 }
 
 // The normal equations for the quadratic's three coefficients.
-#[tactic(auto, unfolding(crate::specs::Fit::normal_equations))]
+#[tactic(auto, unfolding(spec_shape::specs::Fit::normal_equations))]
 fn normal_equations(m: Moments) -> [[f64; 4]; 3]
     ensures { result ≡ normal_equations m }
 {
@@ -286,7 +274,7 @@ fn below_cleared(m: [[f64; 4]; 3], col: Number) -> [[f64; 4]; 3]
 }
 
 // The first unknown, from the triangle.
-#[tactic(auto, unfolding(crate::specs::Fit::first_unknown))]
+#[tactic(auto, unfolding(spec_shape::specs::Fit::first_unknown))]
 fn first_of(m: [[f64; 4]; 3]) -> f64
     ensures { result ≡ first_unknown m }
 {
@@ -296,7 +284,7 @@ fn first_of(m: [[f64; 4]; 3]) -> f64
 }
 
 // The first unknown of three equations; 0 where they do not determine it.
-#[tactic(auto, using(tonekit_core::specs::Loop::to_again, tonekit_core::specs::Loop::to_stop, tonekit_core::specs::Loop::to_ended, std::proofs::lemmas::List::Edits::swap_is), unfolding(crate::specs::Fit::lead_of))]
+#[tactic(auto, using(tonekit_core::specs::Loop::to_again, tonekit_core::specs::Loop::to_stop, tonekit_core::specs::Loop::to_ended, std::proofs::lemmas::List::Edits::swap_is), unfolding(spec_shape::specs::Fit::lead_of))]
 pub fn lead(start: [[f64; 4]; 3]) -> f64
     ensures { result ≡ lead_of start }
 {

@@ -5,8 +5,8 @@ use lib.Ieee.{Format, add, sub, mul, div, le}
 use lib.Ieee.Fits.{and_l, and_r}
 use lib.Ieee.Positive.{positive}
 use lib.Ieee.Scale.{finite}
-use Rattle.tonekit_float.specs.Narrow.{narrowed}
-use Rattle.tonekit_float.specs.Bounds.{In}
+use Rattle.spec_arithmetic.specs.Narrow.{narrowed}
+use Rattle.spec_arithmetic.specs.Bounds.{In}
 use Rattle.tonekit_float.proofs.Order.{le_total, le_trans_float, between_finite}
 use Rattle.tonekit_float.proofs.Monotone.{zero_f, add_le, sub_le, mul_le_right, mul_le_left, mul_ge_left, div_le, narrow_le}
 

@@ -3,8 +3,8 @@ use Rattle.std.proofs.Common.{ℕ, zero, suc, ◌<◌, Bool, true, false, T, ℤ
 use lib.Ieee.{Format, nan, inf, fin, top, fits}
 use lib.Ieee.Bits.{to_bits-lt}
 use Rattle.std.specs.Float.{float_with_sign}
-use Rattle.tonekit_float.specs.Magnitude.{magnitude, clear}
-use Rattle.tonekit_float.specs.Bounds.{Within}
+use Rattle.spec_arithmetic.specs.Magnitude.{magnitude, clear}
+use Rattle.spec_arithmetic.specs.Bounds.{Within}
 use Rattle.tonekit_float.proofs.Units.{to_bits_is}
 
 -- a format holds a value with either sign

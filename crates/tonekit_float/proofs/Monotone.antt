@@ -8,8 +8,8 @@ use lib.Ieee.Fits.{up_pos}
 use lib.Ieee.Order.{round_mono}
 use lib.Ieee.Positive.{den, den_pos, positive}
 use lib.Ieee.Scale.{finite, round_same}
-use Rattle.tonekit_float.specs.Narrow.{narrowed}
-use Rattle.tonekit_float.specs.Bounds.{plus, minus}
+use Rattle.spec_arithmetic.specs.Narrow.{narrowed}
+use Rattle.spec_arithmetic.specs.Bounds.{plus, minus}
 use Rattle.tonekit_float.proofs.Order.{Cross, le→under, le_trans_float, neg_finite, neg_le}
 
 -- ---- `neg` of a rounded fraction

@@ -6,7 +6,7 @@ use lib.Ieee.Fits.{up_pos, down_pos, and_l, and_i, round-fits, nan-fits, inf-fit
 use lib.Ieee.Bits.{nan_bits_above}
 use lib.Ieee.Exact.{HasValue}
 use lib.Ieee.Scale.{round_same}
-use Rattle.tonekit_float.specs.Narrow.{narrowed}
+use Rattle.spec_arithmetic.specs.Narrow.{narrowed}
 use Rattle.tonekit_float.proofs.Order.{yes, no}
 use Rattle.tonekit_float.proofs.Monotone.{zero_f, round_neg}
 use Rattle.tonekit_float.proofs.Units.{units_of, units_value, zero_exp, to_bits_is}

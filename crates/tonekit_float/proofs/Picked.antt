@@ -4,7 +4,7 @@ use Rattle.std.proofs.Common.{Option, Some, None, Ordering, Less, Equal, Greater
 use Rattle.std.specs.Ordering.{is_some_and, is_lt, partial_lt, float_partial_cmp}
 use lib.Ieee.{ne, eq, lt, le}
 use lib.Ieee.Scale.{finite}
-use Rattle.tonekit_float.specs.Pick.{lesser, greater}
+use Rattle.spec_arithmetic.specs.Pick.{lesser, greater}
 use Rattle.tonekit_float.proofs.Order.{yes, lt→le, not-lt→le, le_refl_finite}
 use Rattle.tonekit_float.proofs.Nans.{ne_self, finite_number}
 

@@ -6,8 +6,8 @@ use lib.Ieee.Fits.{down_pos}
 use lib.Ieee.Exact.{HasValue}
 use lib.Ieee.Positive.{den, den_pos}
 use lib.Ieee.Scale.{finite}
-use Rattle.tonekit_float.specs.Bounds.{plus, minus, In}
-use Rattle.tonekit_float.specs.Whole.{whole_part, round_up}
+use Rattle.spec_arithmetic.specs.Bounds.{plus, minus, In}
+use Rattle.spec_arithmetic.specs.Whole.{whole_part, round_up}
 use Rattle.tonekit_float.proofs.Order.{yes, no, le→under, under→le, lt→cross, lt→le, not-lt→le, le_refl_finite}
 use Rattle.tonekit_float.proofs.Monotone.{zero_f, no_minus, sub_le}
 use Rattle.tonekit_float.proofs.Exact.{one_f, whole, whole_value, whole_worth, whole_sub, sub_nonneg}

@@ -8,10 +8,10 @@ ghost use Rattle.std.specs.Float.{Float, Format, binary32, binary64, inf, fin};
 ghost use Rattle.std.specs.Ordering.{float_partial_cmp};
 ghost use Rattle.std.specs.Float.Ieee.{of_int};
 ghost use Rattle.std.specs.Float.Ieee.Scale.{finite};
-ghost use Rattle.tonekit_float.specs.Narrow.{narrowed};
-ghost use Rattle.tonekit_float.specs.Pick.{lesser, greater};
-ghost use Rattle.tonekit_float.specs.Magnitude.{total_le};
-ghost use Rattle.tonekit_float.specs.Whole.{whole_part, round_up};
+ghost use Rattle.spec_arithmetic.specs.Narrow.{narrowed};
+ghost use Rattle.spec_arithmetic.specs.Pick.{lesser, greater};
+ghost use Rattle.spec_arithmetic.specs.Magnitude.{total_le};
+ghost use Rattle.spec_arithmetic.specs.Whole.{whole_part, round_up};
 
 use std::ops::Sub;
 

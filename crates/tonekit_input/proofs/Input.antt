@@ -2,9 +2,9 @@
 use Rattle.std.proofs.Common.{ℕ, ◌+◌, ◌-◌, ◌≤◌, ◌<◌, min, ◌≡◌, refl, sym, ap, ◌∙◌, Bool, true, false, List, arith, leb-true, leb-false, leb, length, take, drop, length-drop, drop_of_length-le, take_all, take-take, drop-drop, get_or-take}
 use Rattle.std.proofs.lemmas.List.{drop-take}
 use native.Mathlib.Nat.{min-eq_left}
-use Rattle.tonekit_bytes.specs.Fields.{byte_at, u16_at}
+use Rattle.spec_arithmetic.specs.Fields.{byte_at, u16_at}
 use Rattle.tonekit_query.proofs.Parts.{cut}
-use Rattle.tonekit_input.specs.Input.{held_of, query_of}
+use Rattle.spec_judgement.specs.Input.{held_of, query_of}
 
 -- all that stands from an index on
 behind : (s : List ℕ) (a : ℕ) (b : Bool) → leb a (length s) ≡ b → drop (min a (length s)) s ≡ drop a s

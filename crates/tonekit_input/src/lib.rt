@@ -2,8 +2,8 @@
 #![tactic(auto)]
 
 ghost use Rattle.std.specs.Prelude.{◌≡◌, ◌+◌, min, length};
-ghost use Rattle.tonekit_bytes.specs.Fields.{u16_at};
-ghost use Rattle.tonekit_input.specs.Input.{held_of, query_of};
+ghost use Rattle.spec_arithmetic.specs.Fields.{u16_at};
+ghost use Rattle.spec_judgement.specs.Input.{held_of, query_of};
 
 // Where the pack or the sheet ends. Missing length bytes are 0, and a length past the input's end takes
 // what is there.

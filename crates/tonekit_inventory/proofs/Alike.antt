@@ -3,15 +3,15 @@ use Rattle.std.proofs.Common.{ℕ, ◌≤◌, ◌<◌, ◌≡◌, refl, ◌∙�
 use mathlib.Core.Option.{some}
 use Rattle.std.specs.Prelude.{Some, None}
 use lib.ListN.{length-map}
-use Rattle.tonekit_pack.specs.Pack.{Pst, loaded, read_pack}
-use Rattle.tonekit_expect.specs.Lookup.{Look, look_up, component_of}
-use Rattle.tonekit_expect.specs.Source.{Carried, carried, components, given, source_of_pack}
-use Rattle.tonekit_expect.specs.declared.Context.{Context}
-use Rattle.tonekit_expect.specs.declared.Listing.{Listing}
+use Rattle.spec_pack.specs.Pack.{Pst, loaded, read_pack}
+use Rattle.spec_lookup.specs.Lookup.{Look, look_up, component_of}
+use Rattle.spec_lookup.specs.Source.{Carried, carried, components, given, source_of_pack}
+use Rattle.spec_lookup.specs.declared.Context.{Context}
+use Rattle.spec_lookup.specs.declared.Listing.{Listing}
 use Rattle.tonekit_expect.proofs.Carried.{named, part_number, components_length, components_at}
 use Rattle.tonekit_core.specs.declared.Name.{Name}
-use Rattle.tonekit_judge.specs.Judge.{count_in, name_in}
-use Rattle.tonekit_inventory.specs.Gather.{named_of}
+use Rattle.spec_judgement.specs.Judge.{count_in, name_in}
+use Rattle.spec_judgement.specs.Gather.{named_of}
 use Rattle.tonekit_inventory.proofs.Few.{Few, look_few}
 use Rattle.tonekit_inventory.proofs.Floats.{points_ten}
 use Rattle.tonekit_inventory.proofs.Tones.{listing_named}

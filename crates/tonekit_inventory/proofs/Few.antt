@@ -1,17 +1,17 @@
 -- What a lookup in a pack that loads lists: one to four components that can be read. Assumes nothing.
 use Rattle.std.proofs.Common.{ℕ, ◌+◌, ◌≤◌, ◌<◌, ◌≡◌, refl, sym, ap, ◌∙◌, subst, List, arith, eqb, ltb, length, get_or, ltb-true}
-use Rattle.tonekit_bytes.specs.Fields.{byte_at}
-use Rattle.tonekit_pack.specs.Pack.{Pst, Out, loaded, refused, read_pack, parts_from}
-use Rattle.tonekit_bytes.specs.Places.{number_at, index_of}
+use Rattle.spec_arithmetic.specs.Fields.{byte_at}
+use Rattle.spec_pack.specs.Pack.{Pst, Out, loaded, refused, read_pack, parts_from}
+use Rattle.spec_arithmetic.specs.Places.{number_at, index_of}
 use Rattle.tonekit_pack.specs.declared.Pack.{Pack}
 use Rattle.tonekit_pack.specs.Held.{shown, ReadFrom}
 use Rattle.tonekit_core.proofs.Split.{split}
 use Rattle.tonekit_pack.proofs.Loads.{Loads, loads, firsts_bound, parts_few}
 use Rattle.std.specs.Prelude.{Option, Some, None}
-use Rattle.tonekit_expect.specs.declared.Winner.{Winner}
-use Rattle.tonekit_expect.specs.declared.Context.{Context}
-use Rattle.tonekit_expect.specs.declared.Listing.{Listing}
-use Rattle.tonekit_expect.specs.Lookup.{Found, Look, to_rule, find_rule, rule_listing, citation, listed, look_at, look_up}
+use Rattle.spec_lookup.specs.declared.Winner.{Winner}
+use Rattle.spec_lookup.specs.declared.Context.{Context}
+use Rattle.spec_lookup.specs.declared.Listing.{Listing}
+use Rattle.spec_lookup.specs.Lookup.{Found, Look, to_rule, find_rule, rule_listing, citation, listed, look_at, look_up}
 use Rattle.tonekit_expect.proofs.Walk.{index_found, winner_is}
 use Rattle.tonekit_expect.proofs.Curves.{listed_fine}
 use Rattle.tonekit_inventory.specs.OfPack.{pack_in, Looked}

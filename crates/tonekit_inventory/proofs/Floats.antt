@@ -4,15 +4,15 @@ use lib.Ieee.{nan, binary32, binary64, add, sub, mul, fits}
 use lib.Ieee.Bits.{of_bits-to_bits, of_bits-fits}
 use lib.Ieee.Fits.{nan-fits, cond-fits}
 use Rattle.tonekit_float.proofs.Narrowing.{narrow_fits}
-use Rattle.tonekit_bytes.specs.Fields.{byte_at, u32_at, f32_at}
-use Rattle.tonekit_pack.specs.Ranges.{one_f}
+use Rattle.spec_arithmetic.specs.Fields.{byte_at, u32_at, f32_at}
+use Rattle.spec_pack.specs.Ranges.{one_f}
 use Rattle.tonekit_core.proofs.Split.{split}
-use Rattle.tonekit_expect.specs.Knots.{segment, fraction, on_line, point_at, first_points, expanded, knots_at}
-use Rattle.tonekit_expect.specs.Lookup.{component_of}
-use Rattle.tonekit_expect.specs.Source.{carried}
-use Rattle.tonekit_expect.specs.declared.Listing.{Listing}
-use Rattle.tonekit_expect.specs.declared.Component.{Component}
-use Rattle.tonekit_inventory.specs.Gather.{f32}
+use Rattle.spec_lookup.specs.Knots.{segment, fraction, on_line, point_at, first_points, expanded, knots_at}
+use Rattle.spec_lookup.specs.Lookup.{component_of}
+use Rattle.spec_lookup.specs.Source.{carried}
+use Rattle.spec_lookup.specs.declared.Listing.{Listing}
+use Rattle.spec_lookup.specs.declared.Component.{Component}
+use Rattle.spec_judgement.specs.Gather.{f32}
 
 -- ---- lists of f32s
 data Fit : List Float → Type 0 where

@@ -2,13 +2,13 @@
 use Rattle.std.specs.Prelude.{Option, Some, None}
 use Rattle.std.proofs.Common.{ℕ, zero, suc, ◌+◌, ◌≤◌, ◌<◌, ◌≡◌, refl, List, [], ◌∷◌, ◌++◌, map, length, length-append, get_or, arith, ltb, lt-ltb, true}
 use Rattle.tonekit_core.specs.Loop.{range, again, ended}
-use Rattle.tonekit_expect.specs.Source.{Carried, Source}
-use Rattle.tonekit_expect.specs.declared.Context.{Context}
-use Rattle.tonekit_judge.specs.declared.ToneEntry.{ToneEntry}
-use Rattle.tonekit_judge.specs.declared.Listed.{Listed}
-use Rattle.tonekit_judge.specs.declared.Slots.{Slots}
-use Rattle.tonekit_judge.specs.Judge.{Inventory, listing, no_entry, count_in}
-use Rattle.tonekit_inventory.specs.Gather.{Lists, entry_of, named_of, with_tone, put_in, slotted, no_tone, given_of, in_context, list_tone, listings, no_slots}
+use Rattle.spec_lookup.specs.Source.{Carried, Source}
+use Rattle.spec_lookup.specs.declared.Context.{Context}
+use Rattle.spec_judgement.specs.declared.ToneEntry.{ToneEntry}
+use Rattle.spec_judgement.specs.declared.Listed.{Listed}
+use Rattle.spec_judgement.specs.declared.Slots.{Slots}
+use Rattle.spec_judgement.specs.Judge.{Inventory, listing, no_entry, count_in}
+use Rattle.spec_judgement.specs.Gather.{Lists, entry_of, named_of, with_tone, put_in, slotted, no_tone, given_of, in_context, list_tone, listings, no_slots}
 
 -- ---- a listing's name is that of its first component
 pub first_named : (cs : List Carried) (d : Carried) → 1 ≤ length cs

@@ -4,11 +4,11 @@ use Rattle.std.proofs.lemmas.List.{get_or_push}
 use lib.ListN.{length-map, get_or-append}
 use lib.Seq.{sets, length-sets}
 use Rattle.tonekit_core.proofs.LoopLaws.{range_keeps}
-use Rattle.tonekit_expect.specs.Source.{Tone, Carried, Source}
-use Rattle.tonekit_expect.specs.declared.Context.{Context}
-use Rattle.tonekit_judge.specs.Judge.{Listings, no_entry, entry_at, no_slot, slot_at}
-use Rattle.tonekit_judge.specs.declared.ToneEntry.{ToneEntry}
-use Rattle.tonekit_inventory.specs.Gather.{entry_of, named_of, with_tone, put_in, slot_of, slotted, no_tone, given_of, in_context, list_tone, listings, nothing_yet}
+use Rattle.spec_lookup.specs.Source.{Tone, Carried, Source}
+use Rattle.spec_lookup.specs.declared.Context.{Context}
+use Rattle.spec_judgement.specs.Judge.{Listings, no_entry, entry_at, no_slot, slot_at}
+use Rattle.spec_judgement.specs.declared.ToneEntry.{ToneEntry}
+use Rattle.spec_judgement.specs.Gather.{entry_of, named_of, with_tone, put_in, slot_of, slotted, no_tone, given_of, in_context, list_tone, listings, nothing_yet}
 use Rattle.tonekit_inventory.proofs.Going.{map_at}
 
 -- ---- a run of entries that was set

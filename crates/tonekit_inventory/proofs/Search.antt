@@ -3,17 +3,17 @@ use Rattle.std.proofs.Common.{ℕ, zero, suc, ◌+◌, ◌-◌, ◌<◌, ◌≡�
 use Rattle.std.specs.Prelude.{Some, None}
 use mathlib.Core.Option.{none, some}
 use Rattle.tonekit_core.specs.Loop.{Turn, next, stop, turns_to, range_to}
-use Rattle.tonekit_bytes.specs.Places.{number_at, index_turn, index_of}
+use Rattle.spec_arithmetic.specs.Places.{number_at, index_turn, index_of}
 use Rattle.tonekit_pack.specs.declared.Pack.{Pack}
 use Rattle.tonekit_pack.specs.Held.{shown}
 use Rattle.tonekit_core.proofs.Split.{split}
 use Rattle.tonekit_bytes.proofs.InOrder.{order_length, order_get}
-use Rattle.tonekit_expect.specs.Lookup.{Found}
-use Rattle.tonekit_expect.specs.Source.{Tone, Accent, accent_at, accent_in, tone_in, source_of_pack}
+use Rattle.spec_lookup.specs.Lookup.{Found}
+use Rattle.spec_lookup.specs.Source.{Tone, Accent, accent_at, accent_in, tone_in, source_of_pack}
 use Rattle.tonekit_expect.proofs.Walk.{index_found}
-use Rattle.tonekit_score.specs.declared.Tolerance.{Tolerance}
-use Rattle.tonekit_inventory.specs.Fields.{tolerance_at}
-use Rattle.tonekit_inventory.specs.Gather.{tolerance_of, graded_of}
+use Rattle.spec_judgement.specs.declared.Tolerance.{Tolerance}
+use Rattle.spec_judgement.specs.Fields.{tolerance_at}
+use Rattle.spec_judgement.specs.Gather.{tolerance_of, graded_of}
 
 -- what is said of the record that a search found: hit of its offset, or miss
 abbrev pick : {R : Type 0} → (ℕ → R) → R → List ℕ → Found → R

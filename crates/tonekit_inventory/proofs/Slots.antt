@@ -4,12 +4,12 @@ use Rattle.std.proofs.lemmas.List.{set-append_left, set-append_right, take-appen
 use lib.ListN.{length-map}
 use lib.Seq.{sets}
 use Rattle.tonekit_bytes.proofs.Write.{more}
-use Rattle.tonekit_expect.specs.Lookup.{component_of}
-use Rattle.tonekit_expect.specs.Source.{Carried, carried, components}
-use Rattle.tonekit_expect.specs.declared.Listing.{Listing}
-use Rattle.tonekit_judge.specs.declared.Slot.{Slot}
-use Rattle.tonekit_judge.specs.declared.Slots.{Slots}
-use Rattle.tonekit_inventory.specs.Gather.{slot_of, put_in}
+use Rattle.spec_lookup.specs.Lookup.{component_of}
+use Rattle.spec_lookup.specs.Source.{Carried, carried, components}
+use Rattle.spec_lookup.specs.declared.Listing.{Listing}
+use Rattle.spec_judgement.specs.declared.Slot.{Slot}
+use Rattle.spec_judgement.specs.declared.Slots.{Slots}
+use Rattle.spec_judgement.specs.Gather.{slot_of, put_in}
 use Rattle.tonekit_inventory.proofs.Floats.{weight_back, points_back}
 
 slots_snoc : (cs : List Carried) (c : Carried) → map slot_of (cs ++ (c ∷ [])) ≡ map slot_of cs ++ (slot_of c ∷ [])

@@ -2,16 +2,16 @@
 use Rattle.std.specs.Prelude.{Some, None}
 use Rattle.std.proofs.Common.{ℕ, ◌+◌, ◌≤◌, ◌<◌, ◌≡◌, ap, ◌∙◌, List, [], length, get_or, arith}
 use Rattle.std.proofs.lemmas.List.{length-map}
-use Rattle.tonekit_bytes.specs.Fields.{byte_at, f32_at}
+use Rattle.spec_arithmetic.specs.Fields.{byte_at, f32_at}
 use Rattle.tonekit_pack.specs.declared.Pack.{Pack}
-use Rattle.tonekit_bytes.specs.Places.{in_order}
+use Rattle.spec_arithmetic.specs.Places.{in_order}
 use Rattle.tonekit_bytes.proofs.InOrder.{order_length, order_get}
-use Rattle.tonekit_expect.specs.Source.{Carried, components, tone_at, source_of_pack}
-use Rattle.tonekit_expect.specs.declared.Listing.{Listing}
+use Rattle.spec_lookup.specs.Source.{Carried, components, tone_at, source_of_pack}
+use Rattle.spec_lookup.specs.declared.Listing.{Listing}
 use Rattle.tonekit_expect.proofs.Carried.{named, components_at, components_length}
-use Rattle.tonekit_inventory.specs.Fields.{region_at}
+use Rattle.spec_judgement.specs.Fields.{region_at}
 use Rattle.tonekit_inventory.specs.OfPack.{source_in}
-use Rattle.tonekit_inventory.specs.Gather.{region_of, entry_of, named_of, no_tone}
+use Rattle.spec_judgement.specs.Gather.{region_of, entry_of, named_of, no_tone}
 use Rattle.tonekit_inventory.proofs.Going.{first_named, map_at}
 
 -- ---- a listing's name is that of its first component

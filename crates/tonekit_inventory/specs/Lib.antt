@@ -1,4 +1,1 @@
-pub mod Gather
-pub mod Fields
 pub mod OfPack
-pub mod Bench

@@ -1,13 +1,13 @@
 -- A pack, as what a station holds: the source that it stands for, and what a lookup in it lists.
 use Rattle.std.specs.Prelude.{ℕ, ◌≤◌, ◌<◌, ◌≡◌, List, Option, Some, None, Result, Ok, Err}
 use Rattle.tonekit_core.specs.declared.Rejection.{Rejection}
-use Rattle.tonekit_pack.specs.Pack.{Pst, Out, loaded, refused, load_pack}
+use Rattle.spec_pack.specs.Pack.{Pst, Out, loaded, refused, load_pack}
 use Rattle.tonekit_pack.specs.Held.{shown}
 use Rattle.tonekit_pack.specs.declared.Pack.{Pack}
-use Rattle.tonekit_expect.specs.Lookup as lookup
-use Rattle.tonekit_expect.specs.Lookup.{Look}
-use Rattle.tonekit_expect.specs.Source.{Source, source_of_pack}
-use Rattle.tonekit_expect.specs.declared.Listing.{Listing}
+use Rattle.spec_lookup.specs.Lookup as lookup
+use Rattle.spec_lookup.specs.Lookup.{Look}
+use Rattle.spec_lookup.specs.Source.{Source, source_of_pack}
+use Rattle.spec_lookup.specs.declared.Listing.{Listing}
 
 -- what a pack that was read from these bytes stands for
 abbrev pub source_in : List ℕ → Pack → Source

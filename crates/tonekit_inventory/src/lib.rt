@@ -4,29 +4,20 @@
 
 ghost use Rattle.std.specs.Prelude.{◌≡◌, ◌≤◌, ◌<◌, ℕ, List, Result, None, Ok, Err, IfOk, IfErr, length, get_or};
 ghost use Rattle.tonekit_core.specs.declared.Rejection.{Rejection};
-ghost use Rattle.tonekit_expect.specs.Source.{Source, accent_in, tone_in};
-ghost use Rattle.tonekit_inventory.specs.Fields.{region_at, tolerance_at, settings_at};
-ghost use Rattle.tonekit_inventory.specs.Gather.{entry_of, named_of, given_of, graded_of, settings_of, no_tone, put_in, no_slots, Lists, Gathers};
-ghost use Rattle.tonekit_judge.specs.Judge.{count_in};
+ghost use Rattle.spec_lookup.specs.Source.{Source, accent_in, tone_in};
+ghost use Rattle.spec_judgement.specs.Fields.{region_at, tolerance_at, settings_at};
+ghost use Rattle.spec_judgement.specs.Gather.{entry_of, named_of, given_of, graded_of, settings_of, no_tone, put_in, no_slots, Lists, Gathers};
+ghost use Rattle.spec_judgement.specs.Judge.{count_in};
 
 mod pack;
 
 pub use pack::HeldPack;
+pub use spec_judgement::Gathered;
 use tonekit_bytes::{byte_at, f32_at};
 use tonekit_core::{Rejection, layout};
 use tonekit_expect::Context;
 use tonekit_judge::{Inventory, Listed, Slots, ToneEntry};
 use tonekit_score::{Region, Settings, Tolerance};
-
-// What a query is judged by: whether what stood before is held, or nothing did; the settings, the
-// accent's tolerances, if it is held, and for each tone its listing, if it has one.
-#[derive(Drop)]
-pub struct Gathered {
-    pub prev: bool,
-    pub settings: Settings,
-    pub tolerance: Option<Tolerance>,
-    pub inventory: Inventory,
-}
 
 // What a station holds: some bytes, as those of a pack or of a sheet, with what was read of them. `source` says
 // what it stands for, and `loads` what bytes hold or why they are refused.
@@ -73,7 +64,7 @@ pub trait Held<'a>: Drop {
 }
 
 // The region whose flag stands at an offset, if the flag is not 0; bytes that are not there are 0.
-#[tactic(auto, unfolding(crate::specs::Fields::region_at))]
+#[tactic(auto, unfolding(spec_judgement::specs::Fields::region_at))]
 pub fn region_at(s: &[u8], o: usize) -> Option<Region>
     ensures { result ≡ region_at s.now o }
 {
@@ -99,7 +90,7 @@ pub fn tolerance_at(s: &[u8], o: usize) -> Tolerance
 }
 
 // The settings, which stand first in a pack and in a sheet.
-#[tactic(auto, unfolding(crate::specs::Fields::settings_at))]
+#[tactic(auto, unfolding(spec_judgement::specs::Fields::settings_at))]
 pub fn settings_at(s: &[u8]) -> Settings
     ensures { result ≡ settings_at s.now }
 {

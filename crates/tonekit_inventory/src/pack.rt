@@ -2,10 +2,10 @@
 
 ghost use Rattle.std.specs.Prelude.{◌≡◌, ◌≤◌, ◌<◌, Some};
 ghost use Rattle.std.proofs.Props.{props};
-ghost use Rattle.tonekit_pack.specs.Pack.{read_pack};
+ghost use Rattle.spec_pack.specs.Pack.{read_pack};
 ghost use Rattle.tonekit_pack.specs.Held.{shown};
-ghost use Rattle.tonekit_expect.specs.Source.{components};
-ghost use Rattle.tonekit_inventory.specs.Gather.{put_in};
+ghost use Rattle.spec_lookup.specs.Source.{components};
+ghost use Rattle.spec_judgement.specs.Gather.{put_in};
 ghost use Rattle.tonekit_inventory.specs.OfPack.{source_in, load_source, pack_in, Short};
 
 use crate::Held;

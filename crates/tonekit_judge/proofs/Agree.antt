@@ -1,15 +1,15 @@
 -- A judgement depends on the components that are there, and on no others. Assumes nothing.
 use Rattle.std.proofs.Common.{ℕ, ◌*◌, ◌<◌, ◌≡◌, ap, ◌∙◌, List, length, set, replicate, arith, Float}
-use Rattle.tonekit_score.specs.Score.{zero32, no_mixing, mixture_of, mixture_log, calibrate}
-use Rattle.tonekit_score.specs.declared.Scoring.{Scoring}
-use Rattle.tonekit_score.specs.declared.Mixing.{Mixing}
-use Rattle.tonekit_score.specs.declared.Mixture.{Mixture}
-use Rattle.tonekit_score.specs.declared.Tolerance.{Tolerance}
-use Rattle.tonekit_shape.specs.declared.ToneShape.{ToneShape}
+use Rattle.spec_judgement.specs.Score.{zero32, no_mixing, mixture_of, mixture_log, calibrate}
+use Rattle.spec_judgement.specs.declared.Scoring.{Scoring}
+use Rattle.spec_judgement.specs.declared.Mixing.{Mixing}
+use Rattle.spec_judgement.specs.declared.Mixture.{Mixture}
+use Rattle.spec_judgement.specs.declared.Tolerance.{Tolerance}
+use Rattle.spec_shape.specs.declared.ToneShape.{ToneShape}
 use Rattle.tonekit_core.proofs.LoopLaws.{range_same}
-use Rattle.tonekit_judge.specs.Judge.{Inventory, Targets, Listings, Counted, Placed, Filled, count_at, target_at, cell, component_at, plain_of, judged_of, judged_against, tone_turn, tone_mixing, loglik_at, loglik_turn, logliks, part_turn, part_mixing, target_turn, target_mixing}
-use Rattle.tonekit_judge.specs.declared.Component.{Component}
-use Rattle.tonekit_judge.specs.declared.ToneJudgement.{ToneJudgement}
+use Rattle.spec_judgement.specs.Judge.{Inventory, Targets, Listings, Counted, Placed, Filled, count_at, target_at, cell, component_at, plain_of, judged_of, judged_against, tone_turn, tone_mixing, loglik_at, loglik_turn, logliks, part_turn, part_mixing, target_turn, target_mixing}
+use Rattle.spec_judgement.specs.declared.Component.{Component}
+use Rattle.spec_judgement.specs.declared.ToneJudgement.{ToneJudgement}
 
 module _ (s : Scoring) (i : Inventory) (d e : ℕ → ℕ → Component)
     (same : (t j : ℕ) → t < length i.items → j < count_at i t → d t j ≡ e t j) where

@@ -7,25 +7,25 @@ use lib.Ieee.{fits}
 use lib.Ieee.Bits.{of_bits-fits}
 use Rattle.tonekit_core.specs.Loop.{range}
 use Rattle.tonekit_core.specs.Words.{measured_number}
-use Rattle.tonekit_core.specs.Layout.{f32_size, judgement_size, judgement_loglik, judgement_llr}
+use Rattle.tonekit_core.specs.declared.layout.TheConstants.{F32_SIZE, JUDGEMENT_SIZE, JUDGEMENT_LOGLIK, JUDGEMENT_LLR}
 use Rattle.tonekit_core.proofs.LoopLaws.{range_keeps}
-use Rattle.tonekit_float.specs.Narrow.{narrowed}
+use Rattle.spec_arithmetic.specs.Narrow.{narrowed}
 use Rattle.tonekit_float.proofs.Narrowing.{narrow_fits}
-use Rattle.tonekit_bytes.specs.Fields.{f32_at, f32_bytes, f32s_bytes}
+use Rattle.spec_arithmetic.specs.Fields.{f32_at, f32_bytes, f32s_bytes}
 use Rattle.tonekit_bytes.proofs.Stands.{Stands, stands_whole, stands_first, stands_then, f32_back, floats_stand}
 use Rattle.tonekit_bytes.proofs.Write.{f32s_length}
-use Rattle.tonekit_shape.specs.declared.ToneShape.{ToneShape}
-use Rattle.tonekit_score.specs.Score.{zero32, million, clamp_log, calibrate, scoring_of, mixture_of}
-use Rattle.tonekit_score.specs.declared.Settings.{Settings}
-use Rattle.tonekit_score.specs.declared.Tolerance.{Tolerance}
-use Rattle.tonekit_score.specs.declared.Scoring.{Scoring}
-use Rattle.tonekit_score.specs.declared.Mixture.{Mixture}
-use Rattle.tonekit_score.specs.declared.Mixture.TheVariants.{Scored, Nothing}
+use Rattle.spec_shape.specs.declared.ToneShape.{ToneShape}
+use Rattle.spec_judgement.specs.Score.{zero32, million, clamp_log, calibrate, scoring_of, mixture_of}
+use Rattle.spec_judgement.specs.declared.Settings.{Settings}
+use Rattle.spec_judgement.specs.declared.Tolerance.{Tolerance}
+use Rattle.spec_judgement.specs.declared.Scoring.{Scoring}
+use Rattle.spec_judgement.specs.declared.Mixture.{Mixture}
+use Rattle.spec_judgement.specs.declared.Mixture.TheVariants.{Scored, Nothing}
 use Rattle.tonekit_score.proofs.Bounds.{Bounded, bounded_zero, bounded_lowest, clamp_bounded, clamp_fits}
-use Rattle.tonekit_judge.specs.Judge.{Inventory, Targets, Listings, count_at, component_at, loglik_at, loglik_turn, logliks, target_mixing, llr_of, plain_of, with_best, best_of, judged_of, usable, lowest_turn, not_measured, judgement_of}
-use Rattle.tonekit_judge.specs.Record.{head_bytes, score_bytes, delta_bytes, tail_bytes, judgement_bytes}
-use Rattle.tonekit_judge.specs.declared.Component.{Component}
-use Rattle.tonekit_judge.specs.declared.ToneJudgement.{ToneJudgement}
+use Rattle.spec_judgement.specs.Judge.{Inventory, Targets, Listings, count_at, component_at, loglik_at, loglik_turn, logliks, target_mixing, llr_of, plain_of, with_best, best_of, judged_of, usable, lowest_turn, not_measured, judgement_of}
+use Rattle.spec_judgement.specs.Record.{head_bytes, score_bytes, delta_bytes, tail_bytes, judgement_bytes}
+use Rattle.spec_judgement.specs.declared.Component.{Component}
+use Rattle.spec_judgement.specs.declared.ToneJudgement.{ToneJudgement}
 use Rattle.tonekit_judge.proofs.Cells.{by_bool}
 use Rattle.tonekit_judge.proofs.Parts.{record_length}
 
@@ -123,22 +123,22 @@ module _ (expected tones : ℕ) (j : ToneJudgement) (b : Throughout Bounded j) (
   abbrev behind : List ℕ
   behind = score_bytes j ++ (delta_bytes j.deltas ++ tail_bytes (measured_number j.measured) j.issues)
 
-  floats_there : Stands (judgement_bytes expected tones j) judgement_loglik (f32s_bytes j.loglik ++ behind)
+  floats_there : Stands (judgement_bytes expected tones j) JUDGEMENT_LOGLIK (f32s_bytes j.loglik ++ behind)
   unfolding judgement_bytes
-  floats_there = stands_then (head_bytes expected tones) (f32s_bytes j.loglik ++ behind) judgement_loglik refl (stands_whole _)
+  floats_there = stands_then (head_bytes expected tones) (f32s_bytes j.loglik ++ behind) JUDGEMENT_LOGLIK refl (stands_whole _)
 
-  llr_there : Stands (judgement_bytes expected tones j) judgement_llr (f32_bytes j.llr)
+  llr_there : Stands (judgement_bytes expected tones j) JUDGEMENT_LLR (f32_bytes j.llr)
   unfolding score_bytes
   llr_there =
       stands_first (f32_bytes j.llr) _ (stands_first (score_bytes j) _
-      (stands_then (f32s_bytes j.loglik) behind judgement_llr (omega (arith, f32s_length j.loglik, b.eight)) floats_there))
+      (stands_then (f32s_bytes j.loglik) behind JUDGEMENT_LLR (omega (arith, f32s_length j.loglik, b.eight)) floats_there))
 
-  loglik_bounded : (k : ℕ) → k < length j.loglik → Bounded (f32_at (judgement_bytes expected tones j) (judgement_loglik + f32_size * k))
+  loglik_bounded : (k : ℕ) → k < length j.loglik → Bounded (f32_at (judgement_bytes expected tones j) (JUDGEMENT_LOGLIK + F32_SIZE * k))
   loglik_bounded k l =
       read_bounded (every_at b.logliks k l)
       (f32_back _ (every_at f.logliks k l) (floats_stand j.loglik k l (stands_first (f32s_bytes j.loglik) behind floats_there)))
 
-  llr_bounded : Bounded (f32_at (judgement_bytes expected tones j) judgement_llr)
+  llr_bounded : Bounded (f32_at (judgement_bytes expected tones j) JUDGEMENT_LLR)
   llr_bounded = read_bounded b.llr (f32_back j.llr f.llr llr_there)
 
 -- ---- every judgement, of any shape against anything
@@ -152,11 +152,11 @@ module _ (x : ToneShape) (settings : Settings) (t : Tolerance) (l : Listings) (g
   abbrev bytes : List ℕ
   bytes = judgement_bytes expected tones (judgement_of x settings t l g issues)
 
-  pub judgement_length : length bytes ≡ judgement_size
+  pub judgement_length : length bytes ≡ JUDGEMENT_SIZE
   judgement_length = record_length expected tones _ bounds.eight
 
-  pub loglik_read : (k : ℕ) → k < 8 → Bounded (f32_at bytes (judgement_loglik + f32_size * k))
+  pub loglik_read : (k : ℕ) → k < 8 → Bounded (f32_at bytes (JUDGEMENT_LOGLIK + F32_SIZE * k))
   loglik_read k h = loglik_bounded expected tones _ bounds f32s k (omega (arith, bounds.eight))
 
-  pub llr_read : Bounded (f32_at bytes judgement_llr)
+  pub llr_read : Bounded (f32_at bytes JUDGEMENT_LLR)
   llr_read = llr_bounded expected tones _ bounds f32s

@@ -2,10 +2,10 @@
 use Rattle.std.proofs.Common.{ℕ, ◌+◌, ◌*◌, ◌≤◌, ◌<◌, ◌≡◌, ap, ◌∙◌, Bool, true, false, cond, IfSome, List, length, set, arith, ⊎_elim, eq-or-lt_of_le, get_or-set_same, get_or-set_other}
 use Rattle.std.proofs.Common.{Option, Some, None}
 use Rattle.std.specs.Float.Ieee.{lt}
-use Rattle.tonekit_score.specs.Score.{led}
-use Rattle.tonekit_score.specs.declared.Lead.{Lead}
-use Rattle.tonekit_judge.specs.declared.Component.{Component}
-use Rattle.tonekit_judge.specs.Judge.{Inventory, Filled, count_at, cell}
+use Rattle.spec_judgement.specs.Score.{led}
+use Rattle.spec_judgement.specs.declared.Lead.{Lead}
+use Rattle.spec_judgement.specs.declared.Component.{Component}
+use Rattle.spec_judgement.specs.Judge.{Inventory, Filled, count_at, cell}
 
 pub by_bool : (P : Bool → Type 0) (b : Bool) → P true → P false → P b
 by_bool P true p q = p

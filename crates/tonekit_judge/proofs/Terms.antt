@@ -3,14 +3,14 @@ use Rattle.std.proofs.Common.{ℕ, ◌+◌, ◌*◌, ◌≡◌, refl, cond, Floa
 use Rattle.std.proofs.Common.{Option, Some, None}
 use Rattle.std.specs.Float.{binary32, binary64}
 use Rattle.std.specs.Float.Ieee.{add, mul, le, lt}
-use Rattle.tonekit_log.specs.Log.{ln_of}
-use Rattle.tonekit_score.specs.Score.{zero32, log_of, mixed, mix_turn}
+use Rattle.spec_arithmetic.specs.Log.{ln_of}
+use Rattle.spec_judgement.specs.Score.{zero32, log_of, mixed, mix_turn}
 use Rattle.tonekit_score.specs.Terms.{term_of}
-use Rattle.tonekit_score.specs.declared.Scoring.{Scoring}
-use Rattle.tonekit_score.specs.declared.Mixing.{Mixing}
-use Rattle.tonekit_score.specs.declared.Term.{Term}
-use Rattle.tonekit_judge.specs.declared.Component.{Component}
-use Rattle.tonekit_judge.specs.Judge.{weighed}
+use Rattle.spec_judgement.specs.declared.Scoring.{Scoring}
+use Rattle.spec_judgement.specs.declared.Mixing.{Mixing}
+use Rattle.spec_judgement.specs.declared.Term.{Term}
+use Rattle.spec_judgement.specs.declared.Component.{Component}
+use Rattle.spec_judgement.specs.Judge.{weighed}
 use Rattle.tonekit_judge.specs.Terms.{weighed_term, term_at, either_turn}
 use Rattle.tonekit_judge.proofs.Cells.{by_bool}
 

@@ -4,19 +4,19 @@ use Rattle.std.proofs.Common.{Option, Some, None}
 use Rattle.std.specs.Float.{binary64}
 use Rattle.std.specs.Float.Ieee.{add, lt, le}
 use Rattle.tonekit_core.proofs.LoopLaws.{range_keeps}
-use Rattle.tonekit_log.specs.Log.{ln_of}
-use Rattle.tonekit_score.specs.Score.{zero32, log_of, no_mixing, mixed, mix_turn, mixture_with, mixture_of, scoring_of}
-use Rattle.tonekit_shape.specs.declared.ToneShape.{ToneShape}
-use Rattle.tonekit_score.specs.declared.Settings.{Settings}
-use Rattle.tonekit_score.specs.declared.Tolerance.{Tolerance}
-use Rattle.tonekit_score.specs.declared.Scoring.{Scoring}
-use Rattle.tonekit_score.specs.declared.LogSumExp.{LogSumExp}
-use Rattle.tonekit_score.specs.declared.Lead.{Lead}
-use Rattle.tonekit_score.specs.declared.Mixing.{Mixing}
-use Rattle.tonekit_score.specs.declared.Mixture.TheVariants.{Scored}
-use Rattle.tonekit_judge.specs.Judge.{Inventory, Targets, Listings, Placed, entry_at, count_at, target_at, weighed, part_turn, part_mixing, target_turn, target_mixing, component_at, nearest_at, with_best, judged_of, usable, judgement_of}
-use Rattle.tonekit_judge.specs.declared.Component.{Component}
-use Rattle.tonekit_judge.specs.declared.ToneJudgement.{ToneJudgement}
+use Rattle.spec_arithmetic.specs.Log.{ln_of}
+use Rattle.spec_judgement.specs.Score.{zero32, log_of, no_mixing, mixed, mix_turn, mixture_with, mixture_of, scoring_of}
+use Rattle.spec_shape.specs.declared.ToneShape.{ToneShape}
+use Rattle.spec_judgement.specs.declared.Settings.{Settings}
+use Rattle.spec_judgement.specs.declared.Tolerance.{Tolerance}
+use Rattle.spec_judgement.specs.declared.Scoring.{Scoring}
+use Rattle.spec_judgement.specs.declared.LogSumExp.{LogSumExp}
+use Rattle.spec_judgement.specs.declared.Lead.{Lead}
+use Rattle.spec_judgement.specs.declared.Mixing.{Mixing}
+use Rattle.spec_judgement.specs.declared.Mixture.TheVariants.{Scored}
+use Rattle.spec_judgement.specs.Judge.{Inventory, Targets, Listings, Placed, entry_at, count_at, target_at, weighed, part_turn, part_mixing, target_turn, target_mixing, component_at, nearest_at, with_best, judged_of, usable, judgement_of}
+use Rattle.spec_judgement.specs.declared.Component.{Component}
+use Rattle.spec_judgement.specs.declared.ToneJudgement.{ToneJudgement}
 use Rattle.tonekit_judge.proofs.Cells.{by_bool, led_keeps}
 
 -- a slot that is component j of tone t

@@ -1,4 +1,1 @@
-pub mod Judge
 pub mod Terms
-pub mod Record
-pub mod Bench

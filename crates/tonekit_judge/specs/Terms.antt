@@ -3,13 +3,13 @@ use Rattle.std.specs.Prelude.{ℕ, cond, Option, Some, None, Float}
 use Rattle.std.specs.Float.{binary32}
 use Rattle.std.specs.Float.Ieee.{mul, lt}
 use Rattle.tonekit_core.specs.Loop.{range}
-use Rattle.tonekit_score.specs.Score.{zero32}
+use Rattle.spec_judgement.specs.Score.{zero32}
 use Rattle.tonekit_score.specs.Terms.{term_of}
-use Rattle.tonekit_score.specs.declared.Scoring.{Scoring}
-use Rattle.tonekit_score.specs.declared.Mixing.{Mixing}
-use Rattle.tonekit_score.specs.declared.Term.{Term}
-use Rattle.tonekit_judge.specs.declared.Component.{Component}
-use Rattle.tonekit_judge.specs.Judge.{tone_turn, part_turn}
+use Rattle.spec_judgement.specs.declared.Scoring.{Scoring}
+use Rattle.spec_judgement.specs.declared.Mixing.{Mixing}
+use Rattle.spec_judgement.specs.declared.Term.{Term}
+use Rattle.spec_judgement.specs.declared.Component.{Component}
+use Rattle.spec_judgement.specs.Judge.{tone_turn, part_turn}
 
 -- one turn of `mixed_terms`: with the weights as they stand, or each times a share
 abbrev pub either_turn : Scoring → (ℕ → ℕ → Component) → ℕ → Option Float → ℕ → Mixing → Mixing

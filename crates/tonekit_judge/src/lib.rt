@@ -5,101 +5,24 @@
 ghost use Rattle.std.specs.Prelude.{◌≡◌, IfSome, ◌*◌, ◌≤◌, ◌<◌, length};
 ghost use Rattle.std.specs.List.{list_all};
 ghost use Rattle.std.specs.Float.Ieee.Scale.{finite};
-ghost use Rattle.tonekit_judge.specs.Judge.{Counted, Placed, Filled, count_in, name_in, entry_at, listing, cell, component_at};
-ghost use Rattle.tonekit_judge.specs.Judge.{tone_mixing, loglik_at, logliks, score_of, ranking_of, heard_of};
-ghost use Rattle.tonekit_judge.specs.Judge.{part_mixing, target_mixing, llr_of, measured_of, plain_of};
-ghost use Rattle.tonekit_judge.specs.Judge.{distance_from, advice_of, part_of, nearest_at, judged_against};
-ghost use Rattle.tonekit_judge.specs.Judge.{usable, not_measured, judgement_of};
+ghost use Rattle.spec_judgement.specs.Judge.{Counted, Placed, Filled, count_in, name_in, entry_at, listing, cell, component_at};
+ghost use Rattle.spec_judgement.specs.Judge.{tone_mixing, loglik_at, logliks, score_of, ranking_of, heard_of};
+ghost use Rattle.spec_judgement.specs.Judge.{part_mixing, target_mixing, llr_of, measured_of, plain_of};
+ghost use Rattle.spec_judgement.specs.Judge.{distance_from, advice_of, part_of, nearest_at, judged_against};
+ghost use Rattle.spec_judgement.specs.Judge.{usable, not_measured, judgement_of};
 ghost use Rattle.tonekit_judge.specs.Terms.{weighed_term, term_at, mixed_terms};
 
 pub mod record;
 
 use arrayvec::ArrayVec;
+pub use spec_judgement::{
+    Component, Inventory, Listed, Nearest, Ranking, Slot, Slots, Target, Targets, ToneEntry,
+    ToneJudgement,
+};
 use tonekit_core::{MeasureIssue, Measured, Name, layout};
 use tonekit_deltas::Deltas;
 use tonekit_score::{Lead, LogSumExp, Mixing, Mixture, Region, Scoring, Settings, Term, Tolerance};
 use tonekit_shape::ToneShape;
-
-// The tones so far: the background's sum, and the tone with the greatest score, if there is one.
-#[derive(Clone, Copy)]
-pub struct Ranking {
-    pub background: LogSumExp,
-    pub top: Option<Lead>,
-}
-
-// What was looked up for a tone: the name of its components, and how many they are.
-#[derive(Clone, Copy)]
-pub struct Listed {
-    pub name: Name,
-    pub count: u8,
-}
-
-// A tone that is judged against: its number, its prior and its region, and what was looked up for it,
-// if anything was.
-#[derive(Clone, Copy, Default)]
-pub struct ToneEntry {
-    pub number: u8,
-    pub prior: f32,
-    pub region: Option<Region>,
-    pub listing: Option<Listed>,
-}
-
-// The tones that are judged against, in pack order; the components of tone t stand in the slots from
-// 4 * t on.
-pub type Inventory = ArrayVec<ToneEntry, 8>;
-
-// A component: its weight and its ten points.
-#[derive(Clone, Copy)]
-pub struct Slot {
-    pub weight: f32,
-    pub points: [f32; 10],
-}
-
-// The components' slots.
-// Stays: fixed memory; `Carries` of tonekit_demand says that component j of tone t stands at 4 * t + j.
-#[derive(Drop)]
-pub struct Slots {
-    pub list: [Slot; 32],
-}
-
-// A tone that a target may be: its place in the inventory, and its weight.
-#[derive(Clone, Copy, Default)]
-pub struct Target {
-    pub place: u8,
-    pub weight: f32,
-}
-
-// The tones that a target may be: the main tone first, then the variants.
-pub type Targets = ArrayVec<Target, 5>;
-
-// The target's best component: its distance, its name, and its part of a mixture.
-#[derive(Clone, Copy)]
-pub struct Nearest {
-    pub distance: f32,
-    pub name: Name,
-    pub part: u8,
-}
-
-// A judgement, as in the Rust, with the number of the tone that is heard, if one is.
-// Stays: `loglik` is eight numbers beside the inventory's count, as the record has all eight.
-#[derive(Clone, Copy)]
-pub struct ToneJudgement {
-    pub loglik: [f32; 8],
-    pub llr: f32,
-    pub nearest: Option<Nearest>,
-    pub heard: Option<u8>,
-    pub deltas: Deltas,
-    pub measured: Measured,
-    pub issues: u16,
-}
-
-// What a component brings to mixtures: its weight, and its squared distance from the shape.
-// Stays: tonekit_expect's Component is a curve with its name, and has no field in common but the weight.
-#[derive(Clone, Copy)]
-struct Component {
-    weight: f32,
-    distance: f64,
-}
 
 // What mixtures are made of: how a judgement scores, and each slot's component.
 #[derive(Drop)]
@@ -108,25 +31,23 @@ struct Components {
     list: [Component; 32],
 }
 
-impl ToneEntry {
-    // How many components were looked up for the tone.
-    pub fn count(&self) -> usize
-        ensures { result ≡ count_in self.now.listing }
-    {
-        match self.listing {
-            Some(l) => usize::from(l.count),
-            None => 0,
-        }
+// How many components were looked up for the tone.
+pub fn count_of(entry: &ToneEntry) -> usize
+    ensures { result ≡ count_in entry.now.listing }
+{
+    match entry.listing {
+        Some(l) => usize::from(l.count),
+        None => 0,
     }
+}
 
-    // Their name; where there are none, zeros.
-    fn name(&self) -> Name
-        ensures { result ≡ name_in self.now.listing }
-    {
-        match self.listing {
-            Some(l) => l.name,
-            None => NO_NAME,
-        }
+// Their name; where there are none, zeros.
+fn name_of(entry: &ToneEntry) -> Name
+    ensures { result ≡ name_in entry.now.listing }
+{
+    match entry.listing {
+        Some(l) => l.name,
+        None => NO_NAME,
     }
 }
 
@@ -144,7 +65,7 @@ fn all_finite(xs: &[f32; 10]) -> bool
 }
 
 // Whether every number of a shape that is scored is finite.
-#[tactic(auto, using(crate::proofs::Ten::first_ten), unfolding(crate::specs::Judge::usable))]
+#[tactic(auto, using(crate::proofs::Ten::first_ten), unfolding(spec_judgement::specs::Judge::usable))]
 fn usable(x: ToneShape) -> bool
     ensures { result ≡ usable x }
 {
@@ -164,7 +85,7 @@ fn fill(x: ToneShape, s: Scoring, inventory: &Inventory, slots: &Slots) -> [Comp
     let mut list = [none; 32];
     for (t, entry) in inventory.iter().enumerate() {
         // Stays: j is a place in two lists from 4 * t on; a zip would cut both by the same range first, two lines more than this index.
-        for j in 0..entry.count() {
+        for j in 0..count_of(entry) {
             let slot = slots.list[4 * t + j];
             list[4 * t + j] = Component {
                 weight: slot.weight,
@@ -199,7 +120,7 @@ fn ranking_of(inventory: &Inventory, ll: &[f32; 8]) -> Ranking
         × IfSome result.top (λ top. top.index < length inventory.now.items) }
 {
     let mut r = Ranking {
-        background: LogSumExp::empty(),
+        background: tonekit_score::empty(),
         top: None,
     };
     for (t, entry) in inventory.iter().enumerate() {
@@ -216,13 +137,13 @@ fn ranking_of(inventory: &Inventory, ll: &[f32; 8]) -> Ranking
 }
 
 // The number of the top tone, where its posterior reaches the threshold.
-#[tactic(auto, unfolding(crate::specs::Judge::heard_of))]
+#[tactic(auto, unfolding(spec_judgement::specs::Judge::heard_of))]
 fn heard_of(inventory: &Inventory, threshold: f32, r: Ranking) -> Option<u8>
     requires { IfSome r.top (λ top. top.index < length inventory.now.items) }
     ensures { result ≡ heard_of inventory.now threshold r }
 {
     let top = r.top?;
-    let posterior = tonekit_log::exp(top.score - r.background.value());
+    let posterior = tonekit_log::exp(top.score - tonekit_score::value_of(r.background));
     if f64::from(threshold) <= posterior {
         return Some(inventory[top.index].number);
     }
@@ -230,12 +151,12 @@ fn heard_of(inventory: &Inventory, threshold: f32, r: Ranking) -> Option<u8>
 }
 
 // The target against the background, both calibrated.
-#[tactic(auto, unfolding(crate::specs::Judge::llr_of))]
+#[tactic(auto, unfolding(spec_judgement::specs::Judge::llr_of))]
 fn llr_of(s: Scoring, m: Mixture, background: LogSumExp) -> f32
     ensures { result ≡ llr_of s m background }
 {
     let target = f64::from(tonekit_score::calibrate(s, tonekit_score::mixture_log(m)));
-    tonekit_score::clamp_log(target - background.value())
+    tonekit_score::clamp_log(target - tonekit_score::value_of(background))
 }
 
 // How far a usable shape is measured.
@@ -284,7 +205,7 @@ impl Components {
     }
 
     // The mixture of the n components of tone t.
-    #[tactic(auto, unfolding(crate::specs::Judge::tone_mixing, crate::specs::Terms::mixed_terms))]
+    #[tactic(auto, unfolding(spec_judgement::specs::Judge::tone_mixing, crate::specs::Terms::mixed_terms))]
     fn tone_mixing(&self, n: usize, t: usize) -> Mixing
         requires { (t < 8) × (n ≤ 4) }
         ensures { result ≡ tone_mixing self.now.scoring (cell self.now.list) n t }
@@ -293,7 +214,7 @@ impl Components {
     }
 
     // The calibrated log-likelihood under tone t, which has n components.
-    #[tactic(auto, unfolding(crate::specs::Judge::loglik_at))]
+    #[tactic(auto, unfolding(spec_judgement::specs::Judge::loglik_at))]
     fn loglik_at(&self, n: usize, t: usize) -> f32
         requires { (t < 8) × (n ≤ 4) }
         ensures { result ≡ loglik_at self.now.scoring (cell self.now.list) n t }
@@ -309,13 +230,13 @@ impl Components {
     {
         let mut ll = [0.0f32; 8];
         for (t, entry) in inventory.iter().enumerate() {
-            ll[t] = self.loglik_at(entry.count(), t);
+            ll[t] = self.loglik_at(count_of(entry), t);
         }
         ll
     }
 
     // The mixture with the n components of tone t, weighed.
-    #[tactic(auto, unfolding(crate::specs::Judge::part_mixing, crate::specs::Terms::mixed_terms))]
+    #[tactic(auto, unfolding(spec_judgement::specs::Judge::part_mixing, crate::specs::Terms::mixed_terms))]
     fn part_mixing(&self, before: Mixing, n: usize, t: usize, weight: f32) -> Mixing
         requires { (t < 8) × (n ≤ 4) }
         ensures { result ≡ part_mixing self.now.scoring (cell self.now.list) n t weight before }
@@ -331,13 +252,13 @@ impl Components {
         let mut m = tonekit_score::no_mixing();
         for target in g.iter() {
             let t = usize::from(target.place);
-            m = self.part_mixing(m, inventory[t].count(), t, target.weight);
+            m = self.part_mixing(m, count_of(&inventory[t]), t, target.weight);
         }
         m
     }
 
     // What is said of a usable shape where the target has no best component.
-    #[tactic(auto, unfolding(crate::specs::Judge::plain_of))]
+    #[tactic(auto, unfolding(spec_judgement::specs::Judge::plain_of))]
     fn plain_of(
         &self,
         threshold: f32,
@@ -363,7 +284,7 @@ impl Components {
 }
 
 // The distance of the best component, whose square is given.
-#[tactic(auto, unfolding(crate::specs::Judge::distance_from))]
+#[tactic(auto, unfolding(spec_judgement::specs::Judge::distance_from))]
 fn distance_from(d2: f64) -> f32
     ensures { result ≡ distance_from d2 }
 {
@@ -371,7 +292,7 @@ fn distance_from(d2: f64) -> f32
 }
 
 // The advice against a component of these points.
-#[tactic(auto, unfolding(crate::specs::Judge::advice_of))]
+#[tactic(auto, unfolding(spec_judgement::specs::Judge::advice_of))]
 fn advice_of(x: ToneShape, s: Scoring, t: Tolerance, points: &[f32; 10], issues: u16) -> Deltas
     ensures { result ≡ advice_of x s t points.now issues }
 {
@@ -384,7 +305,7 @@ fn advice_of(x: ToneShape, s: Scoring, t: Tolerance, points: &[f32; 10], issues:
 
 // The place of a slot's component in its rule, where that is a mixture.
 // Stays: beside tonekit_expect's `part_number`; this takes a slot and has the definition `part_of`, that a part's place.
-#[tactic(auto, unfolding(crate::specs::Judge::part_of))]
+#[tactic(auto, unfolding(spec_judgement::specs::Judge::part_of))]
 fn part_of(name: Name, slot: usize) -> u8
     ensures { result ≡ part_of name slot }
 {
@@ -395,11 +316,11 @@ fn part_of(name: Name, slot: usize) -> u8
 }
 
 // What is said of the best component, which stands at a slot of that entry.
-#[tactic(auto, unfolding(crate::specs::Judge::nearest_at))]
+#[tactic(auto, unfolding(spec_judgement::specs::Judge::nearest_at))]
 fn nearest_at(entry: &ToneEntry, slot: usize, d2: f64) -> Nearest
     ensures { result ≡ nearest_at entry.now slot d2 }
 {
-    let name = entry.name();
+    let name = name_of(entry);
     Nearest {
         distance: distance_from(d2),
         name,
@@ -458,7 +379,7 @@ fn not_measured(tones: usize) -> ToneJudgement
 
 // The judgement of a shape against a target, whose tones are of the inventory, as whoever gathered them
 // has made them; there is no judgement of others.
-#[tactic(auto, unfolding(crate::specs::Judge::judgement_of))]
+#[tactic(auto, unfolding(spec_judgement::specs::Judge::judgement_of))]
 pub fn judge(
     x: ToneShape,
     settings: Settings,

@@ -1,8 +1,8 @@
 // The record of a judgement, kind 49.
 ghost use Rattle.std.specs.Prelude.{◌≡◌, ◌+◌, ◌≤◌, is_some, unwrap_or, length};
 ghost use Rattle.std.proofs.lemmas.List.Edits.{sets};
-ghost use Rattle.tonekit_core.specs.Layout.{judgement_llr, judgement_distanced, judgement_delta_count, judgement_measured, delta_size};
-ghost use Rattle.tonekit_judge.specs.Record.{kind_of, amount_of, delta_count, head_bytes, one_if, no_nearest, nearest_bytes, score_bytes, one_bytes, delta_bytes, tail_bytes, judgement_bytes};
+ghost use Rattle.tonekit_core.specs.declared.layout.TheConstants.{JUDGEMENT_LLR, JUDGEMENT_DISTANCED, JUDGEMENT_DELTA_COUNT, JUDGEMENT_MEASURED, DELTA_SIZE};
+ghost use Rattle.spec_judgement.specs.Record.{kind_of, amount_of, delta_count, head_bytes, one_if, no_nearest, nearest_bytes, score_bytes, one_bytes, delta_bytes, tail_bytes, judgement_bytes};
 ghost use Rattle.tonekit_core.specs.Words.{measured_number};
 
 use crate::{NO_NAME, Nearest, ToneJudgement};
@@ -17,7 +17,7 @@ const NO_NEAREST: Nearest = Nearest {
 };
 
 // The number of a delta's kind, 0 where there is none.
-#[tactic(auto, unfolding(crate::specs::Record::kind_of))]
+#[tactic(auto, unfolding(spec_judgement::specs::Record::kind_of))]
 fn kind_of(d: Option<Delta>) -> u8
     ensures { result ≡ kind_of d }
 {
@@ -28,7 +28,7 @@ fn kind_of(d: Option<Delta>) -> u8
 }
 
 // A delta's amount, 0 where there is none.
-#[tactic(auto, unfolding(crate::specs::Record::amount_of))]
+#[tactic(auto, unfolding(spec_judgement::specs::Record::amount_of))]
 fn amount_of(d: Option<Delta>) -> f32
     ensures { result ≡ amount_of d }
 {
@@ -39,7 +39,7 @@ fn amount_of(d: Option<Delta>) -> f32
 }
 
 // How many deltas there are.
-#[tactic(auto, unfolding(crate::specs::Record::delta_count))]
+#[tactic(auto, unfolding(spec_judgement::specs::Record::delta_count))]
 fn delta_count(ds: Deltas) -> u8
     ensures { result ≡ delta_count ds }
 {
@@ -56,9 +56,9 @@ fn put_head(out: &mut [u8; layout::JUDGEMENT_SIZE], expected: u8, tones: u8)
 }
 
 // Writes what is said of the best component, behind a flag.
-#[tactic(auto, unfolding(crate::specs::Record::nearest_bytes))]
+#[tactic(auto, unfolding(spec_judgement::specs::Record::nearest_bytes))]
 fn put_nearest(out: &mut [u8; layout::JUDGEMENT_SIZE], nearest: Option<Nearest>)
-    ensures { out.new ≡ sets out.old judgement_distanced (nearest_bytes (one_if (is_some nearest)) (unwrap_or nearest no_nearest)) }
+    ensures { out.new ≡ sets out.old JUDGEMENT_DISTANCED (nearest_bytes (one_if (is_some nearest)) (unwrap_or nearest no_nearest)) }
 {
     let n = nearest.unwrap_or(NO_NEAREST);
     tonekit_bytes::put_u8(
@@ -74,9 +74,9 @@ fn put_nearest(out: &mut [u8; layout::JUDGEMENT_SIZE], nearest: Option<Nearest>)
 }
 
 // Writes llr, the best component and heard.
-#[tactic(auto, unfolding(crate::specs::Record::score_bytes, crate::specs::Record::nearest_bytes))]
+#[tactic(auto, unfolding(spec_judgement::specs::Record::score_bytes, spec_judgement::specs::Record::nearest_bytes))]
 fn put_scores(out: &mut [u8; layout::JUDGEMENT_SIZE], j: ToneJudgement)
-    ensures { out.new ≡ sets out.old judgement_llr (score_bytes j) }
+    ensures { out.new ≡ sets out.old JUDGEMENT_LLR (score_bytes j) }
 {
     tonekit_bytes::put_f32(out, layout::JUDGEMENT_LLR, j.llr);
     put_nearest(out, j.nearest);
@@ -85,7 +85,7 @@ fn put_scores(out: &mut [u8; layout::JUDGEMENT_SIZE], j: ToneJudgement)
 
 // Writes a delta's kind and amount at an index.
 fn put_delta(out: &mut [u8], at: usize, d: Option<Delta>)
-    requires { at + delta_size ≤ length out.old }
+    requires { at + DELTA_SIZE ≤ length out.old }
     ensures { out.new ≡ sets out.old at (one_bytes d) }
 {
     tonekit_bytes::put_u8(out, at, kind_of(d));
@@ -93,9 +93,9 @@ fn put_delta(out: &mut [u8], at: usize, d: Option<Delta>)
 }
 
 // Writes the count of deltas, and the two.
-#[tactic(auto, unfolding(crate::specs::Record::delta_bytes, crate::specs::Record::one_bytes))]
+#[tactic(auto, unfolding(spec_judgement::specs::Record::delta_bytes, spec_judgement::specs::Record::one_bytes))]
 fn put_deltas(out: &mut [u8; layout::JUDGEMENT_SIZE], ds: Deltas)
-    ensures { out.new ≡ sets out.old judgement_delta_count (delta_bytes ds) }
+    ensures { out.new ≡ sets out.old JUDGEMENT_DELTA_COUNT (delta_bytes ds) }
 {
     tonekit_bytes::put_u8(out, layout::JUDGEMENT_DELTA_COUNT, delta_count(ds));
     put_delta(out, layout::JUDGEMENT_FIRST_DELTA, ds.first);
@@ -104,7 +104,7 @@ fn put_deltas(out: &mut [u8; layout::JUDGEMENT_SIZE], ds: Deltas)
 
 // Writes measured and issues.
 fn put_tail(out: &mut [u8; layout::JUDGEMENT_SIZE], measured: Measured, issues: u16)
-    ensures { out.new ≡ sets out.old judgement_measured (tail_bytes (measured_number measured) issues) }
+    ensures { out.new ≡ sets out.old JUDGEMENT_MEASURED (tail_bytes (measured_number measured) issues) }
 {
     tonekit_bytes::put_u8(out, layout::JUDGEMENT_MEASURED, u8::from(measured));
     tonekit_bytes::put_u16(out, layout::JUDGEMENT_ISSUES, issues);

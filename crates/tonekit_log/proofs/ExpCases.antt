@@ -8,8 +8,8 @@ use Rattle.tonekit_float.proofs.Units.{unique}
 use Rattle.tonekit_float.proofs.NarrowRound.{L}
 use Rattle.tonekit_float.proofs.Order.{yes}
 use Rattle.tonekit_float.proofs.Patterns.{power_value}
-use Rattle.tonekit_log.specs.Constants.{LN2, bound}
-use Rattle.tonekit_log.specs.Exp.{exp_series, turns, floor_of, exp_by, exp_of}
+use Rattle.spec_arithmetic.specs.Constants.{LN2, bound}
+use Rattle.spec_arithmetic.specs.Exp.{exp_series, turns, floor_of, exp_by, exp_of}
 
 fits_up : (k : ℕ) → k ≤ 1023 → T (fits binary64 (fin false 1 (pos k)))
 unfolding fits

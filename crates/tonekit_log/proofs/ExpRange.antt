@@ -7,17 +7,17 @@ use lib.Ieee.Exact.{HasValue, round_exact}
 use lib.Ieee.Fits.{and_l, and_r, down_pos, round-fits}
 use lib.Ieee.Positive.{den, den_pos, positive}
 use lib.Ieee.Scale.{finite}
-use Rattle.tonekit_float.specs.Bounds.{In, Within, plus, minus}
+use Rattle.spec_arithmetic.specs.Bounds.{In, Within, plus, minus}
 use Rattle.tonekit_float.proofs.Size.{within_lit, within_whole, within_neg, within_more, within_mul}
 use Rattle.tonekit_float.proofs.Order.{yes, lt→le, le→under, under→le, neg_finite, flipped, le_trans_float}
 use Rattle.tonekit_float.proofs.Monotone.{Rounds, zero_f, add_rounds, mul_rounds, mul_comm_float}
 use Rattle.tonekit_float.proofs.Bounds.{in_wider, in_add, in_mul, in_div, in_scale, finite4, about0}
 use Rattle.tonekit_float.proofs.Exact.{rounds_under, rounds_over, whole, whole_worth}
-use Rattle.tonekit_log.specs.Constants.{LN2, LOG2E, half, one, bound, num}
+use Rattle.spec_arithmetic.specs.Constants.{LN2, LOG2E, half, one, bound, num}
 use Rattle.tonekit_log.proofs.Powers.{minus_is}
 use Rattle.tonekit_log.proofs.Turns.{inside, keeps, v_finite, times_finite, turns_finite, no_deeper}
 use Rattle.tonekit_log.proofs.ExpCases.{exp_is, low_result}
-use Rattle.tonekit_log.specs.Exp.{steps, exp_series, turns, rest, floor_of, exp_by, exp_of}
+use Rattle.spec_arithmetic.specs.Exp.{steps, exp_series, turns, rest, floor_of, exp_by, exp_of}
 
 -- ---- -n / 2 ^ b, exactly
 shl_lt : (n c : ℕ) → n < 2 ^ 53 → c ≤ 1074 → n * 2 ^ c < 2 ^ 2098

@@ -7,7 +7,7 @@ use lib.Ieee.Exact.{HasValue}
 use Rattle.tonekit_float.proofs.Order.{yes, no, either_ge}
 use Rattle.tonekit_float.proofs.Exact.{whole_value}
 use Rattle.tonekit_float.proofs.Monotone.{zero_f}
-use Rattle.tonekit_log.specs.Exp.{floor_of}
+use Rattle.spec_arithmetic.specs.Exp.{floor_of}
 
 -- ---- quotients
 quotient : (N D q : ℕ) → 0 < D → q * D ≤ N → N < (q + 1) * D → N / D ≡ q

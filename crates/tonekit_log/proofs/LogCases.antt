@@ -3,8 +3,8 @@ use Rattle.std.proofs.Common.{◌≡◌, ℕ, suc, ◌*◌, ◌/◌, ◌^◌, tr
 use lib.Ieee.{nan, inf, fin, up, down, binary64, fits, unlike, mul, lt, eq, is_nan}
 use Rattle.tonekit_float.proofs.Monotone.{zero_f}
 use Rattle.tonekit_float.proofs.Signs as signs
-use Rattle.tonekit_log.specs.declared.Parts.{Parts}
-use Rattle.tonekit_log.specs.Log.{parts_of, centred, scaled, log_by, ln_at, log2_at, ln_of, log2_of}
+use Rattle.spec_arithmetic.specs.declared.Parts.{Parts}
+use Rattle.spec_arithmetic.specs.Log.{parts_of, centred, scaled, log_by, ln_at, log2_at, ln_of, log2_of}
 use Rattle.tonekit_log.proofs.PartsOf.{scaled_is}
 use Rattle.tonekit_float.proofs.Narrowing.{round_number}
 

@@ -7,8 +7,8 @@ use lib.Ieee.Fits.{and_l, and_r}
 use lib.Ieee.Order.{round_mono}
 use lib.Ieee.Positive.{den, den_pos}
 use lib.Ieee.Scale.{finite}
-use Rattle.tonekit_float.specs.Bounds as bounds
-use Rattle.tonekit_float.specs.Bounds.{In, Within, plus}
+use Rattle.spec_arithmetic.specs.Bounds as bounds
+use Rattle.spec_arithmetic.specs.Bounds.{In, Within, plus}
 use Rattle.tonekit_float.proofs.Units.{size_gt}
 use Rattle.tonekit_float.proofs.Order.{yes, le→under, neg_le, lt→le, not-lt→le, le_refl_finite, le_trans_float}
 use Rattle.tonekit_float.proofs.Monotone.{zero_f, mul_le_left, mul_comm_float, div_rounds, plus_pos}
@@ -17,9 +17,9 @@ use Rattle.tonekit_float.proofs.Exact.{rounds_under, rounds_over, whole, whole_l
 use Rattle.tonekit_float.proofs.Size.{within_lit, in_within}
 use Rattle.tonekit_float.proofs.Patterns.{units_in, units_pos, units_lt}
 use Rattle.tonekit_float.proofs.Signs as signs
-use Rattle.tonekit_log.specs.declared.Parts.{Parts}
-use Rattle.tonekit_log.specs.Constants.{LN2, LOG2E, ROOT2, half, one, two}
-use Rattle.tonekit_log.specs.Log.{recip, steps, ratio, series, parts_of, centred, ln_at, log2_at, log_by}
+use Rattle.spec_arithmetic.specs.declared.Parts.{Parts}
+use Rattle.spec_arithmetic.specs.Constants.{LN2, LOG2E, ROOT2, half, one, two}
+use Rattle.spec_arithmetic.specs.Log.{recip, steps, ratio, series, parts_of, centred, ln_at, log2_at, log_by}
 use Rattle.tonekit_log.proofs.Powers.{minus_is, from_above}
 use Rattle.tonekit_log.proofs.LogCases.{number_is}
 

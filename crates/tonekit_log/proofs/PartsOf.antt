@@ -11,9 +11,9 @@ use lib.Ieee.Back.{round_whole}
 use lib.Ieee.Exact.{HasValue, round_exact}
 use lib.Ieee.Positive.{mul_at, positive_of_value}
 use lib.Ieee.Scale.{round_same}
-use Rattle.tonekit_log.specs.declared.Parts.{Parts}
-use Rattle.tonekit_log.specs.Constants.{num, scale, least}
-use Rattle.tonekit_log.specs.Log.{fields, parts_of, scaled}
+use Rattle.spec_arithmetic.specs.declared.Parts.{Parts}
+use Rattle.spec_arithmetic.specs.Constants.{num, scale, least}
+use Rattle.spec_arithmetic.specs.Log.{fields, parts_of, scaled}
 use Rattle.tonekit_float.proofs.Units.{units_value, unique, opened, sub_at, size_gt}
 use Rattle.tonekit_float.proofs.NarrowRound.{L}
 use Rattle.tonekit_float.proofs.Exact.{whole_value}

@@ -13,10 +13,10 @@ use Rattle.tonekit_float.proofs.Order.{neg_le, neg_finite}
 use Rattle.tonekit_float.proofs.Monotone.{Rounds, above, under, zero_f, add_rounds, mul_le_left, round_neg}
 use Rattle.tonekit_float.proofs.Exact.{round_own, whole, whole_le}
 use Rattle.tonekit_float.proofs.Size.{within_whole, within_neg, within_mul, within_lit}
-use Rattle.tonekit_float.specs.Bounds.{Within}
-use Rattle.tonekit_log.specs.declared.Parts.{Parts}
-use Rattle.tonekit_log.specs.Constants.{LN2, LOG2E, one}
-use Rattle.tonekit_log.specs.Log.{Exponent, parts_of, centred, series, ln_at, log2_at, log_by}
+use Rattle.spec_arithmetic.specs.Bounds.{Within}
+use Rattle.spec_arithmetic.specs.declared.Parts.{Parts}
+use Rattle.spec_arithmetic.specs.Constants.{LN2, LOG2E, one}
+use Rattle.spec_arithmetic.specs.Log.{Exponent, parts_of, centred, series, ln_at, log2_at, log_by}
 use Rattle.tonekit_log.proofs.PartsOf.{parts_of_is, shift_minus}
 use Rattle.tonekit_log.proofs.LogCases.{number_is}
 

@@ -4,12 +4,12 @@ use native.Mathlib.Nat.{div-eq_of_lt, min-eq_left}
 use lib.Ieee.{nan, inf, fin, binary64, up, down, round, neg, add, mul, lt, le, eq, is_nan, of_bits, to_unsigned}
 use lib.Ieee.Fits.{down_pos, and_l, and_r}
 use lib.Ieee.Scale.{finite}
-use Rattle.tonekit_float.specs.Bounds.{In}
+use Rattle.spec_arithmetic.specs.Bounds.{In}
 use Rattle.tonekit_float.proofs.Order.{no, le→under, not-lt→le}
 use Rattle.tonekit_float.proofs.Monotone.{zero_f, mul_le_left, add_le}
 use Rattle.tonekit_float.proofs.Bounds.{in_finite, in_wider}
-use Rattle.tonekit_log.specs.Constants.{LOG2E, half, bound}
-use Rattle.tonekit_log.specs.Exp.{turns, floor_of}
+use Rattle.spec_arithmetic.specs.Constants.{LOG2E, half, bound}
+use Rattle.spec_arithmetic.specs.Exp.{turns, floor_of}
 
 -- ---- v
 bound_finite : T (finite bound) × T (finite (neg bound))

@@ -1,4 +1,0 @@
-pub mod Constants
-pub mod Log
-pub mod Exp
-pub mod Bench

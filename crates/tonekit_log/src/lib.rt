@@ -4,21 +4,15 @@
 
 ghost use Rattle.std.specs.Prelude.{◌≡◌, ◌<◌, ◌≤◌, ◌≤ℤ◌, true, false, not, T, pos, neg_ℤ};
 ghost use Rattle.std.specs.Float.Ieee as Ieee;
-ghost use Rattle.tonekit_log.specs.Log.{series, fields, scaled, centred, IsPartsOf, ln_of, log2_of};
-ghost use Rattle.tonekit_log.specs.Exp.{exp_series, floor_of, exp_of};
+ghost use Rattle.spec_arithmetic.specs.Log.{series, fields, scaled, centred, IsPartsOf, ln_of, log2_of};
+ghost use Rattle.spec_arithmetic.specs.Exp.{exp_series, floor_of, exp_of};
 
+pub use spec_arithmetic::Parts;
 use tonekit_float::Positive;
 
 const LN2: f64 = 0.6931471805599453;
 
 const LOG2E: f64 = 1.4426950408889634;
-
-// A positive number as m * 2^e.
-#[derive(Drop)]
-pub struct Parts {
-    pub m: f64,
-    pub e: f64,
-}
 
 // (2 s) p, with s = (m - 1) / (m + 1) and p the sum of s^(2j) / (2j + 1) for j from 0 to 11.
 fn log_series(m: f64) -> f64

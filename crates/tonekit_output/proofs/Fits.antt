@@ -1,20 +1,20 @@
 -- What `write_shape` and `write_sheet` write has room in what their programs lend: 124 bytes, and 13,266. Assumes nothing.
 use Rattle.std.proofs.Common.{ℕ, Bool, true, false, cond, ◌≡◌, refl, List, arith, ltb, length, Float}
 use Rattle.tonekit_core.specs.Calls.{Outcome}
-use Rattle.tonekit_core.specs.Layout.{shape_size, sheet_most}
-use Rattle.tonekit_bytes.specs.Fields.{f32s_bytes}
+use Rattle.tonekit_core.specs.declared.layout.TheConstants.{SHAPE_SIZE, SHEET_MOST}
+use Rattle.spec_arithmetic.specs.Fields.{f32s_bytes}
 use Rattle.tonekit_report.proofs.Told.{Fits}
-use Rattle.tonekit_query.specs.Query.{load_query, frames_of}
+use Rattle.spec_query.specs.Query.{load_query, frames_of}
 use Rattle.std.specs.Prelude.{Result, Ok, Err}
 use Rattle.tonekit_core.specs.declared.Rejection.{Rejection}
-use Rattle.tonekit_query.specs.declared.Query.{Query}
-use Rattle.tonekit_shape.specs.Extract.{extent_of, list_of, shape_of}
-use Rattle.tonekit_shape.specs.Record.{fit_bytes, measure_bytes, shape_bytes, shaped_from, shape_outcome}
-use Rattle.tonekit_shape.specs.declared.Extent.{Extent}
-use Rattle.tonekit_pack.specs.Pack.{Out, loaded, refused, load_pack}
+use Rattle.spec_query.specs.declared.Query.{Query}
+use Rattle.spec_shape.specs.Extract.{extent_of, list_of, shape_of}
+use Rattle.spec_shape.specs.Record.{fit_bytes, measure_bytes, shape_bytes, shaped_from, shape_outcome}
+use Rattle.spec_shape.specs.declared.Extent.{Extent}
+use Rattle.spec_pack.specs.Pack.{Out, loaded, refused, load_pack}
 use Rattle.tonekit_pack.proofs.Single.{loads_alone}
 use Rattle.tonekit_sheet_fit.proofs.Size.{suffices}
-use Rattle.tonekit_sheet_write.specs.Outcome.{sheet_of, sheet_outcome}
+use Rattle.spec_sheet.specs.Outcome.{sheet_of, sheet_outcome}
 
 -- ---- the shape record
 either : (room : ℕ) (b : Bool) (o p : Outcome) → Fits room o → Fits room p → Fits room (cond b o p)
@@ -22,27 +22,27 @@ either room true o p x y = x
 either room false o p x y = y
 
 shape_size_lem : (start end issues : ℕ) (frames : List ℕ) (e : Extent) (floor ceil : Float)
-    → length (shape_bytes start end issues (shape_of frames e start end floor ceil)) ≡ shape_size
+    → length (shape_bytes start end issues (shape_of frames e start end floor ceil)) ≡ SHAPE_SIZE
 unfolding shape_bytes fit_bytes measure_bytes f32s_bytes shape_of list_of
 shape_size_lem start end issues frames e floor ceil = refl
 
-of_query : (s : List ℕ) (q : Result Query Rejection) → Fits shape_size (shaped_from s q)
+of_query : (s : List ℕ) (q : Result Query Rejection) → Fits SHAPE_SIZE (shaped_from s q)
 of_query s (Err r) = tt
 of_query s (Ok q) =
     let frames = frames_of s q.count in
     let e = extent_of frames q.count q.start q.end in
     let n = shape_size_lem q.start q.end q.issues frames e q.floor q.ceil in
-    either shape_size (ltb e.count 3) _ _ tt (omega (arith, n))
+    either SHAPE_SIZE (ltb e.count 3) _ _ tt (omega (arith, n))
 
-pub shape_fits : (s : List ℕ) → Fits shape_size (shape_outcome s)
+pub shape_fits : (s : List ℕ) → Fits SHAPE_SIZE (shape_outcome s)
 unfolding shape_outcome
 shape_fits s = of_query s (load_query s)
 
 -- ---- the sheet
-of_pack : (s : List ℕ) (o : Out) → load_pack s ≡ o → Fits sheet_most (sheet_of s o)
+of_pack : (s : List ℕ) (o : Out) → load_pack s ≡ o → Fits SHEET_MOST (sheet_of s o)
 of_pack s (refused r place) e = tt
 of_pack s (loaded st end) e = suffices.enough s st end (loads_alone s st end e).0
 
-pub sheet_fits : (s : List ℕ) → Fits sheet_most (sheet_outcome s)
+pub sheet_fits : (s : List ℕ) → Fits SHEET_MOST (sheet_outcome s)
 unfolding sheet_outcome
 sheet_fits s = of_pack s (load_pack s) refl

@@ -2,9 +2,9 @@
 use Rattle.std.specs.Prelude.{ℕ, ◌≡◌, refl, Ok, List, [], ◌∷◌}
 use Rattle.tonekit_core.specs.Loop.{loop_to, loop_on}
 use Rattle.tonekit_report.specs.Report.{told}
-use Rattle.tonekit_pack.specs.Pack.{due_after, size_of, record_verdict, read_pack, load_pack, check_pack}
-use Rattle.tonekit_query.specs.Query as query
-use Rattle.tonekit_sheet.specs.Reader as sheet
+use Rattle.spec_pack.specs.Pack.{due_after, size_of, record_verdict, read_pack, load_pack, check_pack}
+use Rattle.spec_query.specs.Query as query
+use Rattle.spec_sheet.specs.Reader as sheet
 use Rattle.tonekit_output.specs.Check.{check_outcome}
 
 abbrev one : List ℕ

@@ -3,9 +3,9 @@ use Rattle.std.specs.Prelude.{ℕ, ◌≡◌, Option, Some, None, Result, Ok, Er
 use Rattle.tonekit_core.specs.Calls.{Outcome, written, refused}
 use Rattle.tonekit_core.specs.declared.Rejection.{Rejection}
 use Rattle.tonekit_report.specs.Report.{told}
-use Rattle.tonekit_pack.specs.Pack.{check_pack}
-use Rattle.tonekit_query.specs.Query.{check_query}
-use Rattle.tonekit_sheet.specs.Reader.{check_sheet}
+use Rattle.spec_pack.specs.Pack.{check_pack}
+use Rattle.spec_query.specs.Query.{check_query}
+use Rattle.spec_sheet.specs.Reader.{check_sheet}
 
 -- its words, in ASCII
 abbrev pub pack_word : List ℕ

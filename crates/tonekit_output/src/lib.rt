@@ -2,8 +2,8 @@
 #![tactic(auto)]
 
 ghost use Rattle.tonekit_report.specs.Report.{Told};
-ghost use Rattle.tonekit_shape.specs.Record.{shape_outcome};
-ghost use Rattle.tonekit_sheet_write.specs.Outcome.{sheet_outcome};
+ghost use Rattle.spec_shape.specs.Record.{shape_outcome};
+ghost use Rattle.spec_sheet.specs.Outcome.{sheet_outcome};
 ghost use Rattle.tonekit_output.specs.Check.{check_outcome, Checks};
 
 use tonekit_core::{Rejection, layout};

@@ -6,8 +6,8 @@ use Rattle.tonekit_core.specs.declared.Refusal.TheVariants.{Misplaced}
 use Rattle.tonekit_core.proofs.Split.{split}
 use Rattle.tonekit_pack.specs.declared.kind.Kind.{Kind}
 use Rattle.tonekit_pack.specs.declared.kind.Kind.TheVariants.{Settings, Tone, Accent, Rule, Part, End}
-use Rattle.tonekit_core.specs.Layout.{end_size}
-use Rattle.tonekit_pack.specs.Pack.{due_after, size_of}
+use Rattle.tonekit_core.specs.declared.layout.TheConstants.{END_SIZE}
+use Rattle.spec_pack.specs.Pack.{due_after, size_of}
 use Rattle.tonekit_pack.specs.Kinds.{number, kind_of}
 
 -- the byte of a record whose kind is known
@@ -34,7 +34,7 @@ no_kind last n r e =
     (λ g. (cc, rw (a, b, c, d, f, g) refl)))))))
 
 -- and the size of an End
-pub no_kind_size : (n : ℕ) (r : Refusal) → kind_of n ≡ Err r → size_of n ≡ end_size
+pub no_kind_size : (n : ℕ) (r : Refusal) → kind_of n ≡ Err r → size_of n ≡ END_SIZE
 unfolding size_of
 no_kind_size n r e =
     split (eqb n 1) (λ a. absurd cc)

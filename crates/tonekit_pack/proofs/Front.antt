@@ -6,11 +6,11 @@ use Rattle.tonekit_core.specs.Loop.{loop_to, loop_on}
 use Rattle.tonekit_core.specs.declared.Refusal.TheVariants.{CutShort}
 use Rattle.std.specs.Prelude.{Ok}
 use Rattle.tonekit_core.proofs.LoopLaws.{range_same}
-use Rattle.tonekit_bytes.specs.Fields.{byte_at}
+use Rattle.spec_arithmetic.specs.Fields.{byte_at}
 use Rattle.tonekit_bytes.proofs.Agreeing.{Agree, taken_agrees, four, float}
-use Rattle.tonekit_pack.specs.Ranges.{slot_fine, slot_turn, knots_fine, region_fine, tolerances_fine}
-use Rattle.tonekit_bytes.specs.Places.{number_at}
-use Rattle.tonekit_pack.specs.Pack.{Pst, Out, loaded, refused, size_of, holds, zero_or_held, last_rule, settings_verdict, tone_verdict, accent_verdict, rule_verdict, part_verdict, body_verdict, due_after, record_verdict, added, start, read_pack, singly, load_pack}
+use Rattle.spec_pack.specs.Ranges.{slot_fine, slot_turn, knots_fine, region_fine, tolerances_fine}
+use Rattle.spec_arithmetic.specs.Places.{number_at}
+use Rattle.spec_pack.specs.Pack.{Pst, Out, loaded, refused, size_of, holds, zero_or_held, last_rule, settings_verdict, tone_verdict, accent_verdict, rule_verdict, part_verdict, body_verdict, due_after, record_verdict, added, start, read_pack, singly, load_pack}
 use Rattle.tonekit_core.proofs.Split.{split}
 use Rattle.tonekit_pack.proofs.Each.{each_snoc}
 use Rattle.tonekit_pack.proofs.Records.{Due, due_is, settings, tone, accent, rule, part, finish, sound, tone_room, accent_room, rule_room, part_room}

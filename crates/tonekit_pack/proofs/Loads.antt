@@ -4,10 +4,10 @@ use lib.Seq.{get_or-append_seam}
 use borrow.Author.Tests.{eqb-false, not-true}
 use Rattle.tonekit_core.specs.declared.Refusal.TheVariants.{CutShort}
 use Rattle.std.specs.Prelude.{Ok}
-use Rattle.tonekit_bytes.specs.Fields.{byte_at, u32_at, f32_at}
-use Rattle.tonekit_pack.specs.Ranges.{above_zero, a_share, weight_fine, knots_fine, region_fine, tolerances_fine}
-use Rattle.tonekit_bytes.specs.Places.{number_at}
-use Rattle.tonekit_pack.specs.Pack.{Pst, Out, loaded, refused, size_of, holds, zero_or_held, single, settings_verdict, body_verdict, added, start, parts_from, read_pack}
+use Rattle.spec_arithmetic.specs.Fields.{byte_at, u32_at, f32_at}
+use Rattle.spec_pack.specs.Ranges.{above_zero, a_share, weight_fine, knots_fine, region_fine, tolerances_fine}
+use Rattle.spec_arithmetic.specs.Places.{number_at}
+use Rattle.spec_pack.specs.Pack.{Pst, Out, loaded, refused, size_of, holds, zero_or_held, single, settings_verdict, body_verdict, added, start, parts_from, read_pack}
 use Rattle.tonekit_core.proofs.Split.{split, either, neither, both}
 use Rattle.tonekit_pack.proofs.Numbers.{zero_or_before, none_before}
 use Rattle.tonekit_pack.proofs.Each.{Each, each_snoc}

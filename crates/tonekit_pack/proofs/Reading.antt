@@ -3,9 +3,9 @@ use Rattle.std.proofs.Common.{ℕ, ◌+◌, ◌-◌, ◌<◌, ◌≡◌, refl, L
 use Rattle.tonekit_core.specs.Loop.{loop_again, loop_stop}
 use Rattle.tonekit_core.specs.declared.Refusal.TheVariants.{CutShort}
 use Rattle.std.specs.Prelude.{Result, Ok, Err}
-use Rattle.tonekit_bytes.specs.Fields.{byte_at}
+use Rattle.spec_arithmetic.specs.Fields.{byte_at}
 use Rattle.tonekit_pack.specs.declared.Pack.{Pack}
-use Rattle.tonekit_pack.specs.Pack.{Pst, loaded, refused, size_of, added, record_verdict, record_turn, start, read_pack, load_pack, check_pack}
+use Rattle.spec_pack.specs.Pack.{Pst, loaded, refused, size_of, added, record_verdict, record_turn, start, read_pack, load_pack, check_pack}
 use Rattle.tonekit_pack.specs.Held.{shown, answered}
 use Rattle.tonekit_core.proofs.Split.{split}
 use Rattle.tonekit_pack.specs.Going.{Near, Going}

@@ -3,9 +3,9 @@ use Rattle.std.proofs.Common.{ℕ, ◌+◌, ◌≤◌, ◌<◌, ◌≡◌, refl,
 use Rattle.tonekit_core.specs.declared.Refusal.{Refusal}
 use Rattle.tonekit_core.specs.declared.Refusal.TheVariants.{Misplaced, CutShort, Crowded, OffScale, Doubled, Loose}
 use Rattle.std.specs.Prelude.{Result, Ok, Err}
-use Rattle.tonekit_bytes.specs.Fields.{byte_at}
-use Rattle.tonekit_bytes.specs.Places.{number_at}
-use Rattle.tonekit_pack.specs.Pack.{Pst, due_after, size_of, holds, zero_or_held, in_turn, tone_crowded, tone_fine, tone_verdict, accent_fine, accent_verdict, rule_fine, rule_held, rule_verdict, single, part_crowded, part_fine, part_verdict, body_verdict, record_verdict}
+use Rattle.spec_arithmetic.specs.Fields.{byte_at}
+use Rattle.spec_arithmetic.specs.Places.{number_at}
+use Rattle.spec_pack.specs.Pack.{Pst, due_after, size_of, holds, zero_or_held, in_turn, tone_crowded, tone_fine, tone_verdict, accent_fine, accent_verdict, rule_fine, rule_held, rule_verdict, single, part_crowded, part_fine, part_verdict, body_verdict, record_verdict}
 use Rattle.tonekit_core.proofs.Split.{split, absurd_bool, either, neither}
 
 -- which kind is due

@@ -1,7 +1,7 @@
 -- From a pack at the front of an input to an input that is one pack, and to the check of it. Assumes nothing.
 use Rattle.std.proofs.Common.{ℕ, ◌≤◌, ◌≡◌, List, length, arith, ltb, ltb-false}
 use Rattle.tonekit_core.specs.declared.Refusal.TheVariants.{Overrun}
-use Rattle.tonekit_pack.specs.Pack.{Pst, Out, loaded, refused, singly, read_pack, load_pack}
+use Rattle.spec_pack.specs.Pack.{Pst, Out, loaded, refused, singly, read_pack, load_pack}
 use Rattle.tonekit_core.proofs.Split.{split}
 use Rattle.tonekit_pack.proofs.Turns.{not_loaded}
 

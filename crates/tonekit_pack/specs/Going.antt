@@ -5,7 +5,7 @@ use Rattle.tonekit_core.specs.Loop.{loop_to, loop_stop}
 use Rattle.tonekit_core.specs.declared.Refusal.{Refusal}
 use Rattle.tonekit_core.specs.declared.Refusal.TheVariants.{CutShort}
 use Rattle.tonekit_pack.specs.declared.Pack.{Pack}
-use Rattle.tonekit_pack.specs.Pack.{Pst, refused, due_after, size_of, body_verdict, record_verdict, record_turn, read_pack}
+use Rattle.spec_pack.specs.Pack.{Pst, refused, due_after, size_of, body_verdict, record_verdict, record_turn, read_pack}
 use Rattle.tonekit_pack.specs.Held.{shown}
 use Rattle.tonekit_pack.specs.Format.{judged}
 

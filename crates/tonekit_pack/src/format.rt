@@ -3,7 +3,7 @@
 ghost use Rattle.std.specs.Prelude.{◌≡◌, ℕ, ◌+◌, ◌≤◌, Bool, true, false, List, Result, Ok, Err, IfOk, MatchResult, SomeIff, MatchOption, length};
 ghost use Rattle.tonekit_core.specs.declared.Refusal.{Refusal};
 ghost use Rattle.tonekit_core.specs.declared.Rejection.{Rejection};
-ghost use Rattle.tonekit_bytes.specs.Fields.{byte_at};
+ghost use Rattle.spec_arithmetic.specs.Fields.{byte_at};
 ghost use Rattle.tonekit_pack.specs.declared.Loaded.{Loaded};
 ghost use Rattle.tonekit_pack.specs.Format.{judged, Alone, Checked};
 

@@ -1,6 +1,6 @@
 // The kinds of a pack's records: their numbers, which may follow which, and how long each is.
 ghost use Rattle.std.specs.Prelude.{◌≡◌};
-ghost use Rattle.tonekit_pack.specs.Pack.{due_after, size_of};
+ghost use Rattle.spec_pack.specs.Pack.{due_after, size_of};
 ghost use Rattle.tonekit_pack.specs.Kinds.{number, kind_of, last_of};
 
 use tonekit_core::{Refusal, layout};
@@ -38,7 +38,7 @@ impl TryFrom<u8> for Kind {
 
 impl Kind {
     // Whether a record of this kind may follow one of kind `last`, or begin a pack.
-    #[tactic(auto, unfolding(crate::specs::Pack::due_after))]
+    #[tactic(auto, unfolding(spec_pack::specs::Pack::due_after))]
     pub fn due(self, last: Option<Kind>) -> bool
         ensures { result ≡ due_after (last_of last) (number self) }
     {
@@ -53,7 +53,7 @@ impl Kind {
 
     // The bytes of a record of this kind, its kind among them.
     // Stays: beside tonekit_sheet's; each lists the sizes of its own kinds.
-    #[tactic(auto, unfolding(crate::specs::Pack::size_of))]
+    #[tactic(auto, unfolding(spec_pack::specs::Pack::size_of))]
     pub fn size(self) -> usize
         ensures { result ≡ size_of (number self) }
     {
@@ -70,7 +70,7 @@ impl Kind {
 
 // The bytes of a record that begins with a byte; where that is no kind, an End's.
 // Stays: beside tonekit_sheet's, as `Kind::size`; k is any byte, since it promises the size of those that are no kind too.
-#[tactic(auto, using(crate::proofs::ByKind::kind_number, crate::proofs::ByKind::no_kind_size), unfolding(crate::specs::Pack::size_of))]
+#[tactic(auto, using(crate::proofs::ByKind::kind_number, crate::proofs::ByKind::no_kind_size), unfolding(spec_pack::specs::Pack::size_of))]
 pub fn size_of(k: u8) -> usize
     ensures { result ≡ size_of k }
 {

@@ -1,6 +1,6 @@
 // Tests of the ranges of document 01's fields, on a record's bytes.
 ghost use Rattle.std.specs.Prelude.{◌≡◌, ◌<◌};
-ghost use Rattle.tonekit_pack.specs.Ranges.{above_zero, a_share, within, weight_fine, slot_fine, knots_fine, region_fine, tolerances_fine};
+ghost use Rattle.spec_pack.specs.Ranges.{above_zero, a_share, within, weight_fine, slot_fine, knots_fine, region_fine, tolerances_fine};
 
 use tonekit_bytes::{byte_at, f32_at, u32_at};
 use tonekit_core::layout;
@@ -15,7 +15,7 @@ pub fn above_zero(x: f32) -> bool
 }
 
 // Above 0, at most 1.
-#[tactic(auto, unfolding(crate::specs::Ranges::a_share))]
+#[tactic(auto, unfolding(spec_pack::specs::Ranges::a_share))]
 pub fn a_share(x: f32) -> bool
     ensures { result ≡ a_share x }
 {
@@ -23,7 +23,7 @@ pub fn a_share(x: f32) -> bool
 }
 
 // Of size at most `most`.
-#[tactic(auto, unfolding(crate::specs::Ranges::within))]
+#[tactic(auto, unfolding(spec_pack::specs::Ranges::within))]
 pub fn within(x: f32, most: f32) -> bool
     ensures { result ≡ within x most }
 {
@@ -31,7 +31,7 @@ pub fn within(x: f32, most: f32) -> bool
 }
 
 // The bits of a finite weight whose sign is clear.
-#[tactic(auto, unfolding(crate::specs::Ranges::weight_fine))]
+#[tactic(auto, unfolding(spec_pack::specs::Ranges::weight_fine))]
 pub fn weight_fine(bits: u32) -> bool
     ensures { result ≡ weight_fine bits }
 {
@@ -39,7 +39,7 @@ pub fn weight_fine(bits: u32) -> bool
 }
 
 // Slot k from o on: a knot, or zero bytes past the first n.
-#[tactic(auto, using(crate::proofs::Bounds::knot_within), unfolding(crate::specs::Ranges::slot_fine))]
+#[tactic(auto, using(crate::proofs::Bounds::knot_within), unfolding(spec_pack::specs::Ranges::slot_fine))]
 fn slot_fine(s: &[u8], o: usize, n: u8, k: usize) -> bool
     requires { k < 10 }
     ensures { result ≡ slot_fine s.now o n k }
@@ -51,7 +51,7 @@ fn slot_fine(s: &[u8], o: usize, n: u8, k: usize) -> bool
 }
 
 // Ten slots from o on, of which the first n are knots.
-#[tactic(auto, using(tonekit_core::specs::Loop::again, tonekit_core::specs::Loop::ended), unfolding(crate::specs::Ranges::knots_fine))]
+#[tactic(auto, using(tonekit_core::specs::Loop::again, tonekit_core::specs::Loop::ended), unfolding(spec_pack::specs::Ranges::knots_fine))]
 pub fn knots_fine(s: &[u8], o: usize, n: u8) -> bool
     ensures { result ≡ knots_fine s.now o n }
 {
@@ -63,7 +63,7 @@ pub fn knots_fine(s: &[u8], o: usize, n: u8) -> bool
 }
 
 // A region: its flag at o, from and to behind it.
-#[tactic(auto, unfolding(crate::specs::Ranges::region_fine))]
+#[tactic(auto, unfolding(spec_pack::specs::Ranges::region_fine))]
 pub fn region_fine(s: &[u8], o: usize) -> bool
     ensures { result ≡ region_fine s.now o }
 {
@@ -77,7 +77,7 @@ pub fn region_fine(s: &[u8], o: usize) -> bool
 }
 
 // The four tolerances from o on.
-#[tactic(auto, unfolding(crate::specs::Ranges::tolerances_fine))]
+#[tactic(auto, unfolding(spec_pack::specs::Ranges::tolerances_fine))]
 pub fn tolerances_fine(s: &[u8], o: usize) -> bool
     ensures { result ≡ tolerances_fine s.now o }
 {

@@ -1,9 +1,9 @@
 // A pack as a file of records: what is said of one record, and what is kept of it.
 ghost use Rattle.std.specs.Prelude.{◌≡◌, ◌+◌, ◌<◌, ◌≤◌, eqb, length, replicate};
-ghost use Rattle.tonekit_core.specs.Layout.{tone_size, accent_size, part_size, tone_kind, accent_kind, rule_kind, part_kind, end_kind};
-ghost use Rattle.tonekit_bytes.specs.Fields.{byte_at};
+ghost use Rattle.tonekit_core.specs.declared.layout.TheConstants.{TONE_SIZE, ACCENT_SIZE, PART_SIZE, TONE_KIND, ACCENT_KIND, RULE_KIND, PART_KIND, END_KIND};
+ghost use Rattle.spec_arithmetic.specs.Fields.{byte_at};
 ghost use Rattle.tonekit_pack.specs.Kinds.{number, last_of};
-ghost use Rattle.tonekit_pack.specs.Pack.{due_after, size_of, holds, zero_or_held, in_turn, settings_verdict, tone_verdict, accent_verdict, rule_verdict, single, part_verdict, body_verdict, record_verdict, added, start, read_pack};
+ghost use Rattle.spec_pack.specs.Pack.{due_after, size_of, holds, zero_or_held, in_turn, settings_verdict, tone_verdict, accent_verdict, rule_verdict, single, part_verdict, body_verdict, record_verdict, added, start, read_pack};
 ghost use Rattle.tonekit_pack.specs.Held.{shown, answered};
 ghost use Rattle.tonekit_pack.specs.Going.{Going, judges, refuses};
 
@@ -23,7 +23,7 @@ fn holds(s: &[u8], places: &[u16], x: u8) -> bool
 }
 
 // 0, or the number of one of the records at these offsets.
-#[tactic(auto, unfolding(crate::specs::Pack::zero_or_held))]
+#[tactic(auto, unfolding(spec_pack::specs::Pack::zero_or_held))]
 fn zero_or_held(s: &[u8], places: &[u16], x: u8) -> bool
     ensures { result ≡ zero_or_held s.now places.now x }
 {
@@ -51,7 +51,7 @@ pub fn in_turn(crowded: bool, fine: bool, new: bool, held: bool) -> Result<(), R
 
 // What is said of a record of each kind that is due and whole, here and below. Every test is made, since only the last record read
 // can fail one. Settings: temperature and threshold.
-#[tactic(auto, unfolding(crate::specs::Pack::settings_verdict))]
+#[tactic(auto, unfolding(spec_pack::specs::Pack::settings_verdict))]
 pub fn settings_verdict(s: &[u8], o: usize) -> Result<(), Refusal>
     ensures { result ≡ settings_verdict s.now o }
 {
@@ -62,7 +62,7 @@ pub fn settings_verdict(s: &[u8], o: usize) -> Result<(), Refusal>
 
 impl Pack {
     // Before the first record.
-    #[tactic(auto, unfolding(tonekit_bytes::specs::Places::in_order))]
+    #[tactic(auto, unfolding(spec_arithmetic::specs::Places::in_order))]
     pub fn nothing() -> Pack
         ensures read { shown result ≡ start.st }
         ensures tones { result.tones.at ≡ replicate 8 0 }
@@ -82,9 +82,9 @@ impl Pack {
 
     // A tone: number, prior, knots, region.
     // Stays: a sheet's tone has no knots and its fields at other places, so one for both would take all places as arguments.
-    #[tactic(auto, unfolding(crate::specs::Pack::tone_verdict))]
+    #[tactic(auto, unfolding(spec_pack::specs::Pack::tone_verdict))]
     fn tone_verdict(&self, s: &[u8], o: usize) -> Result<(), Refusal>
-        requires { o + tone_size ≤ length s.now }
+        requires { o + TONE_SIZE ≤ length s.now }
         ensures { result ≡ tone_verdict s.now o (shown self.now) }
     {
         let number = byte_at(s, o, layout::OWN_NUMBER);
@@ -100,9 +100,9 @@ impl Pack {
 
     // An accent: number, parent, tolerances.
     // Stays: a tone has other fields at other places, and an accent of a pack alone has a parent.
-    #[tactic(auto, unfolding(crate::specs::Pack::accent_verdict))]
+    #[tactic(auto, unfolding(spec_pack::specs::Pack::accent_verdict))]
     fn accent_verdict(&self, s: &[u8], o: usize) -> Result<(), Refusal>
-        requires { o + accent_size ≤ length s.now }
+        requires { o + ACCENT_SIZE ≤ length s.now }
         ensures { result ≡ accent_verdict s.now o (shown self.now) }
     {
         let number = byte_at(s, o, layout::OWN_NUMBER);
@@ -119,7 +119,7 @@ impl Pack {
     }
 
     // A rule: tone, prev, final, form.
-    #[tactic(auto, unfolding(crate::specs::Pack::rule_verdict))]
+    #[tactic(auto, unfolding(spec_pack::specs::Pack::rule_verdict))]
     fn rule_verdict(&self, s: &[u8], o: usize) -> Result<(), Refusal>
         ensures { result ≡ rule_verdict s.now o (shown self.now) }
     {
@@ -141,9 +141,9 @@ impl Pack {
     }
 
     // A part: weight and knots; of a single rule the first alone, of weight 1.
-    #[tactic(auto, unfolding(crate::specs::Pack::part_verdict))]
+    #[tactic(auto, unfolding(spec_pack::specs::Pack::part_verdict))]
     fn part_verdict(&self, s: &[u8], o: usize) -> Result<(), Refusal>
-        requires { o + part_size ≤ length s.now }
+        requires { o + PART_SIZE ≤ length s.now }
         ensures { result ≡ part_verdict s.now o (shown self.now) }
     {
         let weight = u32_at(s, o, layout::PART_WEIGHT);
@@ -159,10 +159,10 @@ impl Pack {
     }
 
     // Keeps the record of kind k at o, once it is fine.
-    #[tactic(auto, using(tonekit_bytes::proofs::InOrder::order_length, tonekit_bytes::proofs::InOrder::order_set, tonekit_bytes::proofs::InOrder::set_bounded), unfolding(crate::specs::Pack::added))]
+    #[tactic(auto, using(tonekit_bytes::proofs::InOrder::order_length, tonekit_bytes::proofs::InOrder::order_set, tonekit_bytes::proofs::InOrder::set_bounded), unfolding(spec_pack::specs::Pack::added))]
     pub fn keep(&mut self, k: Kind, o: usize)
-        requires { (o < 65536) × (number k ≡ tone_kind → self.old.tones.count < 8) × (number k ≡ accent_kind → self.old.accents.count < 8)
-            × (number k ≡ rule_kind → self.old.rules.count < 64) × (number k ≡ part_kind → (self.old.parts < 4) × (self.old.total < 128)) }
+        requires { (o < 65536) × (number k ≡ TONE_KIND → self.old.tones.count < 8) × (number k ≡ ACCENT_KIND → self.old.accents.count < 8)
+            × (number k ≡ RULE_KIND → self.old.rules.count < 64) × (number k ≡ PART_KIND → (self.old.parts < 4) × (self.old.total < 128)) }
         ensures { shown self.new ≡ added (number k) o (shown self.old) }
     {
         self.last = Some(k);
@@ -190,7 +190,7 @@ impl Format for Pack {
 
     ghost number = { number };
 
-    ghost last = { λ n. eqb n end_kind };
+    ghost last = { λ n. eqb n END_KIND };
 
     ghost due = { λ p n. due_after (last_of p.last) n };
 
@@ -226,7 +226,7 @@ impl Format for Pack {
         k.size()
     }
 
-    #[tactic(auto, unfolding(crate::specs::Pack::body_verdict, crate::specs::Pack::size_of))]
+    #[tactic(auto, unfolding(spec_pack::specs::Pack::body_verdict, spec_pack::specs::Pack::size_of))]
     fn tests(&self, k: Kind, s: &[u8], o: usize) -> Result<(), Refusal> {
         match k {
             Kind::Settings => settings_verdict(s, o),

@@ -6,9 +6,9 @@ use Rattle.tonekit_core.specs.declared.Refusal.{Refusal}
 use Rattle.tonekit_core.specs.declared.Refusal.TheVariants.{Misplaced, CutShort, Overrun, Crowded, BadQuery}
 use Rattle.tonekit_core.specs.declared.Rejection.{Rejection}
 use Rattle.std.specs.Prelude.{Result, Ok, Err}
-use Rattle.tonekit_bytes.specs.Fields.{byte_at, u16_at}
-use Rattle.tonekit_query.specs.declared.Query.{Query}
-use Rattle.tonekit_query.specs.Query.{variants_fine, record_verdict, frame_verdict, fields_of, after_frame, frame_turn, after_record, read_query, single, load_query, end_of, frames_of}
+use Rattle.spec_arithmetic.specs.Fields.{byte_at, u16_at}
+use Rattle.spec_query.specs.declared.Query.{Query}
+use Rattle.spec_query.specs.Query.{variants_fine, record_verdict, frame_verdict, fields_of, after_frame, frame_turn, after_record, read_query, single, load_query, end_of, frames_of}
 
 differ : (r : Refusal) → ◌≡◌ {A = Result Unit Refusal} (Err r) (Ok tt) → ⊥
 differ r e = cc

@@ -7,7 +7,7 @@ use lib.Ieee.Exact.{HasValue, odd_sign}
 use lib.Ieee.Fits.{down_pos}
 use Rattle.tonekit_float.proofs.Monotone.{zero_f}
 use Rattle.tonekit_float.proofs.Signs.{above_zero}
-use Rattle.tonekit_query.specs.Frames.{pitch}
+use Rattle.spec_query.specs.Frames.{pitch}
 
 -- ---- by the value: a number above 0 is a pitch, one with its sign set is none, nor is 0
 no_value : (a d : ℕ) (u c : ℕ) → 0 < a * d → 0 * u * c ≡ a * d → ⊥

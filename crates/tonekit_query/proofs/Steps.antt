@@ -2,12 +2,12 @@
 use Rattle.std.proofs.Common.{◌≡◌, refl, ◌∙◌, ap, Bool, true, false, cond, List, ℕ, ◌+◌, ◌-◌, ◌*◌, ◌≤◌, ◌<◌, arith, lt-ltb, le-ltb, Float, length, take, drop, length-drop, take_all, get_or-drop}
 use lib.Ieee.{binary32, of_bits}
 use Rattle.tonekit_core.specs.declared.Refusal.TheVariants.{Overrun}
-use Rattle.tonekit_bytes.specs.Fields.{byte_at, u32_at, f32_at}
+use Rattle.spec_arithmetic.specs.Fields.{byte_at, u32_at, f32_at}
 use Rattle.tonekit_bytes.proofs.Fields.{byte_past}
-use Rattle.tonekit_query.specs.declared.Query.{Query}
+use Rattle.spec_query.specs.declared.Query.{Query}
 use Rattle.std.specs.Prelude.{Ok, Err, Some, None}
-use Rattle.tonekit_query.specs.Query.{end_of, read_query, load_query}
-use Rattle.tonekit_query.specs.Frames.{frame_at, voiced_at, voiced_of}
+use Rattle.spec_query.specs.Query.{end_of, read_query, load_query}
+use Rattle.spec_query.specs.Frames.{frame_at, voiced_at, voiced_of}
 
 -- whether a frame is voiced, by its flag and hz
 voiced_way : (b : Bool) (hz p : Float) → voiced_of (cond b (Some (record { hz = hz; voiced_p = p })) None) ≡ b

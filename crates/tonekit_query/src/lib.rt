@@ -4,41 +4,18 @@
 ghost use Rattle.std.specs.Prelude.{◌≡◌, ◌+◌, ◌*◌, ◌≤◌, ◌<◌, length};
 ghost use Rattle.std.specs.Float.{binary32};
 ghost use Rattle.std.specs.Float.Ieee.{of_bits};
-ghost use Rattle.tonekit_core.specs.Layout.{frame_size, frame_hz, frame_voiced_p};
-ghost use Rattle.tonekit_bytes.specs.Fields.{u32_at, f32_at};
-ghost use Rattle.tonekit_query.specs.Query.{variant_fine, variants_fine, record_verdict, frame_verdict, fields_of, read_frames, read_query, load_query, check_query, end_of, frames_of, variant_tone, variant_weight};
-ghost use Rattle.tonekit_query.specs.Frames.{pitch, voiced_at, frame_at};
+ghost use Rattle.tonekit_core.specs.declared.layout.TheConstants.{FRAME_SIZE, FRAME_HZ, FRAME_VOICED_P};
+ghost use Rattle.spec_arithmetic.specs.Fields.{u32_at, f32_at};
+ghost use Rattle.spec_query.specs.Query.{variant_fine, variants_fine, record_verdict, frame_verdict, fields_of, read_frames, read_query, load_query, check_query, end_of, frames_of, variant_tone, variant_weight};
+ghost use Rattle.spec_query.specs.Frames.{pitch, voiced_at, frame_at};
 
+pub use spec_query::{Query, Voiced};
 use tonekit_bytes::{byte_at, f32_at, u16_at, u32_at, u32_in};
 use tonekit_core::{Refusal, Rejection, layout, limits};
 use tonekit_float::AnyFloat;
 
-// What the fixed record of a query says. Any accent, tone, span or register may stand in it.
-// Stays: `prev` is 0 for none, as the record holds it and as a context, which takes it on, compares it.
-#[derive(Clone, Copy)]
-pub struct Query {
-    pub accent: u8,
-    pub tone: u8,
-    pub prev: u8,
-    pub last: bool,
-    pub start: u32,
-    pub end: u32,
-    pub floor: f32,
-    pub ceil: f32,
-    pub issues: u16,
-    pub variants: u8,
-    pub count: u16,
-}
-
-// What a frame that has a pitch says.
-#[derive(Clone, Copy)]
-pub struct Voiced {
-    pub hz: f32,
-    pub voiced_p: f32,
-}
-
 // Whether variant i is in use, or its five bytes are 0.
-#[tactic(auto, unfolding(crate::specs::Query::variant_fine))]
+#[tactic(auto, unfolding(spec_query::specs::Query::variant_fine))]
 fn variant_fine(query: &[u8], i: usize) -> bool
     requires { i < 4 }
     ensures { result ≡ variant_fine query.now i }
@@ -65,7 +42,7 @@ fn variants_fine(query: &[u8]) -> bool
 }
 
 // What is said of the fixed record.
-#[tactic(auto, unfolding(crate::specs::Query::record_verdict))]
+#[tactic(auto, unfolding(spec_query::specs::Query::record_verdict))]
 fn record_verdict(query: &[u8]) -> Result<(), Refusal>
     ensures { result ≡ record_verdict query.now }
 {
@@ -98,7 +75,7 @@ fn record_verdict(query: &[u8]) -> Result<(), Refusal>
 }
 
 // What is said of the frame record at an offset.
-#[tactic(auto, unfolding(crate::specs::Query::frame_verdict))]
+#[tactic(auto, unfolding(spec_query::specs::Query::frame_verdict))]
 fn frame_verdict(query: &[u8], at: usize) -> Result<(), Refusal>
     ensures { result ≡ frame_verdict query.now at }
 {
@@ -119,7 +96,7 @@ fn frame_verdict(query: &[u8], at: usize) -> Result<(), Refusal>
 }
 
 // What the fixed record says.
-#[tactic(auto, unfolding(crate::specs::Query::fields_of))]
+#[tactic(auto, unfolding(spec_query::specs::Query::fields_of))]
 fn fields(query: &[u8]) -> Query
     ensures { result ≡ fields_of query.now }
 {
@@ -152,7 +129,7 @@ fn read_frames(query: &[u8], count: u16) -> Result<Query, Rejection>
 }
 
 // The query at the front of an input, or why there is none and where.
-#[tactic(auto, unfolding(crate::specs::Query::read_query))]
+#[tactic(auto, unfolding(spec_query::specs::Query::read_query))]
 pub fn read_query(query: &[u8]) -> Result<Query, Rejection>
     ensures { result ≡ read_query query.now }
 {
@@ -168,7 +145,7 @@ fn end_of(count: u16) -> usize
 }
 
 // The query that an input is as a whole; bytes behind it are refused.
-#[tactic(auto, unfolding(crate::specs::Query::load_query))]
+#[tactic(auto, unfolding(spec_query::specs::Query::load_query))]
 pub fn load_query(query: &[u8]) -> Result<Query, Rejection>
     ensures { result ≡ load_query query.now }
 {
@@ -181,7 +158,7 @@ pub fn load_query(query: &[u8]) -> Result<Query, Rejection>
 }
 
 // Nothing against an input that is a query, else why it is none and where.
-#[tactic(auto, unfolding(crate::specs::Query::check_query))]
+#[tactic(auto, unfolding(spec_query::specs::Query::check_query))]
 pub fn check_query(query: &[u8]) -> Result<(), Rejection>
     ensures { result ≡ check_query query.now }
 {
@@ -209,7 +186,7 @@ fn bits_pitch(b: u32) -> bool
 
 // Whether the frame at an index is voiced, where its ten bytes are there.
 fn whole_voiced(frames: &[u8], at: usize) -> bool
-    requires { at + frame_size ≤ length frames.now }
+    requires { at + FRAME_SIZE ≤ length frames.now }
     ensures { result ≡ voiced_at frames.now at }
 {
     if frames[at + layout::FRAME_VOICED] != 1 {
@@ -230,7 +207,7 @@ fn cut_voiced(frame: &[u8]) -> bool
 // judge with a pack of 5 tones, 1.02 of the Rust's, which misses the budget (docs/DECISIONS.md).
 #[tactic(auto, using(crate::proofs::Steps::voiced_part, crate::proofs::Steps::unvoiced_past))]
 pub fn is_voiced(frames: &[u8], i: usize) -> bool
-    ensures { result ≡ voiced_at frames.now (frame_size * i) }
+    ensures { result ≡ voiced_at frames.now (FRAME_SIZE * i) }
 {
     let whole = frames.len() / layout::FRAME_SIZE;
     if i < whole {
@@ -247,8 +224,8 @@ pub fn is_voiced(frames: &[u8], i: usize) -> bool
 // Stays: see `is_voiced`.
 #[tactic(auto, using(crate::proofs::Steps::f32_part, crate::proofs::Steps::f32_past))]
 fn field(frames: &[u8], i: usize, k: usize) -> f32
-    requires { k ≤ frame_voiced_p }
-    ensures { result ≡ f32_at frames.now (frame_size * i + k) }
+    requires { k ≤ FRAME_VOICED_P }
+    ensures { result ≡ f32_at frames.now (FRAME_SIZE * i + k) }
 {
     let whole = frames.len() / layout::FRAME_SIZE;
     if i < whole {
@@ -263,20 +240,20 @@ fn field(frames: &[u8], i: usize, k: usize) -> f32
 
 // The hz of frame i, whatever its flag.
 pub fn frame_hz(frames: &[u8], i: usize) -> f32
-    ensures { result ≡ f32_at frames.now (frame_size * i + frame_hz) }
+    ensures { result ≡ f32_at frames.now (FRAME_SIZE * i + FRAME_HZ) }
 {
     field(frames, i, layout::FRAME_HZ)
 }
 
 // The voiced_p of frame i, whatever its flag.
 pub fn frame_p(frames: &[u8], i: usize) -> f32
-    ensures { result ≡ f32_at frames.now (frame_size * i + frame_voiced_p) }
+    ensures { result ≡ f32_at frames.now (FRAME_SIZE * i + FRAME_VOICED_P) }
 {
     field(frames, i, layout::FRAME_VOICED_P)
 }
 
 // What frame i says, where it is voiced.
-#[tactic(auto, unfolding(crate::specs::Frames::frame_at))]
+#[tactic(auto, unfolding(spec_query::specs::Frames::frame_at))]
 pub fn read_frame(frames: &[u8], i: usize) -> Option<Voiced>
     ensures { result ≡ frame_at frames.now i }
 {

@@ -6,8 +6,8 @@ use lib.Seq.{drop-append_seam}
 use Rattle.tonekit_core.specs.declared.Refusal.{Refusal}
 use Rattle.tonekit_core.specs.declared.Refusal.TheVariants.{Misplaced, CutShort}
 use Rattle.std.specs.Prelude.{Ok}
-use Rattle.tonekit_bytes.specs.Fields.{byte_at}
-use Rattle.tonekit_pack.specs.Pack.{Pst, Out, loaded, refused, due_after, size_of, record_verdict, added, start, read_pack}
+use Rattle.spec_arithmetic.specs.Fields.{byte_at}
+use Rattle.spec_pack.specs.Pack.{Pst, Out, loaded, refused, due_after, size_of, record_verdict, added, start, read_pack}
 use Rattle.tonekit_core.proofs.Split.{split}
 use Rattle.tonekit_pack.proofs.Records.{sound, size_pos, not_fine}
 use Rattle.tonekit_pack.proofs.Turns.{by_verdict, run, run_refused, run_end, run_on, limit_idle, not_loaded, no_turns}

@@ -1,14 +1,14 @@
 -- Worked examples, computed: the record of a refusal, with every field; and what is told of an answer and of a refusal.
 use Rattle.std.specs.Prelude.{ℕ, ◌≡◌, refl, List, [], ◌∷◌, length}
 use Rattle.tonekit_core.specs.Calls.{written, refused}
-use Rattle.tonekit_core.specs.Layout.{refusal_size}
+use Rattle.tonekit_core.specs.declared.layout.TheConstants.{REFUSAL_SIZE}
 use Rattle.tonekit_core.specs.declared.Refusal.TheVariants.{CutShort, Unordered}
 use Rattle.tonekit_report.specs.Report.{refusal_bytes, Told}
 
 abbrev record52 : List ℕ
 record52 = 52 ∷ 8 ∷ 2 ∷ 3 ∷ 4 ∷ 5 ∷ []
 
-fields52 : (refusal_bytes Unordered 0x0504_0302 ≡ record52) × (length record52 ≡ refusal_size)
+fields52 : (refusal_bytes Unordered 0x0504_0302 ≡ record52) × (length record52 ≡ REFUSAL_SIZE)
 fields52 = (refl, refl)
 
 -- what a program is lent

@@ -2,15 +2,15 @@
 use Rattle.std.specs.Prelude.{ℕ, ◌≡◌, List, ◌∷◌, ◌++◌, length, drop, Result, Ok, Err}
 use Rattle.std.proofs.lemmas.List.Edits.{sets}
 use Rattle.tonekit_core.specs.Calls.{Outcome, written, refused}
-use Rattle.tonekit_core.specs.Layout.{refusal_kind, refusal_size}
+use Rattle.tonekit_core.specs.declared.layout.TheConstants.{REFUSAL_KIND, REFUSAL_SIZE}
 use Rattle.tonekit_core.specs.Words.{refusal_number}
 use Rattle.tonekit_core.specs.declared.Refusal.{Refusal}
 use Rattle.tonekit_core.specs.declared.Rejection.{Rejection}
-use Rattle.tonekit_bytes.specs.Fields.{le32}
+use Rattle.spec_arithmetic.specs.Fields.{le32}
 
 -- six bytes; the place's low 32 bits
 abbrev pub refusal_bytes : Refusal → ℕ → List ℕ
-refusal_bytes r place = refusal_kind ∷ refusal_number r ∷ le32 place
+refusal_bytes r place = REFUSAL_KIND ∷ refusal_number r ∷ le32 place
 
 -- all that a program writes of what a call makes of its input
 abbrev pub told : Outcome → List ℕ
@@ -26,7 +26,7 @@ pub record Told (o : Outcome) (held : List ℕ) (n : ℕ) (out : List ℕ) : Typ
 -- of a call's answer: how many bytes there are to write, and the buffer, with the refusal's record at its front
 abbrev pub told_count : Result ℕ Rejection → ℕ
 told_count (Ok n) = n
-told_count (Err e) = refusal_size
+told_count (Err e) = REFUSAL_SIZE
 
 abbrev pub told_buffer : List ℕ → Result ℕ Rejection → List ℕ
 told_buffer held (Ok n) = held

@@ -2,7 +2,7 @@
 #![tactic(auto)]
 
 ghost use Rattle.std.specs.Prelude.{◌≤◌, ◌≡◌, length, take};
-ghost use Rattle.tonekit_core.specs.Layout.{refusal_size};
+ghost use Rattle.tonekit_core.specs.declared.layout.TheConstants.{REFUSAL_SIZE};
 ghost use Rattle.tonekit_report.specs.Report.{refusal_bytes, told_count, told_buffer};
 
 use tonekit_core::{Rejection, layout};
@@ -25,7 +25,7 @@ pub fn refusal_record(e: Rejection) -> [u8; layout::REFUSAL_SIZE]
 // How many bytes at the front of a buffer a program writes, by what a call with that buffer answered. A
 // refusal's record is put there first.
 pub fn tell(answer: Result<usize, Rejection>, out: &mut [u8]) -> usize
-    requires { refusal_size ≤ length out.old }
+    requires { REFUSAL_SIZE ≤ length out.old }
     ensures { (result ≡ told_count answer) × (out.new ≡ told_buffer out.old answer) }
 {
     match answer {

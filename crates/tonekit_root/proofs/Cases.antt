@@ -8,7 +8,7 @@ use Rattle.tonekit_float.proofs.NarrowRound.{L}
 use Rattle.tonekit_float.proofs.Monotone.{zero_f}
 use Rattle.tonekit_float.proofs.Patterns.{units_in, units_pos, field_lt, same_value, pattern_lt, normal_value, subnormal_value}
 use Rattle.tonekit_float.proofs.Signs as signs
-use Rattle.tonekit_root.specs.Root.{Near, root_units, root_of}
+use Rattle.spec_arithmetic.specs.Root.{Near, root_units, root_of}
 
 -- ---- a float above 0 and below infinity
 pub record Above (x : Float) : Type 0 where

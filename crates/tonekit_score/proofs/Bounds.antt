@@ -5,13 +5,13 @@ use Rattle.std.specs.Float.Ieee.{is_nan, neg, lt, le, round, of_bits}
 use lib.Ieee.{fin, fits}
 use lib.Ieee.Fits.{cond-fits}
 use lib.Ieee.Scale.{finite}
-use Rattle.tonekit_float.specs.Narrow.{narrowed}
-use Rattle.tonekit_float.specs.Bounds.{In}
+use Rattle.spec_arithmetic.specs.Narrow.{narrowed}
+use Rattle.spec_arithmetic.specs.Bounds.{In}
 use Rattle.tonekit_float.proofs.Narrowing.{narrow_fits}
 use Rattle.tonekit_float.proofs.Order.{no, not-lt→le}
 use Rattle.tonekit_float.proofs.Nans.{finite_number}
 use Rattle.tonekit_float.proofs.Bounds.{in_finite, in_wider, in_narrow}
-use Rattle.tonekit_score.specs.Score.{zero32, million, clamp_log}
+use Rattle.spec_judgement.specs.Score.{zero32, million, clamp_log}
 
 abbrev pub Bounded : Float → Type 0
 Bounded v = In (neg million) million v

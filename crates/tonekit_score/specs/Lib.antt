@@ -1,3 +1,1 @@
-pub mod Score
 pub mod Terms
-pub mod Bench

@@ -2,10 +2,10 @@
 use Rattle.std.specs.Prelude.{Option, Some, None, cond, Float}
 use Rattle.std.specs.Float.{binary64}
 use Rattle.std.specs.Float.Ieee.{add, le}
-use Rattle.tonekit_log.specs.Log.{ln_of}
-use Rattle.tonekit_score.specs.Score.{zero32, log_of}
-use Rattle.tonekit_score.specs.declared.Scoring.{Scoring}
-use Rattle.tonekit_score.specs.declared.Term.{Term}
+use Rattle.spec_arithmetic.specs.Log.{ln_of}
+use Rattle.spec_judgement.specs.Score.{zero32, log_of}
+use Rattle.spec_judgement.specs.declared.Scoring.{Scoring}
+use Rattle.spec_judgement.specs.declared.Term.{Term}
 
 -- the score and the squared distance, of a component whose weight is above 0
 unfoldable pub term_of : Scoring → Float → Float → Option Term

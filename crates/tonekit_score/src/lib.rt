@@ -4,96 +4,19 @@
 ghost use Rattle.std.specs.Prelude.{◌≡◌, ◌<◌};
 ghost use Rattle.std.specs.Float.{binary64};
 ghost use Rattle.std.specs.Float.Ieee.{mul};
-ghost use Rattle.tonekit_score.specs.Score.{widen_for, scoring_of, clamp_log, empty, add_to, value_of, excused};
-ghost use Rattle.tonekit_score.specs.Score.{point_weight, squares_of, end_term, ends_of, distance_of, log_of};
-ghost use Rattle.tonekit_score.specs.Score.{no_mixing, led, mixture_of, mixture_log, calibrate};
+ghost use Rattle.spec_judgement.specs.Score.{widen_for, scoring_of, clamp_log, empty, add_to, value_of, excused};
+ghost use Rattle.spec_judgement.specs.Score.{point_weight, squares_of, end_term, ends_of, distance_of, log_of};
+ghost use Rattle.spec_judgement.specs.Score.{no_mixing, led, mixture_of, mixture_log, calibrate};
 ghost use Rattle.tonekit_score.specs.Terms.{term_of};
 
+pub use spec_judgement::{
+    Lead, LogSumExp, Mixing, Mixture, Region, Scoring, Settings, Squares, Term, Tolerance,
+};
 use tonekit_core::MeasureIssue;
 use tonekit_shape::ToneShape;
 
-// The two settings that a judgement scores by: the temperature, and the posterior from which on a tone is heard.
-#[derive(Clone, Copy)]
-pub struct Settings {
-    pub temperature: f32,
-    pub threshold: f32,
-}
-
-// Gaussian scales of the graded accent, before any widening.
-#[derive(Clone, Copy)]
-pub struct Tolerance {
-    pub contour: f32,
-    pub onset: f32,
-    pub offset: f32,
-    pub turning: f32,
-}
-
-// Where in a tone missing pitch is not penalised.
-#[derive(Clone, Copy)]
-pub struct Region {
-    pub from: f32,
-    pub to: f32,
-}
-
-// How a call's issues, the graded accent and the pack's settings change scoring.
-#[derive(Clone, Copy)]
-pub struct Scoring {
-    pub widen: f64,
-    pub contour: bool,
-    pub temperature: f64,
-    pub sigmacontour: f64,
-    pub sigmaonset: f64,
-    pub sigmaoffset: f64,
-    pub logsigma: f64,
-}
-
-// A running log-sum-exp: the greatest score and the running sum.
-#[derive(Clone, Copy)]
-pub struct LogSumExp {
-    pub max: f64,
-    pub sum: f64,
-}
-
-// Either a scored mixture, with its log-likelihood, the index of its best component and that one's
-// squared distance; or nothing to score.
-// Stays: docs/FORMATS.md fixes this form, an enum of what is scored and of nothing, which the Rust has.
-#[derive(Clone, Copy)]
-pub enum Mixture {
-    Scored(f64, usize, f64),
-    Nothing,
-}
-
-// A weighted sum of squares and the weights' sum.
-#[derive(Clone, Copy)]
-pub struct Squares {
-    pub weighted: f64,
-    pub total: f64,
-}
-
-// The best component, or tone, so far: its score, its index and its squared distance.
-#[derive(Clone, Copy)]
-pub struct Lead {
-    pub score: f64,
-    pub index: usize,
-    pub distance: f64,
-}
-
-// What a component brings to a mixture.
-#[derive(Clone, Copy)]
-pub struct Term {
-    pub score: f64,
-    pub distance: f64,
-}
-
-// A mixture so far: the sum, and the best component, if there is one.
-#[derive(Clone, Copy)]
-pub struct Mixing {
-    pub total: LogSumExp,
-    pub best: Option<Lead>,
-}
-
 // The factor on every tolerance: 1.5 under LowSnr, Clipped or ColdStartRegister, else 1.
-#[tactic(auto, unfolding(crate::specs::Score::widen_for))]
+#[tactic(auto, unfolding(spec_judgement::specs::Score::widen_for))]
 pub fn widen_for(issues: u16) -> f32
     ensures { result ≡ widen_for issues }
 {
@@ -116,7 +39,7 @@ pub fn widened(sigma: f32, widen: f64) -> f64
 
 // How a judgement scores: the tolerances widened for the issues, and the logarithm of their product,
 // which every component shares.
-#[tactic(auto, unfolding(crate::specs::Score::scoring_of))]
+#[tactic(auto, unfolding(spec_judgement::specs::Score::scoring_of))]
 pub fn scoring_of(temperature: f32, t: Tolerance, issues: u16) -> Scoring
     ensures { result ≡ scoring_of temperature t issues }
 {
@@ -136,7 +59,7 @@ pub fn scoring_of(temperature: f32, t: Tolerance, issues: u16) -> Scoring
 }
 
 // v as an f32 within -1,000,000 and 1,000,000; a NaN gives the lower bound.
-#[tactic(auto, unfolding(crate::specs::Score::clamp_log))]
+#[tactic(auto, unfolding(spec_judgement::specs::Score::clamp_log))]
 pub fn clamp_log(v: f64) -> f32
     ensures { result ≡ clamp_log v }
 {
@@ -152,48 +75,46 @@ pub fn clamp_log(v: f64) -> f32
     tonekit_float::narrow(v)
 }
 
-impl LogSumExp {
-    // The sum of no scores: minus infinity.
-    pub fn empty() -> LogSumExp
-        ensures { result ≡ empty }
-    {
+// The sum of no scores: minus infinity.
+pub fn empty() -> LogSumExp
+    ensures { result ≡ empty }
+{
+    LogSumExp {
+        max: f64::NEG_INFINITY,
+        sum: 0.0,
+    }
+}
+
+// The sum with one more score; minus infinity adds nothing.
+#[tactic(auto, unfolding(spec_judgement::specs::Score::add_to))]
+pub fn added(s: LogSumExp, v: f64) -> LogSumExp
+    ensures { result ≡ add_to s v }
+{
+    if v == f64::NEG_INFINITY {
+        return s;
+    }
+    if s.max < v {
         LogSumExp {
-            max: f64::NEG_INFINITY,
-            sum: 0.0,
+            max: v,
+            sum: s.sum * tonekit_log::exp(s.max - v) + 1.0,
+        }
+    } else {
+        LogSumExp {
+            max: s.max,
+            sum: s.sum + tonekit_log::exp(v - s.max),
         }
     }
+}
 
-    // The sum with one more score; minus infinity adds nothing.
-    #[tactic(auto, unfolding(crate::specs::Score::add_to))]
-    pub fn add(self, v: f64) -> LogSumExp
-        ensures { result ≡ add_to self v }
-    {
-        if v == f64::NEG_INFINITY {
-            return self;
-        }
-        if self.max < v {
-            LogSumExp {
-                max: v,
-                sum: self.sum * tonekit_log::exp(self.max - v) + 1.0,
-            }
-        } else {
-            LogSumExp {
-                max: self.max,
-                sum: self.sum + tonekit_log::exp(v - self.max),
-            }
-        }
+// The logarithm of the sum of the scores' exponentials.
+#[tactic(auto, unfolding(spec_judgement::specs::Score::value_of))]
+pub fn value_of(s: LogSumExp) -> f64
+    ensures { result ≡ value_of s }
+{
+    if 0.0 < s.sum {
+        return s.max + tonekit_log::ln(s.sum);
     }
-
-    // The logarithm of the sum of the scores' exponentials.
-    #[tactic(auto, unfolding(crate::specs::Score::value_of))]
-    pub fn value(self) -> f64
-        ensures { result ≡ value_of self }
-    {
-        if 0.0 < self.sum {
-            return self.max + tonekit_log::ln(self.sum);
-        }
-        f64::NEG_INFINITY
-    }
+    f64::NEG_INFINITY
 }
 
 // `add` on the pair lent for writing, as in the Rust.
@@ -201,11 +122,11 @@ impl LogSumExp {
 pub fn add_to(s: &mut LogSumExp, v: f64)
     ensures { s.new ≡ add_to s.old v }
 {
-    *s = LogSumExp::add(*s, v);
+    *s = added(*s, v);
 }
 
 // Whether point k, voiced so much, lies in the region and carries no weight.
-#[tactic(auto, unfolding(crate::specs::Score::excused))]
+#[tactic(auto, unfolding(spec_judgement::specs::Score::excused))]
 fn excused(region: Option<Region>, k: usize, voiced: f32) -> bool
     requires { k < 10 }
     ensures { result ≡ excused region k voiced }
@@ -218,7 +139,7 @@ fn excused(region: Option<Region>, k: usize, voiced: f32) -> bool
 }
 
 // The weight of point k: none where it is excused, else at least 0.25.
-#[tactic(auto, unfolding(crate::specs::Score::point_weight))]
+#[tactic(auto, unfolding(spec_judgement::specs::Score::point_weight))]
 fn point_weight(region: Option<Region>, k: usize, voiced: f32) -> f64
     requires { k < 10 }
     ensures { result ≡ point_weight region k voiced }
@@ -249,7 +170,7 @@ fn squares_of(x: ToneShape, region: Option<Region>, ten: &[f32; 10]) -> Squares
 }
 
 // Half the square of a difference in units of its tolerance.
-#[tactic(auto, unfolding(crate::specs::Score::end_term))]
+#[tactic(auto, unfolding(spec_judgement::specs::Score::end_term))]
 fn end_term(d: f64, sigma: f64) -> f64
     ensures { result ≡ end_term d sigma }
 {
@@ -257,7 +178,7 @@ fn end_term(d: f64, sigma: f64) -> f64
 }
 
 // The two ends' share of the squared distance.
-#[tactic(auto, unfolding(crate::specs::Score::ends_of))]
+#[tactic(auto, unfolding(spec_judgement::specs::Score::ends_of))]
 fn ends_of(x: ToneShape, s: Scoring, ten: &[f32; 10]) -> f64
     ensures { result ≡ ends_of x s ten.now }
 {
@@ -267,7 +188,7 @@ fn ends_of(x: ToneShape, s: Scoring, ten: &[f32; 10]) -> f64
 }
 
 // The squared distance of a shape from a component's ten points, whose tone has that region or none.
-#[tactic(auto, unfolding(crate::specs::Score::distance_of))]
+#[tactic(auto, unfolding(spec_judgement::specs::Score::distance_of))]
 pub fn distance_of(x: ToneShape, s: Scoring, region: Option<Region>, ten: &[f32; 10]) -> f64
     ensures { result ≡ distance_of x s region ten.now }
 {
@@ -282,7 +203,7 @@ pub fn distance_of(x: ToneShape, s: Scoring, region: Option<Region>, ten: &[f32;
 }
 
 // The log-likelihood at a squared distance, before weighting.
-#[tactic(auto, unfolding(crate::specs::Score::log_of))]
+#[tactic(auto, unfolding(spec_judgement::specs::Score::log_of))]
 fn log_of(s: Scoring, d2: f64) -> f64
     ensures { result ≡ log_of s d2 }
 {
@@ -294,7 +215,7 @@ pub fn no_mixing() -> Mixing
     ensures { result ≡ no_mixing }
 {
     Mixing {
-        total: LogSumExp::empty(),
+        total: empty(),
         best: None,
     }
 }
@@ -328,7 +249,7 @@ pub fn mixture_of(m: Mixing) -> Mixture
     ensures { result ≡ mixture_of m }
 {
     match m.best {
-        Some(best) => Mixture::Scored(m.total.value(), best.index, best.distance),
+        Some(best) => Mixture::Scored(value_of(m.total), best.index, best.distance),
         None => Mixture::Nothing,
     }
 }
@@ -344,7 +265,7 @@ pub fn mixture_log(m: Mixture) -> f64
 }
 
 // A log-likelihood divided by the temperature and clamped.
-#[tactic(auto, unfolding(crate::specs::Score::calibrate))]
+#[tactic(auto, unfolding(spec_judgement::specs::Score::calibrate))]
 pub fn calibrate(s: Scoring, ll: f64) -> f32
     ensures { result ≡ calibrate s ll }
 {

@@ -3,16 +3,16 @@ use Rattle.std.proofs.Common.{ℕ, zero, suc, ◌+◌, ◌-◌, ◌≤◌, ◌�
 use Rattle.std.specs.Prelude.{Option}
 use lib.ListN.{length-replicate}
 use lib.Ieee.{binary32, mul, div}
-use Rattle.tonekit_float.specs.Narrow.{narrowed}
-use Rattle.tonekit_contour.specs.Turning.{turning_point}
+use Rattle.spec_arithmetic.specs.Narrow.{narrowed}
+use Rattle.spec_shape.specs.Turning.{turning_point}
 use Rattle.tonekit_core.specs.Loop.{turns, range}
-use Rattle.tonekit_query.specs.Frames.{frame_at}
-use Rattle.tonekit_fit.specs.Chao.{zero64, semitones_of, width_of}
-use Rattle.tonekit_fit.specs.Fit.{line_slope, quadratic_coefficient}
-use Rattle.tonekit_shape.specs.declared.Extent.{Extent}
-use Rattle.tonekit_shape.specs.declared.ToneShape.{ToneShape}
+use Rattle.spec_query.specs.Frames.{frame_at}
+use Rattle.spec_shape.specs.Chao.{zero64, semitones_of, width_of}
+use Rattle.spec_shape.specs.Fit.{line_slope, quadratic_coefficient}
+use Rattle.spec_shape.specs.declared.Extent.{Extent}
+use Rattle.spec_shape.specs.declared.ToneShape.{ToneShape}
 use Rattle.tonekit_shape.proofs.Fill.{Listed, listed_none, listed_more, listed_all}
-use Rattle.tonekit_shape.specs.Extract.{frames_in, semitone_turn, semitones, holes_filled, chao_curve, list_of, drawn, smoothed, contour_of, weights_of, ten32, whole32, mean_of, range_of, span_frames, confidence, turning_of, shape_of}
+use Rattle.spec_shape.specs.Extract.{frames_in, semitone_turn, semitones, holes_filled, chao_curve, list_of, drawn, smoothed, contour_of, weights_of, ten32, whole32, mean_of, range_of, span_frames, confidence, turning_of, shape_of}
 
 -- the part's semitones, one after the other
 module _ (frames : List ℕ) (first : ℕ) where

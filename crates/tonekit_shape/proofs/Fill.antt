@@ -2,7 +2,7 @@
 use Rattle.std.proofs.Common.{ℕ, zero, suc, ◌+◌, ◌-◌, ◌≤◌, ◌<◌, ◌≡◌, refl, sym, ◌∙◌, ap, List, [], ◌∷◌, ◌++◌, append_assoc, append-nil, add-one, arith, length, drop, get_or, set, length-append, length-drop, drop_of_length-le, drop-cons, get_or-append-add, get_or-drop, Float}
 use lib.Seq.{set_at}
 use lib.Ieee.{nan}
-use Rattle.tonekit_shape.specs.Extract.{list_of}
+use Rattle.spec_shape.specs.Extract.{list_of}
 
 -- one more place written
 set_front : (p l : List Float) (k : ℕ) (v : Float) → length p ≡ k → k < length l → set (p ++ drop k l) k v ≡ (p ++ (v ∷ [])) ++ drop (k + 1) l

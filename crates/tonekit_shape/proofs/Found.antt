@@ -1,9 +1,9 @@
 -- What an extent keeps while frames are looked at. Assumes nothing.
 use Rattle.std.proofs.Common.{ℕ, ◌+◌, ◌≤◌, ◌<◌, ◌≡◌, refl, Bool, true, false, cond, List, arith, eqb, eqb-true}
 use borrow.Author.Tests.{eqb-false}
-use Rattle.tonekit_fit.specs.Chao.{voiced}
-use Rattle.tonekit_shape.specs.declared.Extent.{Extent}
-use Rattle.tonekit_shape.specs.Extract.{extent_turn, frames_in}
+use Rattle.spec_shape.specs.Chao.{voiced}
+use Rattle.spec_shape.specs.declared.Extent.{Extent}
+use Rattle.spec_shape.specs.Extract.{extent_turn, frames_in}
 
 -- the frames below i are looked at, of count frames
 pub record Found (count i : ℕ) (e : Extent) : Type 0 where

@@ -3,13 +3,13 @@ use Rattle.std.proofs.Common.{ℕ, ◌≤◌, ◌<◌, ◌≡◌, sym, ◌∙◌
 use Rattle.std.specs.Prelude.{Ok, Err}
 use Rattle.tonekit_core.specs.Calls.{refused, written}
 use Rattle.tonekit_core.specs.declared.Refusal.TheVariants.{Unvoiced}
-use Rattle.tonekit_query.specs.Query.{load_query, frames_of}
-use Rattle.tonekit_query.specs.declared.Query.{Query}
+use Rattle.spec_query.specs.Query.{load_query, frames_of}
+use Rattle.spec_query.specs.declared.Query.{Query}
 use Rattle.tonekit_core.specs.declared.Rejection.{Rejection}
-use Rattle.tonekit_shape.specs.declared.Extent.{Extent}
-use Rattle.tonekit_shape.specs.declared.ToneShape.{ToneShape}
-use Rattle.tonekit_shape.specs.Extract.{extent_of, shape_of}
-use Rattle.tonekit_shape.specs.Record.{shape_bytes, shaped, shape_outcome}
+use Rattle.spec_shape.specs.declared.Extent.{Extent}
+use Rattle.spec_shape.specs.declared.ToneShape.{ToneShape}
+use Rattle.spec_shape.specs.Extract.{extent_of, shape_of}
+use Rattle.spec_shape.specs.Record.{shape_bytes, shaped, shape_outcome}
 
 -- a query that loads
 module _ (frames : List ℕ) (q : Query) (e : Extent) (is : e ≡ extent_of frames q.count q.start q.end) where

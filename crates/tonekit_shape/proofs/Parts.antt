@@ -1,14 +1,14 @@
 -- The parts of a shape record, one after the other, are the record; it has 124 bytes. Assumes nothing.
 use Rattle.std.proofs.Common.{ℕ, ◌+◌, ◌≡◌, refl, ◌∙◌, ap, List, ◌++◌, append-nil, arith, length, length-append, drop_of_length-le, Bool, Float}
 use lib.Seq.{sets, sets-eq}
-use Rattle.tonekit_bytes.specs.Fields.{f32s_bytes}
+use Rattle.spec_arithmetic.specs.Fields.{f32s_bytes}
 use Rattle.tonekit_bytes.proofs.Write.{more, f32s_length}
-use Rattle.tonekit_shape.specs.declared.ToneShape.{ToneShape}
+use Rattle.spec_shape.specs.declared.ToneShape.{ToneShape}
 use mir.Val.{bool_byte}
 use Rattle.std.specs.Prelude.{Option, Some, None}
 use Rattle.std.specs.Option.{is_some, unwrap_or}
-use Rattle.tonekit_shape.specs.Extract.{zero32}
-use Rattle.tonekit_shape.specs.Record.{united, turns_of, turning_value, span_bytes, fit_bytes, measure_bytes, shape_bytes}
+use Rattle.spec_shape.specs.Extract.{zero32}
+use Rattle.spec_shape.specs.Record.{united, turns_of, turning_value, span_bytes, fit_bytes, measure_bytes, shape_bytes}
 
 -- stores from index 0 on that are as many as the list replace all of it
 pub whole : (l bs : List ℕ) → length l ≡ length bs → sets l 0 bs ≡ bs

@@ -1,7 +1,7 @@
 -- A frame's mean with its neighbours, on a curve whose earlier frames are smoothed already. Assumes nothing.
 use Rattle.std.proofs.Common.{ℕ, zero, suc, ◌+◌, ◌-◌, ◌≤◌, ◌<◌, ◌≡◌, refl, ap, List, arith, length, get_or, Float}
 use lib.Ieee.{nan}
-use Rattle.tonekit_shape.specs.Extract.{mean_with, smoothed_at}
+use Rattle.spec_shape.specs.Extract.{mean_with, smoothed_at}
 use Rattle.tonekit_shape.proofs.Fill.{Listed, listed_rest, listed_same}
 
 kept : (l : List Float) (j : ℕ) (b : Float) → (1 ≤ j → b ≡ get_or l (j - 1) nan) → mean_with l j b ≡ smoothed_at l j

@@ -1,3 +1,0 @@
-pub mod Extract
-pub mod Record
-pub mod Bench

@@ -1,13 +1,13 @@
 // The curve of a voiced part, one value a frame, made where it stands: semitones, unvoiced frames
 // filled between voiced ones, Chao values, and the 3-frame mean for the turning point.
 ghost use Rattle.std.specs.Prelude.{◌≡◌, ◌≤◌, ◌<◌, length};
-ghost use Rattle.tonekit_fit.specs.Chao.{width_of};
-ghost use Rattle.tonekit_shape.specs.Extract.{semitones, gap_filled, holes_filled, chao_curve, mean_with, smoothed};
+ghost use Rattle.spec_shape.specs.Chao.{width_of};
+ghost use Rattle.spec_shape.specs.Extract.{semitones, gap_filled, holes_filled, chao_curve, mean_with, smoothed};
 
 use tonekit_fit::Frames;
 
 // Each frame's semitones, 0 where it is unvoiced: one logarithm a voiced frame.
-#[tactic(auto, using(tonekit_core::specs::Loop::again, tonekit_core::specs::Loop::ended), unfolding(crate::specs::Extract::semitones))]
+#[tactic(auto, using(tonekit_core::specs::Loop::again, tonekit_core::specs::Loop::ended), unfolding(spec_shape::specs::Extract::semitones))]
 pub fn semitones(curve: &mut [f64], frames: Frames<'_>)
     ensures { curve.new ≡ semitones frames.entry.bytes.now frames.entry.first curve.old }
 {
@@ -44,7 +44,7 @@ pub fn fill_holes(curve: &mut [f64], frames: Frames<'_>)
 }
 
 // Chao values in the register from floor to ceil.
-#[tactic(auto, using(tonekit_core::specs::Loop::again, tonekit_core::specs::Loop::ended), unfolding(crate::specs::Extract::chao_curve))]
+#[tactic(auto, using(tonekit_core::specs::Loop::again, tonekit_core::specs::Loop::ended), unfolding(spec_shape::specs::Extract::chao_curve))]
 pub fn chao(curve: &mut [f64], floor: f32, ceil: f32)
     ensures { curve.new ≡ chao_curve floor (width_of floor ceil) curve.old }
 {

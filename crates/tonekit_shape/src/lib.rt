@@ -2,14 +2,15 @@
 #![tactic(auto)]
 
 ghost use Rattle.std.specs.Prelude.{◌≡◌, ℕ, ◌+◌, ◌≤◌, ◌<◌, length};
-ghost use Rattle.tonekit_contour.specs.Turning.{turning_point};
+ghost use Rattle.spec_shape.specs.Turning.{turning_point};
 ghost use Rattle.tonekit_core.specs.Calls.{Delivers};
-ghost use Rattle.tonekit_shape.specs.Record.{united, shaped, shape_outcome};
-ghost use Rattle.tonekit_shape.specs.Extract.{extent_turn, extent_of, contour_of, weights_of, mean_of, confidence_added, confidence, span_frames, frames_in, drawn, smoothed, shape_of, Lists, Extended, Voiced3};
+ghost use Rattle.spec_shape.specs.Record.{united, shaped, shape_outcome};
+ghost use Rattle.spec_shape.specs.Extract.{extent_turn, extent_of, contour_of, weights_of, mean_of, confidence_added, confidence, span_frames, frames_in, drawn, smoothed, shape_of, Lists, Extended, Voiced3};
 
 mod curve;
 mod record;
 
+pub use spec_shape::{Extent, ToneShape};
 use tonekit_core::{MeasureIssue, Refusal, Rejection};
 use tonekit_fit::{Frames, Part};
 use tonekit_query::Query;
@@ -17,7 +18,7 @@ use tonekit_query::Query;
 const FRAME_MS: f32 = 10.0;
 
 // A call's issues, with TooShort where the voiced part has fewer than 8 frames.
-#[tactic(auto, unfolding(crate::specs::Record::united))]
+#[tactic(auto, unfolding(spec_shape::specs::Record::united))]
 pub fn united(issues: u16, n: usize) -> u16
     ensures { result ≡ united issues n }
 {
@@ -26,31 +27,6 @@ pub fn united(issues: u16, n: usize) -> u16
     } else {
         issues
     }
-}
-
-// Which frames of a span are voiced: how many, the first and the last.
-#[derive(Clone, Copy)]
-pub struct Extent {
-    pub count: usize,
-    pub first: usize,
-    pub last: usize,
-}
-
-// A syllable's shape, as in the Rust.
-// Stays: ten pairs would be no plainer: the record has all points before all weights, and the mean, the range, the deltas and the ends' scores read the points alone.
-#[derive(Clone, Copy)]
-pub struct ToneShape {
-    pub contour: [f32; 10],
-    pub weights: [f32; 10],
-    pub mean: f32,
-    pub slope: f32,
-    pub curvature: f32,
-    pub turning: Option<f32>,
-    pub range: f32,
-    pub duration: f32,
-    pub fraction: f32,
-    pub confidence: f32,
-    pub frames: usize,
 }
 
 // The extent with frame i, where that is voiced.
@@ -70,7 +46,7 @@ fn extended(frames: &[u8], i: usize, e: Extent) -> Extent
 }
 
 // The voiced frames of a query's span, clamped to the frames that are there; any span will do.
-#[tactic(auto, using(tonekit_core::specs::Loop::again, tonekit_core::specs::Loop::ended, crate::proofs::Found::found_none, crate::proofs::Found::found_more), unfolding(crate::specs::Extract::extent_of))]
+#[tactic(auto, using(tonekit_core::specs::Loop::again, tonekit_core::specs::Loop::ended, crate::proofs::Found::found_none, crate::proofs::Found::found_more), unfolding(spec_shape::specs::Extract::extent_of))]
 pub fn voiced_frames(frames: &[u8], q: Query) -> Extent
     ensures { Extended frames.now q.count q.start q.end result }
 {
@@ -114,7 +90,7 @@ fn weights_of(frames: Frames<'_>, n: usize) -> [f32; 10]
 }
 
 // The mean of a contour.
-#[tactic(auto, using(tonekit_core::specs::Loop::again, tonekit_core::specs::Loop::ended), unfolding(crate::specs::Extract::mean_of))]
+#[tactic(auto, using(tonekit_core::specs::Loop::again, tonekit_core::specs::Loop::ended), unfolding(spec_shape::specs::Extract::mean_of))]
 fn mean_of(contour: &[f32; 10]) -> f32
     ensures { result ≡ mean_of contour.now }
 {
@@ -138,7 +114,7 @@ fn confidence_added(frames: &[u8], i: usize, sum: f32) -> f32
 }
 
 // The mean voiced_p of the voiced frames.
-#[tactic(auto, using(tonekit_core::specs::Loop::again, tonekit_core::specs::Loop::ended), unfolding(crate::specs::Extract::confidence))]
+#[tactic(auto, using(tonekit_core::specs::Loop::again, tonekit_core::specs::Loop::ended), unfolding(spec_shape::specs::Extract::confidence))]
 fn confidence_of(frames: &[u8], e: Extent) -> f32
     requires { (e.first ≤ e.last) × (e.last < 1024) × (e.count ≤ 1024) }
     ensures { result ≡ confidence frames.now e }
@@ -158,7 +134,7 @@ fn span_frames(q: Query) -> f32
 }
 
 // The part's curve in Chao values, drawn over what stands there.
-#[tactic(auto, unfolding(crate::specs::Extract::drawn))]
+#[tactic(auto, unfolding(spec_shape::specs::Extract::drawn))]
 fn draw(chao: &mut [f64], frames: Frames<'_>, q: Query)
     ensures { chao.new
         ≡ drawn frames.entry.bytes.now frames.entry.first q.floor q.ceil chao.old }

@@ -1,8 +1,8 @@
 // The shape record, the format's kind 51.
 ghost use Rattle.std.specs.Prelude.{◌≡◌};
 ghost use Rattle.std.proofs.lemmas.List.Edits.{sets};
-ghost use Rattle.tonekit_core.specs.Layout.{shape_mean, shape_range};
-ghost use Rattle.tonekit_shape.specs.Record.{span_bytes, fit_bytes, measure_bytes, shape_bytes};
+ghost use Rattle.tonekit_core.specs.declared.layout.TheConstants.{SHAPE_MEAN, SHAPE_RANGE};
+ghost use Rattle.spec_shape.specs.Record.{span_bytes, fit_bytes, measure_bytes, shape_bytes};
 
 use crate::{ToneShape, united};
 use tonekit_core::layout::{self, SHAPE_SIZE};
@@ -18,9 +18,9 @@ fn put_span(out: &mut [u8; SHAPE_SIZE], q: Query)
 }
 
 // Mean, slope, curvature and turning point; without one the flag and the value are 0.
-#[tactic(auto, using(crate::proofs::Parts::flag_is, crate::proofs::Parts::value_is), unfolding(crate::specs::Record::fit_bytes))]
+#[tactic(auto, using(crate::proofs::Parts::flag_is, crate::proofs::Parts::value_is), unfolding(spec_shape::specs::Record::fit_bytes))]
 fn put_fits(out: &mut [u8; SHAPE_SIZE], x: ToneShape)
-    ensures { out.new ≡ sets out.old shape_mean (fit_bytes x) }
+    ensures { out.new ≡ sets out.old SHAPE_MEAN (fit_bytes x) }
 {
     tonekit_bytes::put_f32(out, layout::SHAPE_MEAN, x.mean);
     tonekit_bytes::put_f32(out, layout::SHAPE_SLOPE, x.slope);
@@ -30,9 +30,9 @@ fn put_fits(out: &mut [u8; SHAPE_SIZE], x: ToneShape)
 }
 
 // Range, duration, fraction, confidence and issues.
-#[tactic(auto, unfolding(crate::specs::Record::measure_bytes))]
+#[tactic(auto, unfolding(spec_shape::specs::Record::measure_bytes))]
 fn put_measures(out: &mut [u8; SHAPE_SIZE], x: ToneShape, issues: u16)
-    ensures { out.new ≡ sets out.old shape_range (measure_bytes x issues) }
+    ensures { out.new ≡ sets out.old SHAPE_RANGE (measure_bytes x issues) }
 {
     tonekit_bytes::put_f32(out, layout::SHAPE_RANGE, x.range);
     tonekit_bytes::put_f32(out, layout::SHAPE_DURATION, x.duration);

@@ -6,8 +6,8 @@ use Rattle.tonekit_core.proofs.Split.{split}
 use Rattle.tonekit_sheet.specs.declared.Kind.{Kind}
 use Rattle.tonekit_sheet.specs.declared.Kind.TheVariants as kind
 use Rattle.tonekit_sheet.specs.Kinds.{number, kind_of}
-use Rattle.tonekit_core.specs.Layout.{sheet_end_size}
-use Rattle.tonekit_sheet.specs.Reader.{Sst, due_next, size_of}
+use Rattle.tonekit_core.specs.declared.layout.TheConstants.{SHEET_END_SIZE}
+use Rattle.spec_sheet.specs.Reader.{Sst, due_next, size_of}
 
 same_ok : (a k : Kind) → ◌≡◌ {A = Result Kind Refusal} (Ok a) (Ok k) → a ≡ k
 same_ok a k h = cc
@@ -44,7 +44,7 @@ no_kind st n r h =
     (λ g. (same_err Misplaced r (rw (a, b, c, d, e, f, g) at h), rw (a, b, c, d, e, f, g)))))))))
 
 -- and has the size of an End
-pub no_kind_size : (n : ℕ) (r : Refusal) → kind_of n ≡ Err r → size_of n ≡ sheet_end_size
+pub no_kind_size : (n : ℕ) (r : Refusal) → kind_of n ≡ Err r → size_of n ≡ SHEET_END_SIZE
 unfolding size_of
 no_kind_size n r h =
     split (eqb n 17) (λ a. not_both kind.Settings r (rw a at h))

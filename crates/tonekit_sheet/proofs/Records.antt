@@ -9,12 +9,12 @@ use lib.Dec.{eqb, leb, ltb}
 use borrow.Author.Tests.{eqb-true, eqb-false, leb-false, ltb-true, ltb-false, not-true}
 use Rattle.tonekit_core.specs.declared.Refusal.TheVariants.{Misplaced, CutShort}
 use Rattle.std.specs.Prelude.{Ok}
-use Rattle.tonekit_bytes.specs.Fields.{byte_at}
-use Rattle.tonekit_bytes.specs.Places.{number_at}
-use Rattle.tonekit_pack.specs.Pack.{holds}
+use Rattle.spec_arithmetic.specs.Fields.{byte_at}
+use Rattle.spec_arithmetic.specs.Places.{number_at}
+use Rattle.spec_pack.specs.Pack.{holds}
 use Rattle.tonekit_core.proofs.Split.{split, either, neither, both}
 use Rattle.tonekit_pack.proofs.Records.{not_fine, Passed, passed}
-use Rattle.tonekit_sheet.specs.Reader.{Sst, rows_due, complete, due_next, size_of, tone_fine, tone_verdict, accent_fine, accent_verdict, list_crowded, list_fine, list_verdict, component_fine, component_verdict, body_verdict, record_verdict}
+use Rattle.spec_sheet.specs.Reader.{Sst, rows_due, complete, due_next, size_of, tone_fine, tone_verdict, accent_fine, accent_verdict, list_crowded, list_fine, list_verdict, component_fine, component_verdict, body_verdict, record_verdict}
 
 -- a list or the end is due: after the last row, or after the last component of a list
 pub data Complete (st : Sst) : Type 0 where

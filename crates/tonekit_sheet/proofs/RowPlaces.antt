@@ -3,7 +3,7 @@ use Prim.Native.Nat.{ℕ, zero, suc, ◌+◌, ◌*◌, ◌/◌, ◌%◌, ◌≤�
 use mathlib.Core.Path.{◌≡◌, sym, ap, ◌∙◌}
 use native.Mathlib.Nat.{mul_comm, mul_assoc, mul-zero, mul-pos, mul-le-mul, mul-le-mul_right, mod-lt, mod-eq_of_lt, div-eq_of_lt, div-lt_iff_lt-mul, div-add-mod', div-div-eq-div-mul, mul-add-div_right, mul-add-mod_self_right}
 use native.Mathlib.Omega.{arith}
-use Rattle.tonekit_sheet.specs.Sheet.{row_count, accent_place, tone_place, prev_place}
+use Rattle.spec_sheet.specs.Sheet.{row_count, accent_place, tone_place, prev_place}
 
 pub each_few : (t : ℕ) → t ≤ 8 → t * (t + 1) ≤ 72
 each_few t l = let m : t + 1 ≤ 9 = omega arith in mul-le-mul l m

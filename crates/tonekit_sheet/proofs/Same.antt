@@ -7,8 +7,8 @@ use lib.Dec.{eqb}
 use lib.ListN.{length}
 use borrow.Author.Tests.{eq-eqb, eqb-true}
 use Rattle.tonekit_core.proofs.Split.{split, absurd_bool, both}
-use Rattle.tonekit_expect.specs.Source.{Carried}
-use Rattle.tonekit_sheet.specs.Number.{same_numbers, same_carried, same, seen_in, place_in}
+use Rattle.spec_lookup.specs.Source.{Carried}
+use Rattle.spec_sheet.specs.Number.{same_numbers, same_carried, same, seen_in, place_in}
 
 numbers_is : (xs ys : List ℕ) → same_numbers xs ys ≡ true → xs ≡ ys
 unfolding same_numbers

@@ -10,10 +10,10 @@ use Rattle.tonekit_core.specs.Loop.{loop_to, loop_on, loop_again, loop_stop}
 use Rattle.tonekit_core.specs.declared.Refusal.{Refusal}
 use Rattle.tonekit_core.specs.declared.Refusal.TheVariants.{CutShort, Overrun, Loose, Unordered}
 use Rattle.std.specs.Prelude.{Option, Some, None, Ok, Err}
-use Rattle.tonekit_bytes.specs.Fields.{byte_at}
+use Rattle.spec_arithmetic.specs.Fields.{byte_at}
 use Rattle.tonekit_core.proofs.Split.{split}
 use Rattle.tonekit_pack.proofs.Turns.{by_verdict}
-use Rattle.tonekit_sheet.specs.Reader.{Sst, Out, loaded, refused, size_of, added, finished, record_verdict, record_turn, loose_row, accent_down, row_wrong, list_wrong, or_else, refused_at, start, read_sheet, singly, load_sheet}
+use Rattle.spec_sheet.specs.Reader.{Sst, Out, loaded, refused, size_of, added, finished, record_verdict, record_turn, loose_row, accent_down, row_wrong, list_wrong, or_else, refused_at, start, read_sheet, singly, load_sheet}
 use Rattle.tonekit_sheet.proofs.Records.{Sound, sound, size_pos}
 
 -- what has been read with the record at a place

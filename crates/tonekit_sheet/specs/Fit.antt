@@ -4,12 +4,12 @@ use Rattle.std.proofs.Math.Option.{some}
 use Rattle.std.specs.Float.{binary32}
 use Rattle.std.specs.Float.Ieee.{of_bits, le}
 use Rattle.std.specs.Float.Ieee.Scale.{finite}
-use Rattle.tonekit_pack.specs.Ranges.{above_zero, a_share, weight_fine}
-use Rattle.tonekit_expect.specs.Source.{Settings, Tone, Accent, Carried, Source, accent_in}
-use Rattle.tonekit_expect.specs.declared.Context.{Context}
-use Rattle.tonekit_sheet.specs.Agree.{Held}
-use Rattle.tonekit_sheet.specs.Reader.{point_fine}
-use Rattle.tonekit_sheet.specs.Sheet.{no_tone, no_accent, no_carried, view_of, lists_of}
+use Rattle.spec_pack.specs.Ranges.{above_zero, a_share, weight_fine}
+use Rattle.spec_lookup.specs.Source.{Settings, Tone, Accent, Carried, Source, accent_in}
+use Rattle.spec_lookup.specs.declared.Context.{Context}
+use Rattle.spec_sheet.specs.Agree.{Held}
+use Rattle.spec_sheet.specs.Reader.{point_fine}
+use Rattle.spec_sheet.specs.Sheet.{no_tone, no_accent, no_carried, view_of, lists_of}
 
 abbrev pub Bits : ℕ → Type 0
 Bits n = n < 4294967296

@@ -1,11 +1,3 @@
-pub mod Gather
-pub mod Number
-pub mod Sheet
-pub mod Reader
-pub mod FromSheet
-pub mod Agree
 pub mod Fit
-pub mod Bench
-pub mod Written
 pub mod Marks
 pub mod Kinds

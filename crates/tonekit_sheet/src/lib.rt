@@ -3,8 +3,8 @@
 #![tactic(auto)]
 
 ghost use Rattle.std.specs.Prelude.{◌≡◌, ◌≤◌};
-ghost use Rattle.tonekit_sheet.specs.Sheet.{row_count};
-ghost use Rattle.tonekit_sheet.specs.Reader.{size_of};
+ghost use Rattle.spec_sheet.specs.Sheet.{row_count};
+ghost use Rattle.spec_sheet.specs.Reader.{size_of};
 ghost use Rattle.tonekit_sheet.specs.Kinds.{number, kind_of};
 ghost use Rattle.tonekit_sheet.specs.Marks.{mixed};
 
@@ -46,7 +46,7 @@ impl TryFrom<u8> for Kind {
 impl Kind {
     // The bytes of a record of this kind, its kind among them.
     // Stays: beside tonekit_pack's; each lists the sizes of its own kinds.
-    #[tactic(auto, unfolding(crate::specs::Reader::size_of))]
+    #[tactic(auto, unfolding(spec_sheet::specs::Reader::size_of))]
     pub fn size(self) -> usize
         ensures { result ≡ size_of (number self) }
     {
@@ -64,7 +64,7 @@ impl Kind {
 
 // The bytes of a record that begins with a byte; where that is no kind, an End's.
 // Stays: beside tonekit_pack's, as `Kind::size`; k is any byte, since it promises the size of those that are no kind too.
-#[tactic(auto, using(crate::proofs::ByKind::kind_number, crate::proofs::ByKind::no_kind_size), unfolding(crate::specs::Reader::size_of))]
+#[tactic(auto, using(crate::proofs::ByKind::kind_number, crate::proofs::ByKind::no_kind_size), unfolding(spec_sheet::specs::Reader::size_of))]
 pub fn size_of(k: u8) -> usize
     ensures { result ≡ size_of k }
 {

@@ -4,15 +4,15 @@ use lib.ListN.{length-map}
 use lib.Ieee.{nan, fin, binary32, le, fits, of_bits}
 use lib.Ieee.Bits.{is_true, of_bits-to_bits, to_bits-lt, of_bits-fits, to_bits-of_bits, nan_bits_is, nan_bits_above}
 use lib.Ieee.Fits.{and_i, cond-fits, nan-fits}
-use Rattle.tonekit_bytes.specs.Fields.{byte_at, u32_at, f32_at}
+use Rattle.spec_arithmetic.specs.Fields.{byte_at, u32_at, f32_at}
 use Rattle.tonekit_float.proofs.Narrowing.{narrow_fits}
-use Rattle.tonekit_pack.specs.Ranges.{weight_fine}
+use Rattle.spec_pack.specs.Ranges.{weight_fine}
 use Rattle.tonekit_core.proofs.Split.{split}
-use Rattle.tonekit_expect.specs.declared.Listing.{Listing}
-use Rattle.tonekit_expect.specs.Knots.{Point, knots_at, on_line, segment, fraction, point_at, first_points}
-use Rattle.tonekit_expect.specs.Lookup.{component_of}
-use Rattle.tonekit_expect.specs.Source.{carried}
-use Rattle.tonekit_sheet.specs.Reader.{point_fine}
+use Rattle.spec_lookup.specs.declared.Listing.{Listing}
+use Rattle.spec_lookup.specs.Knots.{Point, knots_at, on_line, segment, fraction, point_at, first_points}
+use Rattle.spec_lookup.specs.Lookup.{component_of}
+use Rattle.spec_lookup.specs.Source.{carried}
+use Rattle.spec_sheet.specs.Reader.{point_fine}
 use Rattle.tonekit_sheet.specs.Fit.{Bits, f32}
 
 -- ---- weights

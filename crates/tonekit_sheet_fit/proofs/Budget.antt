@@ -2,11 +2,11 @@
 use Rattle.std.proofs.Common.{ℕ, zero, suc, ◌+◌, ◌*◌, ◌≤◌, ◌<◌, ◌≡◌, refl, ap₂, Bool, true, false, cond, List, [], ◌∷◌, ◌++◌, ◌⊎◌, ⊎_elim, mul-zero, mul-suc, mul-add, arith, eqb, eqb-true}
 use mathlib.Core.Option.{Option, none, some}
 use borrow.Author.Tests.{eqb-false}
-use Rattle.tonekit_expect.specs.Source.{Carried}
+use Rattle.spec_lookup.specs.Source.{Carried}
 use Rattle.tonekit_core.proofs.Split.{split}
 use Rattle.tonekit_core.proofs.LoopLaws.{range_keeps}
-use Rattle.tonekit_sheet.specs.Number.{seen_in, noted}
-use Rattle.tonekit_sheet.specs.Sheet.{View, rows_of, note_turn, lists_of}
+use Rattle.spec_sheet.specs.Number.{seen_in, noted}
+use Rattle.spec_sheet.specs.Sheet.{View, rows_of, note_turn, lists_of}
 use Rattle.tonekit_sheet.proofs.Same.{seen_more, seen_last}
 
 -- ---- weights

@@ -1,16 +1,16 @@
 -- Where a lookup's listing comes from in a pack that loads: a rule, under the accent that it stands behind, or a tone's citation, under a held accent.
 use Rattle.std.proofs.Common.{ℕ, zero, suc, ◌+◌, ◌≤◌, ◌<◌, ◌≡◌, refl, cond, List, arith, eqb, leb, ltb, length, get_or, eqb-true, ltb-true, lt-ltb, le-leb}
 use borrow.Author.Tests.{eqb-false, lt-leb}
-use Rattle.tonekit_bytes.specs.Fields.{byte_at}
-use Rattle.tonekit_bytes.specs.Places.{index_of, number_at}
-use Rattle.tonekit_pack.specs.Pack.{Pst}
+use Rattle.spec_arithmetic.specs.Fields.{byte_at}
+use Rattle.spec_arithmetic.specs.Places.{index_of, number_at}
+use Rattle.spec_pack.specs.Pack.{Pst}
 use Rattle.tonekit_core.proofs.Split.{split}
 use Rattle.tonekit_pack.proofs.Loads.{Loads, firsts_ascend, firsts_bound}
 use Rattle.std.specs.Prelude.{Some, None}
-use Rattle.tonekit_expect.specs.declared.Context.{Context}
-use Rattle.tonekit_expect.specs.declared.Listing.{Listing}
-use Rattle.tonekit_expect.specs.Lookup.{Found, Walked, won, from_rule, to_rule, find_rule, rule_listing, citation, listed, look_at, look_up}
-use Rattle.tonekit_expect.specs.Source.{Carried, components}
+use Rattle.spec_lookup.specs.declared.Context.{Context}
+use Rattle.spec_lookup.specs.declared.Listing.{Listing}
+use Rattle.spec_lookup.specs.Lookup.{Found, Walked, won, from_rule, to_rule, find_rule, rule_listing, citation, listed, look_at, look_up}
+use Rattle.spec_lookup.specs.Source.{Carried, components}
 use Rattle.tonekit_expect.proofs.Walk.{index_found, winner_of}
 
 -- ---- the rule that a walk ends with is one of the accent's that it names

@@ -2,16 +2,16 @@
 use Rattle.std.proofs.Common.{ℕ, ◌+◌, ◌*◌, ◌/◌, ◌%◌, ◌≤◌, ◌≡◌, refl, ap, subst, inl, inr, List, [], ◌∷◌, arith, length}
 use mathlib.Core.Option.{some}
 use lib.ListN.{length-map}
-use Rattle.tonekit_pack.specs.Pack.{Pst, loaded, read_pack}
+use Rattle.spec_pack.specs.Pack.{Pst, loaded, read_pack}
 use Rattle.tonekit_pack.proofs.Loads.{Loads, loads, some_tones, some_accents}
 use Rattle.std.specs.Prelude.{Some, None}
-use Rattle.tonekit_expect.specs.declared.Context.{Context}
-use Rattle.tonekit_expect.specs.declared.Listing.{Listing}
-use Rattle.tonekit_expect.specs.Lookup.{Look, look_up}
-use Rattle.tonekit_expect.specs.Source.{Carried, given, tone_at, accent_at, source_of_pack}
+use Rattle.spec_lookup.specs.declared.Context.{Context}
+use Rattle.spec_lookup.specs.declared.Listing.{Listing}
+use Rattle.spec_lookup.specs.Lookup.{Look, look_up}
+use Rattle.spec_lookup.specs.Source.{Carried, given, tone_at, accent_at, source_of_pack}
 use Rattle.tonekit_expect.proofs.Carried.{components_length}
-use Rattle.tonekit_sheet.specs.Agree.{Bytes}
-use Rattle.tonekit_sheet.specs.Sheet.{view_of, lists_of}
+use Rattle.spec_sheet.specs.Agree.{Bytes}
+use Rattle.spec_sheet.specs.Sheet.{view_of, lists_of}
 use Rattle.tonekit_sheet.specs.Fit.{components_in, Fit}
 use Rattle.tonekit_sheet_fit.proofs.Budget.{sum_same, sum_scaled, weigh, Pooled, whole, budget}
 use Rattle.tonekit_sheet_fit.proofs.Drawn.{Drawn, ruled, cited, rule_of, citation_of, list_of, drawn}

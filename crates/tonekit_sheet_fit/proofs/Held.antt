@@ -2,16 +2,16 @@
 use Rattle.std.proofs.Common.{ℕ, zero, suc, ◌+◌, ◌<◌, ◌≡◌, refl, sym, ◌∙◌, ap, true, List, [], ◌∷◌, map, arith, eqb, ltb, length, get_or, eq-eqb, ltb-true, ltb-false}
 use mathlib.Core.Option.{some}
 use lib.ListN.{length-map}
-use Rattle.tonekit_bytes.specs.Fields.{f32_at}
+use Rattle.spec_arithmetic.specs.Fields.{f32_at}
 use Rattle.tonekit_bytes.proofs.Fields.{u32_below}
-use Rattle.tonekit_bytes.specs.Places.{number_at}
-use Rattle.tonekit_pack.specs.Ranges.{above_zero, region_fine, tolerances_fine}
-use Rattle.tonekit_pack.specs.Pack.{Pst}
+use Rattle.spec_arithmetic.specs.Places.{number_at}
+use Rattle.spec_pack.specs.Ranges.{above_zero, region_fine, tolerances_fine}
+use Rattle.spec_pack.specs.Pack.{Pst}
 use Rattle.tonekit_core.proofs.Split.{split, both}
 use Rattle.tonekit_pack.proofs.Loads.{ToneFine, AccentFine, Loads, tones_once, accents_once}
-use Rattle.tonekit_expect.specs.Source.{Tone, Accent, settings_at, tone_at, accent_at, accent_in}
-use Rattle.tonekit_sheet.specs.Agree.{Bytes}
-use Rattle.tonekit_sheet.specs.Sheet.{no_tone, no_accent}
+use Rattle.spec_lookup.specs.Source.{Tone, Accent, settings_at, tone_at, accent_at, accent_in}
+use Rattle.spec_sheet.specs.Agree.{Bytes}
+use Rattle.spec_sheet.specs.Sheet.{no_tone, no_accent}
 use Rattle.tonekit_sheet.specs.Fit.{SettingsFit, region_fits, ToneFit, AccentFit}
 use Rattle.tonekit_sheet_fit.proofs.Bits.{map_at}
 

@@ -5,8 +5,8 @@ use lib.Seq.{get_or-append_seam}
 use borrow.Author.Tests.{eqb-false}
 use Rattle.tonekit_core.specs.declared.Refusal.TheVariants.{CutShort}
 use Rattle.std.specs.Prelude.{Ok}
-use Rattle.tonekit_bytes.specs.Fields.{byte_at}
-use Rattle.tonekit_pack.specs.Pack.{Pst, loaded, refused, size_of, body_verdict, added, parts_from, start, read_pack}
+use Rattle.spec_arithmetic.specs.Fields.{byte_at}
+use Rattle.spec_pack.specs.Pack.{Pst, loaded, refused, size_of, body_verdict, added, parts_from, start, read_pack}
 use Rattle.tonekit_core.proofs.Split.{split}
 use Rattle.tonekit_pack.proofs.Records.{Due, settings, tone, accent, rule, part, finish, part_room}
 use Rattle.tonekit_pack.proofs.Turns.{run, accepted, no_turns}

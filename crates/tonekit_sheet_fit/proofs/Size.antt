@@ -2,15 +2,15 @@
 use Rattle.std.proofs.Common.{ℕ, zero, suc, ◌+◌, ◌-◌, ◌*◌, ◌/◌, ◌%◌, ◌≤◌, ◌<◌, ◌≡◌, refl, ◌∙◌, ap, List, [], ◌∷◌, ◌++◌, map, mul-le-mul, add-one, arith, eqb, length, drop, length-append, drop_of_length-le, drop-cons, eqb-true}
 use mathlib.Core.Option.{Option, none, some}
 use lib.ListN.{length-map}
-use Rattle.tonekit_core.specs.Layout.{sheet_most}
-use Rattle.tonekit_pack.specs.Pack.{Pst, loaded, read_pack}
+use Rattle.tonekit_core.specs.declared.layout.TheConstants.{SHEET_MOST}
+use Rattle.spec_pack.specs.Pack.{Pst, loaded, read_pack}
 use Rattle.tonekit_core.proofs.Split.{split}
 use Rattle.tonekit_pack.proofs.Loads.{loads}
-use Rattle.tonekit_expect.specs.declared.Listing.{Listing}
-use Rattle.tonekit_expect.specs.Lookup.{component_of}
-use Rattle.tonekit_expect.specs.Source.{Accent, Carried, accent_in, carried, components, tone_at, accent_at, source_of_pack}
-use Rattle.tonekit_sheet.specs.Gather.{pieces, gather, gather_length}
-use Rattle.tonekit_sheet.specs.Sheet.{or_skip, asc_from, ascending, View, rows_of, view_of, lists_of, bits_bytes, component_bytes, components_bytes, tone_piece, accent_piece, row_piece, list_piece, bytes_with, bytes_of, sheet}
+use Rattle.spec_lookup.specs.declared.Listing.{Listing}
+use Rattle.spec_lookup.specs.Lookup.{component_of}
+use Rattle.spec_lookup.specs.Source.{Accent, Carried, accent_in, carried, components, tone_at, accent_at, source_of_pack}
+use Rattle.spec_sheet.specs.Pieces.{pieces, gather, gather_length}
+use Rattle.spec_sheet.specs.Sheet.{or_skip, asc_from, ascending, View, rows_of, view_of, lists_of, bits_bytes, component_bytes, components_bytes, tone_piece, accent_piece, row_piece, list_piece, bytes_with, bytes_of, sheet}
 use Rattle.tonekit_sheet_fit.specs.Room.{Suffices}
 use Rattle.tonekit_sheet_fit.proofs.Budget.{sum_scaled, weigh}
 use Rattle.tonekit_sheet_fit.proofs.Bits.{carried_ten}
@@ -95,7 +95,7 @@ module _ (v : View) (lists : List (List Carried)) (few_tones : length v.tones �
   few_rows : rows_of v ≤ 576
   few_rows = mul-le-mul few_accents (mul-le-mul few_tones (let n : length v.tones + 1 ≤ 9 = omega arith in n))
 
-  bytes_most : weigh list_size lists ≤ 9536 → length (bytes_with v lists) ≤ sheet_most
+  bytes_most : weigh list_size lists ≤ 9536 → length (bytes_with v lists) ≤ SHEET_MOST
   unfolding bytes_with
   bytes_most h =
       let tones = gather (tone_piece v) 0 (length v.tones) in
@@ -129,7 +129,7 @@ module _ (s : List ℕ) (st : Pst) (e : ℕ) (p : read_pack s ≡ loaded st e) w
         sum_scaled (λ i. list_size (citation_list s st i)) (λ i. 0) 52 0 64 (λ i h. ap (λ (n : ℕ). 7 + n) (components_bytes_lem s (citation_of s st (i / 8) (i % 8)) 1)),
       )
 
-  sheet_most_lem : length (sheet (source_of_pack s st)) ≤ sheet_most
+  sheet_most_lem : length (sheet (source_of_pack s st)) ≤ SHEET_MOST
   unfolding sheet bytes_of view_of source_of_pack
   sheet_most_lem =
       let l = loads s st e p in
@@ -138,5 +138,5 @@ module _ (s : List ℕ) (st : Pst) (e : ℕ) (p : read_pack s ≡ loaded st e) w
       (omega (arith, l.kept.few_accents, length-map st.accents (accent_at s), few_ascending (map (accent_at s) st.accents))) lists_most
 
 -- "13,266 bytes always suffice"
-pub suffices : Suffices sheet_most
+pub suffices : Suffices SHEET_MOST
 suffices = record { number = refl; enough = sheet_most_lem }

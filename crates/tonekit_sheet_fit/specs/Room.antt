@@ -1,8 +1,8 @@
 -- "13,266 bytes always suffice."
 use Rattle.std.specs.Prelude.{ℕ, ◌≤◌, ◌≡◌, List, length}
-use Rattle.tonekit_pack.specs.Pack.{Pst, loaded, read_pack}
-use Rattle.tonekit_expect.specs.Source.{source_of_pack}
-use Rattle.tonekit_sheet.specs.Sheet.{sheet}
+use Rattle.spec_pack.specs.Pack.{Pst, loaded, read_pack}
+use Rattle.spec_lookup.specs.Source.{source_of_pack}
+use Rattle.spec_sheet.specs.Sheet.{sheet}
 
 -- n is that number, and no sheet of a pack that loads is longer
 pub record Suffices (n : ℕ) : Type 0 where

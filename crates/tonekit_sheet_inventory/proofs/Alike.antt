@@ -1,20 +1,20 @@
 -- The components of a sheet's list have one owner, form and label, and in a mixture each its place as its part number. Assumes nothing.
 use Rattle.std.proofs.Common.{ℕ, zero, suc, ◌+◌, ◌≤◌, ◌<◌, ◌≡◌, refl, List, arith, length, get_or}
 use mathlib.Core.Option.{some}
-use Rattle.tonekit_bytes.specs.Fields.{byte_at}
-use Rattle.tonekit_bytes.specs.Places.{index_of}
-use Rattle.tonekit_expect.specs.Source.{Carried}
-use Rattle.tonekit_expect.specs.declared.Context.{Context}
-use Rattle.tonekit_expect.specs.Lookup.{Found}
+use Rattle.spec_arithmetic.specs.Fields.{byte_at}
+use Rattle.spec_arithmetic.specs.Places.{index_of}
+use Rattle.spec_lookup.specs.Source.{Carried}
+use Rattle.spec_lookup.specs.declared.Context.{Context}
+use Rattle.spec_lookup.specs.Lookup.{Found}
 use Rattle.std.specs.Prelude.{Some, None}
 use Rattle.tonekit_expect.proofs.Walk.{index_found}
-use Rattle.tonekit_judge.specs.Judge.{name_in}
-use Rattle.tonekit_inventory.specs.Gather.{named_of}
+use Rattle.spec_judgement.specs.Judge.{name_in}
+use Rattle.spec_judgement.specs.Gather.{named_of}
 use Rattle.tonekit_inventory.proofs.Going.{first_named}
 use Rattle.tonekit_inventory.proofs.Alike.{Under, Alike}
-use Rattle.tonekit_sheet.specs.Sheet.{no_carried}
-use Rattle.tonekit_sheet.specs.Reader.{Sst, loaded, read_sheet, row_at}
-use Rattle.tonekit_sheet.specs.FromSheet.{bits_at, carried_at, carried_from, list_numbered, row_place, final_place, prev_found, look_placed, look_sheet, source_of_sheet}
+use Rattle.spec_sheet.specs.Sheet.{no_carried}
+use Rattle.spec_sheet.specs.Reader.{Sst, loaded, read_sheet, row_at}
+use Rattle.spec_sheet.specs.FromSheet.{bits_at, carried_at, carried_from, list_numbered, row_place, final_place, prev_found, look_placed, look_sheet, source_of_sheet}
 use Rattle.tonekit_sheet_laws.proofs.Content.{carried_count, carried_get}
 use Rattle.tonekit_sheet_inventory.proofs.Few.{lists_few}
 use Rattle.tonekit_sheet_inventory.proofs.Rows.{number_held}

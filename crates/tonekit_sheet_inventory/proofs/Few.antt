@@ -2,10 +2,10 @@
 use Rattle.std.proofs.Common.{ℕ, zero, suc, ◌+◌, ◌≤◌, ◌<◌, ◌≡◌, List, arith, eqb, length, get_or, length-append, eqb-true}
 use borrow.Author.Tests.{eqb-false}
 use Rattle.std.specs.Prelude.{Ok}
-use Rattle.tonekit_bytes.specs.Fields.{byte_at}
+use Rattle.spec_arithmetic.specs.Fields.{byte_at}
 use Rattle.tonekit_core.proofs.Split.{split}
 use Rattle.tonekit_pack.proofs.Each.{Each, each_snoc}
-use Rattle.tonekit_sheet.specs.Reader.{Sst, loaded, refused, size_of, body_verdict, added, start, read_sheet}
+use Rattle.spec_sheet.specs.Reader.{Sst, loaded, refused, size_of, body_verdict, added, start, read_sheet}
 use Rattle.tonekit_core.specs.declared.Refusal.TheVariants.{CutShort}
 use Rattle.tonekit_sheet.proofs.Records.{Due, settings, tone, accent, row, list, component, finish, tone_room, list_room}
 use Rattle.tonekit_sheet.proofs.Turns.{run, no_turns, accepted, finished_is}

@@ -1,15 +1,15 @@
 -- A lookup by position, way by way. Assumes nothing.
 use Rattle.std.proofs.Common.{ℕ, zero, suc, ◌+◌, ◌-◌, ◌*◌, ◌≤◌, ◌<◌, ◌≡◌, refl, sym, ap, ◌∙◌, List, arith, sub-one, eqb, length, get_or}
 use mathlib.Core.Option.{none}
-use Rattle.tonekit_bytes.specs.Fields.{byte_at}
+use Rattle.spec_arithmetic.specs.Fields.{byte_at}
 use Rattle.tonekit_core.proofs.Split.{split}
-use Rattle.tonekit_bytes.specs.Places.{index_of}
-use Rattle.tonekit_expect.specs.declared.Context.{Context}
-use Rattle.tonekit_expect.specs.Lookup.{Found}
+use Rattle.spec_arithmetic.specs.Places.{index_of}
+use Rattle.spec_lookup.specs.declared.Context.{Context}
+use Rattle.spec_lookup.specs.Lookup.{Found}
 use Rattle.std.specs.Prelude.{Some, None}
 use Rattle.tonekit_expect.proofs.Walk.{index_found}
-use Rattle.tonekit_sheet.specs.Reader.{Sst, Out, loaded, refused, row_at, read_sheet}
-use Rattle.tonekit_sheet.specs.FromSheet.{list_numbered, row_place, final_place, prev_found, look_sheet}
+use Rattle.spec_sheet.specs.Reader.{Sst, Out, loaded, refused, row_at, read_sheet}
+use Rattle.spec_sheet.specs.FromSheet.{list_numbered, row_place, final_place, prev_found, look_sheet}
 use Rattle.tonekit_sheet_read.specs.declared.Sheet.{Sheet}
 use Rattle.tonekit_sheet_read.specs.Held.{shown, ReadFrom}
 use Rattle.tonekit_bytes.proofs.Stepped.{stepped_length}

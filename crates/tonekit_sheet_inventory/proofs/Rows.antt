@@ -1,11 +1,11 @@
 -- The row of an accent, a tone and what stood before it is there, and names lists that are. Assumes nothing.
 use Rattle.std.proofs.Common.{ℕ, ◌+◌, ◌*◌, ◌≤◌, ◌<◌, ◌≡◌, List, arith, mul-le-mul, le_refl, length}
-use Rattle.tonekit_bytes.specs.Fields.{byte_at}
+use Rattle.spec_arithmetic.specs.Fields.{byte_at}
 use Rattle.tonekit_core.proofs.Split.{split}
-use Rattle.tonekit_expect.specs.declared.Context.{Context}
-use Rattle.tonekit_sheet.specs.Sheet.{row_count}
-use Rattle.tonekit_sheet.specs.Reader.{Sst, loaded, row_at, read_sheet}
-use Rattle.tonekit_sheet.specs.FromSheet.{row_place, final_place}
+use Rattle.spec_lookup.specs.declared.Context.{Context}
+use Rattle.spec_sheet.specs.Sheet.{row_count}
+use Rattle.spec_sheet.specs.Reader.{Sst, loaded, row_at, read_sheet}
+use Rattle.spec_sheet.specs.FromSheet.{row_place, final_place}
 use Rattle.tonekit_sheet.proofs.RowPlaces.{rows_few}
 use Rattle.tonekit_sheet_inverse.proofs.Loads.{reads}
 use Rattle.tonekit_sheet_inverse.proofs.Order.{ordered}

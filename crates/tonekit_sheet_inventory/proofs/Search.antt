@@ -2,14 +2,14 @@
 use Rattle.std.proofs.Common.{ℕ, ◌+◌, ◌*◌, ◌<◌, ◌≡◌, refl, ap, ◌∙◌, List, arith}
 use Rattle.std.specs.Prelude.{Some, None}
 use Rattle.tonekit_core.specs.Layout.{sheet_accent_at}
-use Rattle.tonekit_bytes.specs.Places.{index_of}
-use Rattle.tonekit_expect.specs.Source.{accent_in}
+use Rattle.spec_arithmetic.specs.Places.{index_of}
+use Rattle.spec_lookup.specs.Source.{accent_in}
 use Rattle.std.specs.Prelude.{Some, None}
-use Rattle.tonekit_score.specs.declared.Tolerance.{Tolerance}
-use Rattle.tonekit_inventory.specs.Fields.{tolerance_at}
-use Rattle.tonekit_inventory.specs.Gather.{tolerance_of, graded_of}
+use Rattle.spec_judgement.specs.declared.Tolerance.{Tolerance}
+use Rattle.spec_judgement.specs.Fields.{tolerance_at}
+use Rattle.spec_judgement.specs.Gather.{tolerance_of, graded_of}
 use Rattle.tonekit_inventory.proofs.Search.{accent_found, accent_none}
-use Rattle.tonekit_sheet.specs.FromSheet.{accent_at, source_of_sheet}
+use Rattle.spec_sheet.specs.FromSheet.{accent_at, source_of_sheet}
 use Rattle.tonekit_sheet_read.specs.declared.Sheet.{Sheet}
 use Rattle.tonekit_sheet_read.specs.Held.{shown}
 use Rattle.tonekit_bytes.proofs.Stepped.{stepped_get}

@@ -3,14 +3,14 @@ use Rattle.std.proofs.Common.{ℕ, zero, suc, ◌+◌, ◌*◌, ◌≤◌, ◌<�
 use lib.Ieee.{nan}
 use lib.ListN.{get_or-append}
 use Rattle.std.specs.Prelude.{Some}
-use Rattle.tonekit_judge.specs.declared.Slot.{Slot}
-use Rattle.tonekit_bytes.specs.Fields.{byte_at, f32_at}
-use Rattle.tonekit_judge.specs.declared.Slots.{Slots}
-use Rattle.tonekit_inventory.specs.Gather.{f32, named_of, slot_of, put_in}
+use Rattle.spec_judgement.specs.declared.Slot.{Slot}
+use Rattle.spec_arithmetic.specs.Fields.{byte_at, f32_at}
+use Rattle.spec_judgement.specs.declared.Slots.{Slots}
+use Rattle.spec_judgement.specs.Gather.{f32, named_of, slot_of, put_in}
 use Rattle.tonekit_inventory.proofs.Going.{first_named}
 use Rattle.tonekit_inventory.proofs.Slots.{run_none, run_more}
-use Rattle.tonekit_sheet.specs.FromSheet.{bits_at, carried_at, carried_from}
-use Rattle.tonekit_sheet.specs.Sheet.{no_carried}
+use Rattle.spec_sheet.specs.FromSheet.{bits_at, carried_at, carried_from}
+use Rattle.spec_sheet.specs.Sheet.{no_carried}
 use Rattle.tonekit_sheet_inverse.proofs.Pieces.{carried_length}
 use Rattle.tonekit_sheet_inventory.specs.Look.{name_at}
 

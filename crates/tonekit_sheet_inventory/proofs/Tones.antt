@@ -3,13 +3,13 @@ use Rattle.std.specs.Prelude.{None}
 use Rattle.std.proofs.Common.{ℕ, ◌+◌, ◌*◌, ◌<◌, ◌≡◌, sym, ap, ◌∙◌, List, length, get_or, arith}
 use Rattle.std.proofs.lemmas.List.{length-map}
 use Rattle.tonekit_core.specs.Layout.{sheet_tone_at}
-use Rattle.tonekit_bytes.specs.Fields.{byte_at, f32_at}
-use Rattle.tonekit_inventory.specs.Fields.{region_at}
-use Rattle.tonekit_inventory.specs.Gather.{region_of, entry_of, no_tone}
+use Rattle.spec_arithmetic.specs.Fields.{byte_at, f32_at}
+use Rattle.spec_judgement.specs.Fields.{region_at}
+use Rattle.spec_judgement.specs.Gather.{region_of, entry_of, no_tone}
 use Rattle.tonekit_inventory.proofs.Going.{map_at}
-use Rattle.tonekit_sheet.specs.FromSheet.{tone_at, source_of_sheet}
+use Rattle.spec_sheet.specs.FromSheet.{tone_at, source_of_sheet}
 use Rattle.tonekit_sheet_read.specs.declared.Sheet.{Sheet}
-use Rattle.tonekit_bytes.specs.Places.{stepped}
+use Rattle.spec_arithmetic.specs.Places.{stepped}
 use Rattle.tonekit_bytes.proofs.Stepped.{stepped_length, stepped_get}
 use Rattle.tonekit_sheet_inventory.specs.Look.{source_in}
 

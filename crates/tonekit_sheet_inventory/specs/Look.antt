@@ -3,14 +3,14 @@ use Rattle.std.specs.Prelude.{ℕ, zero, suc, ◌+◌, ◌≤◌, ◌<◌, ◌�
 use Rattle.std.proofs.Math.Option as math
 use Rattle.std.proofs.Math.Option.{none, some}
 use Rattle.tonekit_core.specs.declared.Rejection.{Rejection}
-use Rattle.tonekit_core.specs.Layout.{sheet_list_owner, sheet_list_form, sheet_list_label, sheet_list_count}
-use Rattle.tonekit_bytes.specs.Fields.{byte_at, u16_at}
-use Rattle.tonekit_expect.specs.Source.{Carried, Source}
-use Rattle.tonekit_expect.specs.declared.Context.{Context}
-use Rattle.tonekit_expect.specs.Lookup.{Found}
-use Rattle.tonekit_judge.specs.declared.Listed.{Listed}
-use Rattle.tonekit_sheet.specs.Reader.{Sst, Out, loaded, refused, load_sheet}
-use Rattle.tonekit_sheet.specs.FromSheet.{carried_from, look_sheet, source_of_sheet}
+use Rattle.tonekit_core.specs.declared.layout.TheConstants.{SHEET_LIST_OWNER, SHEET_LIST_FORM, SHEET_LIST_LABEL, SHEET_LIST_COUNT}
+use Rattle.spec_arithmetic.specs.Fields.{byte_at, u16_at}
+use Rattle.spec_lookup.specs.Source.{Carried, Source}
+use Rattle.spec_lookup.specs.declared.Context.{Context}
+use Rattle.spec_lookup.specs.Lookup.{Found}
+use Rattle.spec_judgement.specs.declared.Listed.{Listed}
+use Rattle.spec_sheet.specs.Reader.{Sst, Out, loaded, refused, load_sheet}
+use Rattle.spec_sheet.specs.FromSheet.{carried_from, look_sheet, source_of_sheet}
 use Rattle.tonekit_sheet_read.specs.Held.{shown}
 use Rattle.tonekit_sheet_read.specs.declared.Sheet.{Sheet}
 
@@ -42,13 +42,13 @@ pub record Placed (st : Sst) (n : ℕ) (f : Found) : Type 0 where
 
 -- what the list at an offset gives
 abbrev pub told : List ℕ → Found → math.Option (List Carried)
-told s (Some o) = some (carried_from s o (byte_at s (o + sheet_list_count)))
+told s (Some o) = some (carried_from s o (byte_at s (o + SHEET_LIST_COUNT)))
 told s None = none
 
 -- a list of one to four components, at an offset that two bytes hold
 pub record ShortList (s : List ℕ) (o : ℕ) : Type 0 where
-  pub some : 1 ≤ byte_at s (o + sheet_list_count)
-  pub few : byte_at s (o + sheet_list_count) ≤ 4
+  pub some : 1 ≤ byte_at s (o + SHEET_LIST_COUNT)
+  pub few : byte_at s (o + SHEET_LIST_COUNT) ≤ 4
   pub near : o < 65536
 
 -- a lookup's list, where it found one
@@ -62,6 +62,6 @@ pub record Looks (s : List ℕ) (st : Sst) (c : Context) (f : Found) : Type 0 wh
 -- "21 list: number u8, owner u8, form u8, label u16, count u8": its name, and how many components it has
 unfoldable pub name_at : List ℕ → ℕ → Listed
 name_at s o = record {
-  name = record { owner = byte_at s (o + sheet_list_owner); form = byte_at s (o + sheet_list_form); label = u16_at s (o + sheet_list_label) };
-  count = byte_at s (o + sheet_list_count);
+  name = record { owner = byte_at s (o + SHEET_LIST_OWNER); form = byte_at s (o + SHEET_LIST_FORM); label = u16_at s (o + SHEET_LIST_LABEL) };
+  count = byte_at s (o + SHEET_LIST_COUNT);
 }

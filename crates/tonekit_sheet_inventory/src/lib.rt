@@ -4,11 +4,11 @@
 
 ghost use Rattle.std.specs.Prelude.{◌≡◌, map, ◌+◌, ◌*◌, ◌≤◌, ◌<◌, Some, get_or};
 ghost use Rattle.std.proofs.Props.{props};
-ghost use Rattle.tonekit_core.specs.Layout.{sheet_list_count};
-ghost use Rattle.tonekit_bytes.specs.Fields.{byte_at};
-ghost use Rattle.tonekit_inventory.specs.Gather.{f32, put_in};
-ghost use Rattle.tonekit_sheet.specs.Reader.{row_at, read_sheet};
-ghost use Rattle.tonekit_sheet.specs.FromSheet.{bits_at, row_place, final_place, prev_found, carried_from};
+ghost use Rattle.tonekit_core.specs.declared.layout.TheConstants.{SHEET_LIST_COUNT};
+ghost use Rattle.spec_arithmetic.specs.Fields.{byte_at};
+ghost use Rattle.spec_judgement.specs.Gather.{f32, put_in};
+ghost use Rattle.spec_sheet.specs.Reader.{row_at, read_sheet};
+ghost use Rattle.spec_sheet.specs.FromSheet.{bits_at, row_place, final_place, prev_found, carried_from};
 ghost use Rattle.tonekit_sheet_read.specs.Held.{shown};
 ghost use Rattle.tonekit_sheet_inventory.specs.Look.{source_in, load_source, sheet_in, Placed, ShortList, Looks, name_at};
 
@@ -108,7 +108,7 @@ fn ten_at(s: &[u8], o: usize) -> [f32; 10]
 // Stays: see tonekit_inventory's.
 fn fill(s: &[u8], o: usize, t: usize, slots: &mut Slots)
     requires { (t < 8) × ShortList s.now o }
-    ensures { slots.new ≡ put_in t (carried_from s.now o (byte_at s.now (o + sheet_list_count))) slots.old }
+    ensures { slots.new ≡ put_in t (carried_from s.now o (byte_at s.now (o + SHEET_LIST_COUNT))) slots.old }
 {
     let count = usize::from(byte_at(s, o, layout::SHEET_LIST_COUNT));
     let own = &mut slots.list[4 * t..4 * t + count];

@@ -3,8 +3,8 @@ use Rattle.std.proofs.Common.{ℕ, zero, suc, ◌+◌, ◌≤◌, ◌<◌, ◌�
 use mathlib.Core.Option.{some}
 use borrow.Author.Tests.{eqb-false}
 use Rattle.tonekit_core.proofs.Split.{split}
-use Rattle.tonekit_expect.specs.Source.{Accent, accent_in}
-use Rattle.tonekit_sheet.specs.Sheet.{or_skip, asc_from, ascending, no_accent}
+use Rattle.spec_lookup.specs.Source.{Accent, accent_in}
+use Rattle.spec_sheet.specs.Sheet.{or_skip, asc_from, ascending, no_accent}
 use Rattle.tonekit_sheet_laws.proofs.Ascending.{accent_none}
 
 abbrev pub number_of : List Accent → ℕ → ℕ

@@ -6,10 +6,10 @@ use lib.Seq.{get_or-append_seam}
 use Rattle.tonekit_core.specs.Loop.{range, range_done}
 use Rattle.tonekit_core.proofs.LoopLaws.{range_keeps}
 use Rattle.tonekit_core.proofs.Split.{split}
-use Rattle.tonekit_expect.specs.Source.{Carried}
-use Rattle.tonekit_sheet.specs.Number.{seen_in, place_in, noted, number_in}
-use Rattle.tonekit_sheet.specs.Reader.{Sst}
-use Rattle.tonekit_sheet.specs.FromSheet.{list_numbered}
+use Rattle.spec_lookup.specs.Source.{Carried}
+use Rattle.spec_sheet.specs.Number.{seen_in, place_in, noted, number_in}
+use Rattle.spec_sheet.specs.Reader.{Sst}
+use Rattle.spec_sheet.specs.FromSheet.{list_numbered}
 use Rattle.tonekit_sheet_laws.proofs.Loops.{range_last}
 use Rattle.tonekit_sheet_laws.proofs.Numbers.{seen_here, place_below, place_get, Once, place_once}
 use Rattle.tonekit_sheet_inverse.proofs.Order.{first_list, final_list, most_turn, greatest, Ordered}

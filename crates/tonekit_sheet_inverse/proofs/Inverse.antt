@@ -2,15 +2,15 @@
 use Rattle.std.proofs.lemmas.List.{get_or-map}
 use Rattle.std.proofs.Common.{ℕ, ◌+◌, ◌*◌, ◌<◌, ◌≡◌, refl, sym, ap, ◌∙◌, true, false, List, map, arith, add-one, length, get_or}
 use lib.ListN.{length-map}
-use Rattle.tonekit_bytes.specs.Places.{number_at}
+use Rattle.spec_arithmetic.specs.Places.{number_at}
 use Rattle.tonekit_core.proofs.Split.{absurd_bool}
-use Rattle.tonekit_expect.specs.Source.{Tone, Accent, settings_at}
-use Rattle.tonekit_sheet.specs.Agree.{Bytes}
-use Rattle.tonekit_sheet.specs.Gather.{gather}
-use Rattle.tonekit_sheet.specs.Number.{number_in}
-use Rattle.tonekit_sheet.specs.Sheet.{ascending, no_tone, no_accent, row_context, View, view_of, rows_of, lists_of, tone_bytes, accent_bytes, list_bytes, tone_piece, accent_piece, row_piece, list_piece, bytes_with, bytes_of, sheet}
-use Rattle.tonekit_sheet.specs.Reader.{Sst, loaded, rows_from, row_at, list_size, load_sheet}
-use Rattle.tonekit_sheet.specs.FromSheet.{tone_at, accent_at, look_sheet, source_of_sheet}
+use Rattle.spec_lookup.specs.Source.{Tone, Accent, settings_at}
+use Rattle.spec_sheet.specs.Agree.{Bytes}
+use Rattle.spec_sheet.specs.Pieces.{gather}
+use Rattle.spec_sheet.specs.Number.{number_in}
+use Rattle.spec_sheet.specs.Sheet.{ascending, no_tone, no_accent, row_context, View, view_of, rows_of, lists_of, tone_bytes, accent_bytes, list_bytes, tone_piece, accent_piece, row_piece, list_piece, bytes_with, bytes_of, sheet}
+use Rattle.spec_sheet.specs.Reader.{Sst, loaded, rows_from, row_at, list_size, load_sheet}
+use Rattle.spec_sheet.specs.FromSheet.{tone_at, accent_at, look_sheet, source_of_sheet}
 use Rattle.tonekit_sheet_inverse.specs.Place.{list_place, lists_from}
 use Rattle.tonekit_sheet_inverse.proofs.Spans.{Spans, one_spans, joined, gather_spans, spans_all}
 use Rattle.tonekit_sheet_inverse.proofs.Loads.{Loads, loads_whole}

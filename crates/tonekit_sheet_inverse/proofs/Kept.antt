@@ -1,11 +1,11 @@
 -- What the sheet reader keeps at every turn: where each record stands, and its kind. Assumes nothing.
 use Rattle.std.proofs.Common.{ℕ, suc, ◌+◌, ◌*◌, ◌≤◌, ◌<◌, ◌≡◌, refl, ap, ◌∙◌, false, List, [], ◌∷◌, ◌++◌, arith, length, length-append, leb, ltb, leb-true, leb-false, ltb-true, ltb-false, Ok}
-use Rattle.tonekit_bytes.specs.Fields.{byte_at}
-use Rattle.tonekit_bytes.specs.Places.{number_at}
-use Rattle.tonekit_pack.specs.Pack.{holds}
+use Rattle.spec_arithmetic.specs.Fields.{byte_at}
+use Rattle.spec_arithmetic.specs.Places.{number_at}
+use Rattle.spec_pack.specs.Pack.{holds}
 use Rattle.tonekit_core.proofs.Split.{split}
 use Rattle.tonekit_pack.proofs.Each.{Each, each_snoc}
-use Rattle.tonekit_sheet.specs.Reader.{Sst, rows_due, size_of, body_verdict, added, rows_from, row_at}
+use Rattle.spec_sheet.specs.Reader.{Sst, rows_due, size_of, body_verdict, added, rows_from, row_at}
 use Rattle.tonekit_sheet_inverse.specs.Place.{list_place, lists_from}
 use Rattle.tonekit_sheet.proofs.Every.{Every, every_snoc}
 use Rattle.tonekit_sheet.proofs.Records.{Complete, rows_done, list_done, Due, settings, tone, accent, row, list, component, finish, tone_number, list_some}

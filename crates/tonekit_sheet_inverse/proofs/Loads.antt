@@ -2,11 +2,11 @@
 use Rattle.std.proofs.Common.{ℕ, zero, suc, ◌+◌, ◌≤◌, ◌<◌, ◌≡◌, refl, List, arith, length, get_or, eqb, ltb, eqb-true, ltb-true, ltb-false}
 use borrow.Author.Tests.{eqb-false}
 use Rattle.tonekit_core.specs.declared.Refusal.TheVariants.{CutShort}
-use Rattle.tonekit_bytes.specs.Fields.{byte_at}
-use Rattle.tonekit_bytes.specs.Places.{number_at}
+use Rattle.spec_arithmetic.specs.Fields.{byte_at}
+use Rattle.spec_arithmetic.specs.Places.{number_at}
 use Rattle.tonekit_core.proofs.Split.{split}
 use Rattle.tonekit_pack.proofs.Numbers.{none_before}
-use Rattle.tonekit_sheet.specs.Reader.{Sst, loaded, refused, rows_due, size_of, added, row_at, start, read_sheet, load_sheet}
+use Rattle.spec_sheet.specs.Reader.{Sst, loaded, refused, rows_due, size_of, added, row_at, start, read_sheet, load_sheet}
 use Rattle.tonekit_sheet_inverse.specs.Place.{list_place, lists_from}
 use Rattle.tonekit_sheet.proofs.Every.{Every}
 use Rattle.tonekit_sheet.proofs.Records.{Complete, rows_done, list_done, closes}

@@ -3,13 +3,13 @@ use Rattle.std.proofs.lemmas.List.{get_or-map}
 use Rattle.std.proofs.Common.{ℕ, zero, suc, ◌+◌, ◌≤◌, ◌<◌, ◌≡◌, refl, sym, ap, ◌∙◌, cond, Bool, List, map, arith, add-one, length, get_or, eq-eqb, ne_eqb, Some, None}
 use lib.ListN.{length-map}
 use Rattle.tonekit_core.specs.Loop.{range_to, to_again, to_stop}
-use Rattle.tonekit_bytes.specs.Fields.{byte_at}
-use Rattle.tonekit_bytes.specs.Places.{number_at, index_turn, index_of}
-use Rattle.tonekit_expect.specs.Source.{Tone}
-use Rattle.tonekit_expect.specs.declared.Context.{Context}
-use Rattle.tonekit_sheet.specs.Sheet.{no_tone, no_accent, accent_place, tone_place, prev_place, prev_number, row_context}
-use Rattle.tonekit_sheet.specs.Reader.{Sst, rows_due, row_at, prev_due}
-use Rattle.tonekit_sheet.specs.FromSheet.{tone_at, accent_at, list_numbered, prev_found, look_sheet}
+use Rattle.spec_arithmetic.specs.Fields.{byte_at}
+use Rattle.spec_arithmetic.specs.Places.{number_at, index_turn, index_of}
+use Rattle.spec_lookup.specs.Source.{Tone}
+use Rattle.spec_lookup.specs.declared.Context.{Context}
+use Rattle.spec_sheet.specs.Sheet.{no_tone, no_accent, accent_place, tone_place, prev_place, prev_number, row_context}
+use Rattle.spec_sheet.specs.Reader.{Sst, rows_due, row_at, prev_due}
+use Rattle.spec_sheet.specs.FromSheet.{tone_at, accent_at, list_numbered, prev_found, look_sheet}
 use Rattle.tonekit_sheet.proofs.RowPlaces.{Places, some_tone, row_places}
 use Rattle.tonekit_sheet_inverse.proofs.Loads.{Loads}
 use Rattle.tonekit_sheet_inverse.proofs.Order.{accent_number_of, Ordered}

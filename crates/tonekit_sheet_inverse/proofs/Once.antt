@@ -1,10 +1,10 @@
 -- No two sheets say the same: sources that agree have one sheet, so two sheets that load and hold sources that agree are equal. Assumes nothing.
 use Rattle.std.proofs.Common.{ℕ, ◌≡◌, refl, sym, ap, ◌∙◌, ◌↔◌, List}
-use Rattle.tonekit_expect.specs.Source.{Source}
-use Rattle.tonekit_sheet.specs.Sheet.{sheet}
-use Rattle.tonekit_sheet.specs.Reader.{Sst, loaded, load_sheet}
-use Rattle.tonekit_sheet.specs.FromSheet.{source_of_sheet}
-use Rattle.tonekit_sheet.specs.Agree.{Bytes, Agree}
+use Rattle.spec_lookup.specs.Source.{Source}
+use Rattle.spec_sheet.specs.Sheet.{sheet}
+use Rattle.spec_sheet.specs.Reader.{Sst, loaded, load_sheet}
+use Rattle.spec_sheet.specs.FromSheet.{source_of_sheet}
+use Rattle.spec_sheet.specs.Agree.{Bytes, Agree}
 use Rattle.tonekit_sheet.specs.Fit.{Fit}
 use Rattle.tonekit_sheet_laws.specs.Place.{st_of}
 use Rattle.tonekit_sheet_laws.proofs.Round.{round}

@@ -2,13 +2,13 @@
 use Rattle.std.proofs.Common.{ℕ, zero, suc, ◌+◌, ◌-◌, ◌≤◌, ◌<◌, max, ◌≡◌, ◌⊎◌, inl, inr, ⊎_elim, true, false, not, ◌&&◌, ◌||◌, List, arith, length, get_or, eqb, leb, ltb, eqb-true, leb-true, ltb-true, None}
 use borrow.Author.Tests.{not-true}
 use Rattle.tonekit_core.specs.Loop.{range}
-use Rattle.tonekit_bytes.specs.Fields.{byte_at}
-use Rattle.tonekit_bytes.specs.Places.{number_at}
-use Rattle.tonekit_pack.specs.Pack.{zero_or_held}
+use Rattle.spec_arithmetic.specs.Fields.{byte_at}
+use Rattle.spec_arithmetic.specs.Places.{number_at}
+use Rattle.spec_pack.specs.Pack.{zero_or_held}
 use Rattle.tonekit_core.proofs.Split.{either, both}
 use Rattle.tonekit_pack.proofs.Numbers.{zero_or_at}
-use Rattle.tonekit_sheet.specs.Sheet.{accent_place, tone_place, prev_place}
-use Rattle.tonekit_sheet.specs.Reader.{Sst, row_at, loose_row, accent_down, prev_due, row_due, row_names, row_wrong, named, same_lists, repeated, list_wrong}
+use Rattle.spec_sheet.specs.Sheet.{accent_place, tone_place, prev_place}
+use Rattle.spec_sheet.specs.Reader.{Sst, row_at, loose_row, accent_down, prev_due, row_due, row_names, row_wrong, named, same_lists, repeated, list_wrong}
 use Rattle.tonekit_sheet_laws.proofs.Loops.{range_last}
 use Rattle.tonekit_sheet_inverse.proofs.Tests.{none_failed, range_some, range_no}
 use Rattle.tonekit_sheet.proofs.Turns.{Finished}

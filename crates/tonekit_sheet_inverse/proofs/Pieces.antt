@@ -2,15 +2,15 @@
 use Rattle.std.proofs.Common.{ℕ, zero, suc, ◌+◌, ◌*◌, ◌≤◌, ◌<◌, ◌≡◌, refl, sym, ap, ◌∙◌, true, List, [], ◌∷◌, ◌++◌, append-nil, append_assoc, arith, eqb, ltb, length, get_or, length-append, eq-eqb, ltb-true, ltb-false}
 use lib.ListN.{get_or-append}
 use lib.Seq.{get_or-append_seam}
-use Rattle.tonekit_bytes.specs.Fields.{byte_at}
-use Rattle.tonekit_bytes.specs.Places.{number_at}
+use Rattle.spec_arithmetic.specs.Fields.{byte_at}
+use Rattle.spec_arithmetic.specs.Places.{number_at}
 use Rattle.tonekit_core.proofs.Split.{split}
-use Rattle.tonekit_expect.specs.Source.{Carried, settings_at}
-use Rattle.tonekit_expect.specs.declared.Context.{Context}
-use Rattle.tonekit_sheet.specs.Agree.{Bytes}
-use Rattle.tonekit_sheet.specs.Sheet.{settings_bytes, tone_bytes, accent_bytes, row_bytes, bits_bytes, component_bytes, components_bytes, no_carried, list_bytes}
-use Rattle.tonekit_sheet.specs.Reader.{list_size, same_lists}
-use Rattle.tonekit_sheet.specs.FromSheet.{tone_at, accent_at, bits_at, carried_at, carried_from}
+use Rattle.spec_lookup.specs.Source.{Carried, settings_at}
+use Rattle.spec_lookup.specs.declared.Context.{Context}
+use Rattle.spec_sheet.specs.Agree.{Bytes}
+use Rattle.spec_sheet.specs.Sheet.{settings_bytes, tone_bytes, accent_bytes, row_bytes, bits_bytes, component_bytes, components_bytes, no_carried, list_bytes}
+use Rattle.spec_sheet.specs.Reader.{list_size, same_lists}
+use Rattle.spec_sheet.specs.FromSheet.{tone_at, accent_at, bits_at, carried_at, carried_from}
 use Rattle.tonekit_sheet_inverse.proofs.Spans.{Spans, none_spans, one_spans, joined, half_spans, word_spans}
 use Rattle.tonekit_sheet_laws.proofs.Loops.{range_all}
 use Rattle.tonekit_sheet_inverse.proofs.Kept.{PartThere}

@@ -1,10 +1,10 @@
 -- The bytes of an input from one offset to another: one byte, a field, runs one behind the other, all of it. Assumes nothing.
 use Rattle.std.proofs.Common.{ℕ, zero, suc, ◌+◌, ◌-◌, ◌≤◌, ◌<◌, ◌≡◌, refl, sym, ap, ◌∙◌, List, [], ◌∷◌, ◌++◌, arith, ltb, length, length-append, get_or-append-add, ext_get_or, ltb-true, ltb-false}
 use lib.ListN.{get_or-append}
-use Rattle.tonekit_bytes.specs.Fields.{byte_at, u16_at, u32_at, le16, le32}
+use Rattle.spec_arithmetic.specs.Fields.{byte_at, u16_at, u32_at, le16, le32}
 use Rattle.tonekit_core.proofs.Split.{split}
-use Rattle.tonekit_sheet.specs.Agree.{Bytes}
-use Rattle.tonekit_sheet.specs.Gather.{gather, gather_done, gather_step}
+use Rattle.spec_sheet.specs.Agree.{Bytes}
+use Rattle.spec_sheet.specs.Pieces.{gather, gather_done, gather_step}
 use Rattle.tonekit_bytes.proofs.Back.{le16_of, le32_of}
 
 -- bs are the bytes of s from o up to e

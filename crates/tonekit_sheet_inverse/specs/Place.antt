@@ -1,6 +1,6 @@
 -- Where the lists of a sheet that was read stand.
 use Rattle.std.specs.Prelude.{ℕ, zero, suc, ◌+◌, List}
-use Rattle.tonekit_sheet.specs.Reader.{Sst, row_at, list_size}
+use Rattle.spec_sheet.specs.Reader.{Sst, row_at, list_size}
 
 -- list i, where the first is at o: each behind the components of the one before
 abbrev pub list_place : List ℕ → ℕ → ℕ → ℕ

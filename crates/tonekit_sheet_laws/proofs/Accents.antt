@@ -1,12 +1,12 @@
 -- The reader goes through the accents of a sheet. Assumes nothing.
 use Rattle.std.proofs.Common.{ℕ, zero, suc, ◌+◌, ◌≤◌, ◌<◌, ◌≡◌, refl, sym, ◌∙◌, true, not, List, arith, leb, length, get_or, ne_eqb}
 use borrow.Author.Tests.{lt-leb}
-use Rattle.tonekit_pack.specs.Ranges.{tolerances_fine}
-use Rattle.tonekit_bytes.specs.Places.{number_at}
-use Rattle.tonekit_pack.specs.Pack.{holds}
-use Rattle.tonekit_expect.specs.Source.{Accent, Source}
-use Rattle.tonekit_sheet.specs.Sheet.{View, no_accent, lists_of}
-use Rattle.tonekit_sheet.specs.Reader.{Sst, Out, size_of, due_next, accent_fine, accent_verdict, body_verdict, added}
+use Rattle.spec_pack.specs.Ranges.{tolerances_fine}
+use Rattle.spec_arithmetic.specs.Places.{number_at}
+use Rattle.spec_pack.specs.Pack.{holds}
+use Rattle.spec_lookup.specs.Source.{Accent, Source}
+use Rattle.spec_sheet.specs.Sheet.{View, no_accent, lists_of}
+use Rattle.spec_sheet.specs.Reader.{Sst, Out, size_of, due_next, accent_fine, accent_verdict, body_verdict, added}
 use Rattle.tonekit_sheet.specs.Fit.{AccentFit}
 use Rattle.tonekit_sheet_laws.specs.Place.{up_to, accent_at, read_to, last_of}
 use Rattle.tonekit_sheet_laws.proofs.Placed.{up_to_length, holds_none}

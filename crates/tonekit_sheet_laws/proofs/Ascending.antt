@@ -3,8 +3,8 @@ use Rattle.std.proofs.Common.{ℕ, zero, suc, ◌+◌, ◌≤◌, ◌<◌, ◌�
 use mathlib.Core.Option.{Option, none, some}
 use borrow.Author.Tests.{eqb-false}
 use Rattle.tonekit_core.proofs.Split.{split}
-use Rattle.tonekit_expect.specs.Source.{Accent, accent_in}
-use Rattle.tonekit_sheet.specs.Sheet.{or_skip, asc_from, ascending, no_accent}
+use Rattle.spec_lookup.specs.Source.{Accent, accent_in}
+use Rattle.spec_sheet.specs.Sheet.{or_skip, asc_from, ascending, no_accent}
 
 pub by_option : {A : Type 0} {P : Type 0} (o : Option A) → (o ≡ none → P) → ((a : A) → o ≡ some a → P) → P
 by_option none f g = f refl

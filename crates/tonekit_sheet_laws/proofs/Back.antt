@@ -3,13 +3,13 @@ use Rattle.std.proofs.lemmas.List.{get_or-map}
 use Rattle.std.proofs.Common.{ℕ, suc, ◌≤◌, ◌<◌, ◌≡◌, ap, ◌∙◌, ⊎_elim, List, map, Bool, true, arith, length, get_or, ext_get_or}
 use mathlib.Core.Option.{some}
 use lib.ListN.{length-map}
-use Rattle.tonekit_expect.specs.Source.{Accent, Source, settings_at, accent_in, tone_in}
-use Rattle.tonekit_bytes.specs.Places.{index_of}
-use Rattle.tonekit_expect.specs.declared.Context.{Context}
-use Rattle.tonekit_sheet.specs.Sheet.{View, no_tone, no_accent, prev_number, row_context, ascending, view_of, rows_of, lists_of, sheet}
-use Rattle.tonekit_sheet.specs.Reader.{Sst, Out, refused}
-use Rattle.tonekit_sheet.specs.FromSheet.{tone_at as tone_is_read, accent_at as accent_is_read, prev_found, look_sheet, source_of_sheet}
-use Rattle.tonekit_sheet.specs.Agree.{Held}
+use Rattle.spec_lookup.specs.Source.{Accent, Source, settings_at, accent_in, tone_in}
+use Rattle.spec_arithmetic.specs.Places.{index_of}
+use Rattle.spec_lookup.specs.declared.Context.{Context}
+use Rattle.spec_sheet.specs.Sheet.{View, no_tone, no_accent, prev_number, row_context, ascending, view_of, rows_of, lists_of, sheet}
+use Rattle.spec_sheet.specs.Reader.{Sst, Out, refused}
+use Rattle.spec_sheet.specs.FromSheet.{tone_at as tone_is_read, accent_at as accent_is_read, prev_found, look_sheet, source_of_sheet}
+use Rattle.spec_sheet.specs.Agree.{Held}
 use Rattle.tonekit_sheet.specs.Fit.{Fit, components_in}
 use Rattle.tonekit_core.specs.declared.Refusal.TheVariants.{CutShort}
 use Rattle.tonekit_sheet_laws.specs.Place.{up_to, tone_at, accent_at, read_to, last_of, st_of_view, st_of}

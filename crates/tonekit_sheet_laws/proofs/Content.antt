@@ -2,12 +2,12 @@
 use Rattle.std.proofs.Common.{ℕ, zero, suc, ◌+◌, ◌*◌, ◌≤◌, ◌<◌, ◌≡◌, refl, sym, ap, ap₂, ◌∙◌, cond, List, [], ◌∷◌, ◌++◌, arith, add-one, eqb, ltb, length, get_or, length-append, ext_get_or, ltb-true, ltb-false}
 use lib.ListN.{get_or-append}
 use lib.Seq.{get_or_at}
-use Rattle.tonekit_bytes.specs.Fields.{byte_at, u32_at}
+use Rattle.spec_arithmetic.specs.Fields.{byte_at, u32_at}
 use Rattle.tonekit_core.proofs.Split.{split}
-use Rattle.tonekit_expect.specs.Source.{Carried, Source}
-use Rattle.tonekit_sheet.specs.Sheet.{View, no_carried, lists_of}
-use Rattle.tonekit_sheet.specs.Reader.{Out}
-use Rattle.tonekit_sheet.specs.FromSheet.{bits_at, carried_at, carried_from}
+use Rattle.spec_lookup.specs.Source.{Carried, Source}
+use Rattle.spec_sheet.specs.Sheet.{View, no_carried, lists_of}
+use Rattle.spec_sheet.specs.Reader.{Out}
+use Rattle.spec_sheet.specs.FromSheet.{bits_at, carried_at, carried_from}
 use Rattle.tonekit_sheet.specs.Fit.{CarriedFit}
 use Rattle.tonekit_sheet_laws.specs.Place.{list_at}
 use Rattle.tonekit_sheet_laws.proofs.Records.{HeadThere, ComponentThere}

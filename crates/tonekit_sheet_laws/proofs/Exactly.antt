@@ -1,14 +1,14 @@
 -- The sheets of two sources that fit are equal in every bit exactly when settings, tones, accents and the lookups of all held contexts agree. Assumes nothing.
 use Rattle.std.proofs.Common.{ℕ, zero, suc, ◌<◌, ◌≡◌, refl, sym, ap, ap₂, ◌∙◌, subst, ◌⊎◌, ◌↔◌, Bool, true, false, List, [], arith, length}
 use mathlib.Core.Option.{Option}
-use Rattle.tonekit_expect.specs.Source.{Tone, Accent, Carried, Source, accent_in, tone_in}
-use Rattle.tonekit_expect.specs.declared.Context.{Context}
-use Rattle.tonekit_sheet.specs.Number.{noted, number_in}
-use Rattle.tonekit_sheet.specs.Gather.{gather}
-use Rattle.tonekit_sheet.specs.Sheet.{or_skip, asc_from, ascending, View, row_context, row_bytes, view_of, rows_of, note_turn, lists_of, row_piece, bytes_with, bytes_of, sheet}
-use Rattle.tonekit_sheet.specs.Reader.{Sst, loaded, load_sheet}
-use Rattle.tonekit_sheet.specs.FromSheet.{source_of_sheet}
-use Rattle.tonekit_sheet.specs.Agree.{Held, Agree}
+use Rattle.spec_lookup.specs.Source.{Tone, Accent, Carried, Source, accent_in, tone_in}
+use Rattle.spec_lookup.specs.declared.Context.{Context}
+use Rattle.spec_sheet.specs.Number.{noted, number_in}
+use Rattle.spec_sheet.specs.Pieces.{gather}
+use Rattle.spec_sheet.specs.Sheet.{or_skip, asc_from, ascending, View, row_context, row_bytes, view_of, rows_of, note_turn, lists_of, row_piece, bytes_with, bytes_of, sheet}
+use Rattle.spec_sheet.specs.Reader.{Sst, loaded, load_sheet}
+use Rattle.spec_sheet.specs.FromSheet.{source_of_sheet}
+use Rattle.spec_sheet.specs.Agree.{Held, Agree}
 use Rattle.tonekit_sheet.specs.Fit.{Fit}
 use Rattle.tonekit_sheet_laws.specs.Place.{st_of}
 use Rattle.tonekit_core.proofs.LoopLaws.{range_same}

@@ -4,12 +4,12 @@ use mathlib.Core.Option.{some}
 use lib.ListN.{get_or-replicate}
 use lib.Ieee.{of_bits, lt, le}
 use Rattle.tonekit_core.specs.Loop.{range, turns}
-use Rattle.tonekit_pack.specs.Ranges.{above_zero, a_share, weight_fine}
-use Rattle.tonekit_expect.specs.Source.{Carried, Source, accent_in}
-use Rattle.tonekit_sheet.specs.Number.{same_numbers, same_carried, same, seen_in, place_in, noted, number_in}
-use Rattle.tonekit_sheet.specs.Gather.{pieces, gather}
-use Rattle.tonekit_sheet.specs.Sheet.{asc_from, ascending, no_tone, no_accent, no_carried, row_context, view_of, lists_of, bits_bytes, components_bytes, bytes_with, bytes_of, sheet}
-use Rattle.tonekit_sheet.specs.Reader.{point_fine}
+use Rattle.spec_pack.specs.Ranges.{above_zero, a_share, weight_fine}
+use Rattle.spec_lookup.specs.Source.{Carried, Source, accent_in}
+use Rattle.spec_sheet.specs.Number.{same_numbers, same_carried, same, seen_in, place_in, noted, number_in}
+use Rattle.spec_sheet.specs.Pieces.{pieces, gather}
+use Rattle.spec_sheet.specs.Sheet.{asc_from, ascending, no_tone, no_accent, no_carried, row_context, view_of, lists_of, bits_bytes, components_bytes, bytes_with, bytes_of, sheet}
+use Rattle.spec_sheet.specs.Reader.{point_fine}
 use Rattle.tonekit_sheet.specs.Fit.{f32, SettingsFit, ToneFit, AccentFit, CarriedFit, ListFit, components_in, Fit}
 
 -- the bits of 1

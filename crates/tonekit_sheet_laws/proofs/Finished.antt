@@ -1,16 +1,16 @@
 -- What is judged at a sheet's end finds nothing in the sheet of a source that fits: no loose row, nothing out of order. Assumes nothing.
 use Rattle.std.proofs.Common.{ℕ, zero, suc, ◌+◌, ◌*◌, ◌≤◌, ◌<◌, ◌≡◌, refl, sym, ap, ◌∙◌, Bool, true, false, ◌||◌, List, arith, add-one, eqb, length, get_or, eq-eqb, eqb-true, le-leb, lt-ltb, None}
 use Rattle.tonekit_core.specs.Loop.{next}
-use Rattle.tonekit_bytes.specs.Fields.{byte_at}
-use Rattle.tonekit_bytes.specs.Places.{number_at}
-use Rattle.tonekit_pack.specs.Pack.{zero_or_held}
+use Rattle.spec_arithmetic.specs.Fields.{byte_at}
+use Rattle.spec_arithmetic.specs.Places.{number_at}
+use Rattle.spec_pack.specs.Pack.{zero_or_held}
 use Rattle.tonekit_core.proofs.Split.{split}
-use Rattle.tonekit_expect.specs.Source.{Carried, Source}
-use Rattle.tonekit_sheet.specs.Number.{number_in}
-use Rattle.tonekit_sheet.specs.Sheet.{View, no_tone, no_accent, accent_place, tone_place, prev_place, prev_number, rows_of, lists_of}
-use Rattle.tonekit_sheet.specs.Reader.{Sst, Out, loaded, loose_turn, loose_row, accent_turn, accent_down, prev_due, row_due, row_names, row_turn, row_wrong, named, list_size, same_lists, repeated, list_turn, list_wrong, finished}
-use Rattle.tonekit_sheet.specs.Reader.{row_at as row_in}
-use Rattle.tonekit_sheet.specs.FromSheet.{carried_from}
+use Rattle.spec_lookup.specs.Source.{Carried, Source}
+use Rattle.spec_sheet.specs.Number.{number_in}
+use Rattle.spec_sheet.specs.Sheet.{View, no_tone, no_accent, accent_place, tone_place, prev_place, prev_number, rows_of, lists_of}
+use Rattle.spec_sheet.specs.Reader.{Sst, Out, loaded, loose_turn, loose_row, accent_turn, accent_down, prev_due, row_due, row_names, row_turn, row_wrong, named, list_size, same_lists, repeated, list_turn, list_wrong, finished}
+use Rattle.spec_sheet.specs.Reader.{row_at as row_in}
+use Rattle.spec_sheet.specs.FromSheet.{carried_from}
 use Rattle.tonekit_sheet_laws.specs.Place.{up_to, tone_at, accent_at, row_at, list_at, read_to}
 use Rattle.tonekit_sheet_laws.proofs.Loops.{range_each, range_any, range_none, to_through}
 use Rattle.tonekit_sheet_laws.proofs.FirstUse.{so_far, half, so_none, row_numbers, lists_once, list_used, used_number, listed_first, listed_final}

@@ -5,9 +5,9 @@ use lib.ListN.{get_or-append}
 use Rattle.tonekit_core.specs.Loop.{range, range_done}
 use Rattle.tonekit_core.proofs.LoopLaws.{range_keeps}
 use Rattle.tonekit_core.proofs.Split.{split}
-use Rattle.tonekit_expect.specs.Source.{Carried}
-use Rattle.tonekit_sheet.specs.Number.{seen_in, place_in, noted, number_in}
-use Rattle.tonekit_sheet.specs.Sheet.{View, rows_of, note_turn, lists_of}
+use Rattle.spec_lookup.specs.Source.{Carried}
+use Rattle.spec_sheet.specs.Number.{seen_in, place_in, noted, number_in}
+use Rattle.spec_sheet.specs.Sheet.{View, rows_of, note_turn, lists_of}
 use Rattle.tonekit_sheet_laws.proofs.Loops.{range_last}
 use Rattle.tonekit_sheet_laws.proofs.Numbers.{Grows, grows_refl, grows_trans, grows_seen, noted_grows, noted_seen, noted_number, noted_least, noted_most, noted_from, Once, noted_once, place_below, place_get, place_once}
 

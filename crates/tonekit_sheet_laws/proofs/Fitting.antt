@@ -1,7 +1,7 @@
 -- What a source that fits has, said of what its sheet is made of. Assumes nothing.
 use Rattle.std.proofs.Common.{ℕ, ◌≤◌, ◌<◌, ◌≡◌, sym, ap, ◌∙◌, subst, List, [], arith, length, get_or}
-use Rattle.tonekit_expect.specs.Source.{Accent, Carried, Source, accent_in}
-use Rattle.tonekit_sheet.specs.Sheet.{View, no_tone, no_accent, no_carried, ascending, row_context, view_of, lists_of}
+use Rattle.spec_lookup.specs.Source.{Accent, Carried, Source, accent_in}
+use Rattle.spec_sheet.specs.Sheet.{View, no_tone, no_accent, no_carried, ascending, row_context, view_of, lists_of}
 use Rattle.tonekit_sheet.specs.Fit.{SettingsFit, ToneFit, AccentFit, ListFit, Fit, components_in}
 use Rattle.tonekit_sheet_laws.proofs.FirstUse.{list_used}
 use Rattle.tonekit_sheet_laws.proofs.Ascending.{accent_at_lem, accent_found, ascending_rising, ascending_few, ascending_held, ascending_same}

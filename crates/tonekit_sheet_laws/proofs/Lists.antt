@@ -2,13 +2,13 @@
 use Rattle.std.proofs.Common.{ℕ, zero, suc, ◌+◌, ◌-◌, ◌*◌, ◌≤◌, ◌<◌, ◌≡◌, refl, sym, ap, ◌∙◌, true, false, not, ◌&&◌, ◌||◌, List, [], arith, eqb, leb, ltb, length, get_or, eq-eqb, ne_eqb, eqb-true, le-leb, lt-ltb, le-ltb, ltb-true}
 use lib.Ieee.{binary32, of_bits}
 use borrow.Author.Tests.{eqb-false, lt-leb}
-use Rattle.tonekit_bytes.specs.Fields.{byte_at, f32_at}
-use Rattle.tonekit_pack.specs.Ranges.{weight_fine}
-use Rattle.tonekit_pack.specs.Pack.{holds}
+use Rattle.spec_arithmetic.specs.Fields.{byte_at, f32_at}
+use Rattle.spec_pack.specs.Ranges.{weight_fine}
+use Rattle.spec_pack.specs.Pack.{holds}
 use Rattle.tonekit_core.proofs.Split.{split}
-use Rattle.tonekit_expect.specs.Source.{Carried, Source}
-use Rattle.tonekit_sheet.specs.Sheet.{View, no_carried, rows_of, lists_of}
-use Rattle.tonekit_sheet.specs.Reader.{Sst, Out, size_of, complete, due_next, list_crowded, list_fine, list_verdict, point_fine, points_fine, last_list, component_fine, component_verdict, body_verdict, added}
+use Rattle.spec_lookup.specs.Source.{Carried, Source}
+use Rattle.spec_sheet.specs.Sheet.{View, no_carried, rows_of, lists_of}
+use Rattle.spec_sheet.specs.Reader.{Sst, Out, size_of, complete, due_next, list_crowded, list_fine, list_verdict, point_fine, points_fine, last_list, component_fine, component_verdict, body_verdict, added}
 use Rattle.tonekit_sheet.specs.Fit.{Bits, f32, ListFit}
 use Rattle.tonekit_sheet_laws.specs.Place.{up_to, components_before, accent_at, list_at, read_to, last_of}
 use Rattle.tonekit_sheet_laws.proofs.Loops.{range_all}

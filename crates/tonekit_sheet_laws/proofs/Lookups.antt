@@ -3,17 +3,17 @@ use Rattle.std.proofs.Common.{ℕ, zero, suc, ◌+◌, ◌*◌, ◌≤◌, ◌<�
 use mathlib.Core.Option.{Option, none, some}
 use borrow.Author.Tests.{eqb-false}
 use Rattle.tonekit_core.specs.Loop.{range_to, to_again, to_stop}
-use Rattle.tonekit_bytes.specs.Fields.{byte_at}
+use Rattle.spec_arithmetic.specs.Fields.{byte_at}
 use Rattle.tonekit_core.proofs.Split.{split}
-use Rattle.tonekit_expect.specs.Source.{Carried, Source}
-use Rattle.tonekit_bytes.specs.Places.{number_at, index_turn, index_of}
+use Rattle.spec_lookup.specs.Source.{Carried, Source}
+use Rattle.spec_arithmetic.specs.Places.{number_at, index_turn, index_of}
 use Rattle.tonekit_expect.proofs.Walk.{index_found}
-use Rattle.tonekit_expect.specs.declared.Context.{Context}
-use Rattle.tonekit_sheet.specs.Number.{place_in, number_in}
-use Rattle.tonekit_sheet.specs.Sheet.{View, no_tone, no_accent, prev_number, rows_of, lists_of}
-use Rattle.tonekit_sheet.specs.Reader.{Sst, Out}
-use Rattle.tonekit_sheet.specs.Reader.{row_at as row_in}
-use Rattle.tonekit_sheet.specs.FromSheet.{list_numbered, row_place, final_place, prev_found, look_placed}
+use Rattle.spec_lookup.specs.declared.Context.{Context}
+use Rattle.spec_sheet.specs.Number.{place_in, number_in}
+use Rattle.spec_sheet.specs.Sheet.{View, no_tone, no_accent, prev_number, rows_of, lists_of}
+use Rattle.spec_sheet.specs.Reader.{Sst, Out}
+use Rattle.spec_sheet.specs.Reader.{row_at as row_in}
+use Rattle.spec_sheet.specs.FromSheet.{list_numbered, row_place, final_place, prev_found, look_placed}
 use Rattle.tonekit_sheet_laws.specs.Place.{up_to, tone_at, accent_at, list_at, read_to}
 use Rattle.tonekit_sheet_laws.proofs.FirstUse.{Listed, listed_first, listed_final}
 use Rattle.tonekit_sheet_laws.proofs.Placed.{up_to_length, up_to_get}

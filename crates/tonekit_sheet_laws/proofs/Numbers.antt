@@ -4,8 +4,8 @@ use mathlib.Core.Option.{Option, none, some}
 use lib.ListN.{get_or-append}
 use lib.Seq.{get_or-append_seam}
 use Rattle.tonekit_core.proofs.Split.{split, absurd_bool}
-use Rattle.tonekit_expect.specs.Source.{Carried}
-use Rattle.tonekit_sheet.specs.Number.{same_carried, same, seen_in, place_in, noted, number_in}
+use Rattle.spec_lookup.specs.Source.{Carried}
+use Rattle.spec_sheet.specs.Number.{same_carried, same, seen_in, place_in, noted, number_in}
 use Rattle.tonekit_sheet.proofs.Same.{carried_is, carried_refl, same_is, same_refl, seen_more, place_more, seen_last, place_last}
 
 -- ---- equal in every bit

@@ -2,11 +2,11 @@
 use Rattle.std.proofs.Common.{ℕ, zero, suc, ◌+◌, ◌≤◌, ◌<◌, ◌≡◌, refl, ◌∙◌, true, false, List, [], ◌∷◌, arith, add-one, ltb, eqb, length, get_or, length-append, ltb-true, ltb-false, eq-eqb}
 use lib.ListN.{get_or-append}
 use lib.Seq.{get_or_at}
-use Rattle.tonekit_bytes.specs.Places.{number_at}
-use Rattle.tonekit_pack.specs.Pack.{holds, zero_or_held}
+use Rattle.spec_arithmetic.specs.Places.{number_at}
+use Rattle.spec_pack.specs.Pack.{holds, zero_or_held}
 use Rattle.tonekit_core.proofs.Split.{split}
 use Rattle.tonekit_pack.proofs.Numbers.{held_at, not_held}
-use Rattle.tonekit_expect.specs.Source.{Carried}
+use Rattle.spec_lookup.specs.Source.{Carried}
 use Rattle.tonekit_sheet.specs.Fit.{components_in}
 use Rattle.tonekit_sheet_laws.specs.Place.{up_to, components_before}
 

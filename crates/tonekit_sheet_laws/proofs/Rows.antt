@@ -1,12 +1,12 @@
 -- The reader goes through the rows of a sheet. Assumes nothing.
 use Rattle.std.proofs.Common.{ℕ, zero, suc, ◌+◌, ◌≤◌, ◌<◌, ◌≡◌, refl, sym, ◌∙◌, true, false, List, arith, add-one, length, get_or, ne_eqb, lt-ltb}
-use Rattle.tonekit_bytes.specs.Fields.{byte_at}
-use Rattle.tonekit_pack.specs.Pack.{zero_or_held}
-use Rattle.tonekit_expect.specs.Source.{Source}
-use Rattle.tonekit_expect.specs.declared.Context.{Context}
-use Rattle.tonekit_sheet.specs.Number.{number_in}
-use Rattle.tonekit_sheet.specs.Sheet.{View, no_tone, no_accent, accent_place, tone_place, prev_place, prev_number, row_context, rows_of, lists_of}
-use Rattle.tonekit_sheet.specs.Reader.{Sst, Out, size_of, due_next, rows_due, row_fine, row_held, row_verdict, body_verdict, added}
+use Rattle.spec_arithmetic.specs.Fields.{byte_at}
+use Rattle.spec_pack.specs.Pack.{zero_or_held}
+use Rattle.spec_lookup.specs.Source.{Source}
+use Rattle.spec_lookup.specs.declared.Context.{Context}
+use Rattle.spec_sheet.specs.Number.{number_in}
+use Rattle.spec_sheet.specs.Sheet.{View, no_tone, no_accent, accent_place, tone_place, prev_place, prev_number, row_context, rows_of, lists_of}
+use Rattle.spec_sheet.specs.Reader.{Sst, Out, size_of, due_next, rows_due, row_fine, row_held, row_verdict, body_verdict, added}
 use Rattle.tonekit_sheet_laws.specs.Place.{up_to, tone_at, accent_at, row_at, read_to, last_of}
 use Rattle.tonekit_sheet_laws.proofs.Placed.{up_to_length, holds_one, zero_or_one, zero_or_zero}
 use Rattle.tonekit_sheet_laws.proofs.Records.{RowThere, row_there}

@@ -2,9 +2,9 @@
 use Rattle.std.proofs.Common.{ℕ, ◌+◌, ◌-◌, ◌≤◌, ◌<◌, ◌≡◌, refl, sym, ◌∙◌, subst, Bool, true, false, List, arith, length, ne_eqb, le-ltb, Ok}
 use borrow.Author.Tests.{lt-leb}
 use Rattle.tonekit_core.specs.Loop.{loop_to, loop_again, loop_stop}
-use Rattle.tonekit_bytes.specs.Fields.{byte_at}
-use Rattle.tonekit_pack.specs.Pack.{in_turn}
-use Rattle.tonekit_sheet.specs.Reader.{Sst, Out, size_of, due_next, body_verdict, record_verdict, added, finished, record_turn}
+use Rattle.spec_arithmetic.specs.Fields.{byte_at}
+use Rattle.spec_pack.specs.Pack.{in_turn}
+use Rattle.spec_sheet.specs.Reader.{Sst, Out, size_of, due_next, body_verdict, record_verdict, added, finished, record_turn}
 
 -- each test in turn passes
 pub all_pass : (crowded fine new held : Bool) → crowded ≡ false → fine ≡ true → new ≡ true → held ≡ true → in_turn crowded fine new held ≡ Ok tt

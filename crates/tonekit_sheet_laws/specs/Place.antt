@@ -1,9 +1,10 @@
 -- Where the records of a sheet stand, and what its reader has once it has read them.
 use Rattle.std.specs.Prelude.{ℕ, zero, suc, ◌+◌, ◌*◌, List, [], ◌∷◌, ◌++◌, length, get_or}
-use Rattle.tonekit_core.specs.Layout.{sheet_row_kind, sheet_list_size, sheet_component_kind, sheet_component_size, sheet_tone_at, sheet_accent_at, sheet_row_at}
-use Rattle.tonekit_expect.specs.Source.{Carried, Source}
-use Rattle.tonekit_sheet.specs.Reader.{Sst}
-use Rattle.tonekit_sheet.specs.Sheet.{View, view_of, rows_of, lists_of}
+use Rattle.tonekit_core.specs.declared.layout.TheConstants.{SHEET_ROW_KIND, SHEET_LIST_SIZE, SHEET_COMPONENT_KIND, SHEET_COMPONENT_SIZE}
+use Rattle.tonekit_core.specs.Layout.{sheet_tone_at, sheet_accent_at, sheet_row_at}
+use Rattle.spec_lookup.specs.Source.{Carried, Source}
+use Rattle.spec_sheet.specs.Reader.{Sst}
+use Rattle.spec_sheet.specs.Sheet.{View, view_of, rows_of, lists_of}
 use Rattle.tonekit_sheet.specs.Fit.{components_in}
 
 -- f 0, f 1, .. up to n, without it
@@ -27,7 +28,7 @@ abbrev pub row_at : View → ℕ → ℕ
 row_at v r = sheet_row_at (length v.tones) (length v.accents) r
 
 abbrev pub list_at : View → List (List Carried) → ℕ → ℕ
-list_at v lists i = row_at v (rows_of v) + (sheet_list_size * i + sheet_component_size * components_before lists i)
+list_at v lists i = row_at v (rows_of v) + (SHEET_LIST_SIZE * i + SHEET_COMPONENT_SIZE * components_before lists i)
 
 -- what has been read after t tones, a accents, r rows and l lists
 abbrev pub read_to : View → List (List Carried) → ℕ → ℕ → ℕ → ℕ → ℕ → ℕ → ℕ → Sst
@@ -49,7 +50,7 @@ last_of before kind (suc n) = kind
 -- what the reader has at the end of a sheet
 unfoldable pub st_of_view : View → List (List Carried) → Sst
 st_of_view v lists =
-    read_to v lists (last_of sheet_row_kind sheet_component_kind (length lists)) (length v.tones) (length v.accents)
+    read_to v lists (last_of SHEET_ROW_KIND SHEET_COMPONENT_KIND (length lists)) (length v.tones) (length v.accents)
     (rows_of v) (length lists) 0 (components_in lists)
 
 unfoldable pub st_of : Source → Sst

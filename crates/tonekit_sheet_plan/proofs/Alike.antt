@@ -2,13 +2,13 @@
 use Rattle.std.proofs.Common.{ℕ, zero, suc, ◌+◌, ◌-◌, ◌<◌, ◌≡◌, refl, sym, ◌∙◌, ap, Bool, true, false, not, cond, ◌&&◌, List, [], ◌∷◌, ◌++◌, map, arith, add-one, eqb, length, length-append, Float, to_bits, eq-eqb, ne_eqb, eqb-true}
 use lib.Ieee.{binary32}
 use Rattle.tonekit_core.proofs.Split.{split, both}
-use Rattle.tonekit_expect.specs.declared.Component.{Component}
-use Rattle.tonekit_expect.specs.declared.Listing.{Listing}
-use Rattle.tonekit_expect.specs.Knots.{first_points}
-use Rattle.tonekit_expect.specs.Lookup.{component_of}
-use Rattle.tonekit_expect.specs.Source.{Carried, carried, components}
+use Rattle.spec_lookup.specs.declared.Component.{Component}
+use Rattle.spec_lookup.specs.declared.Listing.{Listing}
+use Rattle.spec_lookup.specs.Knots.{first_points}
+use Rattle.spec_lookup.specs.Lookup.{component_of}
+use Rattle.spec_lookup.specs.Source.{Carried, carried, components}
 use Rattle.tonekit_expect.proofs.Carried.{named, part_number, components_length}
-use Rattle.tonekit_sheet.specs.Number.{same_numbers, same_carried, same}
+use Rattle.spec_sheet.specs.Number.{same_numbers, same_carried, same}
 
 -- ---- points
 abbrev pub bits : List Float → List ℕ

@@ -3,11 +3,11 @@ use Rattle.std.proofs.Common.{ℕ, ◌+◌, ◌≤◌, ◌<◌, ◌≡◌, refl,
 use lib.Ieee.{nan, binary32}
 use Rattle.tonekit_core.specs.Loop.{fold}
 use Rattle.tonekit_core.proofs.Split.{split}
-use Rattle.tonekit_expect.specs.declared.Component.{Component}
-use Rattle.tonekit_expect.specs.declared.Listing.{Listing}
-use Rattle.tonekit_expect.specs.Lookup.{component_of}
-use Rattle.tonekit_expect.specs.Source.{Carried, carried, components}
-use Rattle.tonekit_sheet.specs.Number.{same}
+use Rattle.spec_lookup.specs.declared.Component.{Component}
+use Rattle.spec_lookup.specs.declared.Listing.{Listing}
+use Rattle.spec_lookup.specs.Lookup.{component_of}
+use Rattle.spec_lookup.specs.Source.{Carried, carried, components}
+use Rattle.spec_sheet.specs.Number.{same}
 use Rattle.tonekit_sheet.proofs.Same.{same_is}
 use Rattle.tonekit_sheet.specs.Marks.{mixed}
 use Rattle.tonekit_sheet_plan.specs.Marks.{component_mark, byte_of, mark_of}

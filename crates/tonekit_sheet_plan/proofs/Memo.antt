@@ -4,9 +4,9 @@ use Rattle.std.proofs.Math.ListN.{get_or-append, length-map}
 use Rattle.std.proofs.Math.Seq.{get_or_at}
 use Rattle.std.proofs.Math.Option.{none, some}
 use Rattle.tonekit_core.proofs.Split.{split}
-use Rattle.tonekit_expect.specs.Source.{Carried}
-use Rattle.tonekit_expect.specs.declared.Listing.{Listing}
-use Rattle.tonekit_sheet.specs.Number.{same, seen_in, place_in, noted, number_in}
+use Rattle.spec_lookup.specs.Source.{Carried}
+use Rattle.spec_lookup.specs.declared.Listing.{Listing}
+use Rattle.spec_sheet.specs.Number.{same, seen_in, place_in, noted, number_in}
 use Rattle.tonekit_sheet.proofs.Same.{place_more, seen_more, seen_last, place_last}
 use Rattle.tonekit_sheet_plan.specs.declared.Entry.{Entry}
 use Rattle.tonekit_sheet_plan.specs.declared.Known.{Known}

@@ -1,7 +1,7 @@
 -- The place of a list among lists, looked for from the front. Assumes nothing.
 use Rattle.std.proofs.Common.{ℕ, zero, suc, ◌+◌, ◌≤◌, ◌<◌, ◌≡◌, refl, sym, ◌∙◌, ap, true, false, List, [], arith, add-zero, zero-add, add-one, length, get_or, drop, drop_of_length-le, drop-cons, lt-ltb, le-ltb}
-use Rattle.tonekit_expect.specs.Source.{Carried}
-use Rattle.tonekit_sheet.specs.Number.{same, seen_in, place_in}
+use Rattle.spec_lookup.specs.Source.{Carried}
+use Rattle.spec_sheet.specs.Number.{same, seen_in, place_in}
 use Rattle.tonekit_sheet_plan.specs.Entries.{FirstPlace}
 
 module _ (v : List Carried) (xs : List (List Carried)) where

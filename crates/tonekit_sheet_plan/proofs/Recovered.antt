@@ -1,15 +1,15 @@
 -- Every listing that a lookup in a pack that loads gives is found again from its owner and its record, and can be read. Assumes nothing.
 use Rattle.std.proofs.Common.{ℕ, ◌+◌, ◌-◌, ◌≤◌, ◌<◌, ◌≡◌, refl, subst, List, arith, eqb, ltb, length, get_or, eq-eqb, ne_eqb, ltb-true}
-use Rattle.tonekit_core.specs.Layout.{tone_knot_count, rule_kind, rule_size, rule_form}
-use Rattle.tonekit_bytes.specs.Fields.{byte_at}
-use Rattle.tonekit_bytes.specs.Places.{index_of, number_at}
-use Rattle.tonekit_pack.specs.Pack.{Pst, loaded, read_pack}
+use Rattle.tonekit_core.specs.declared.layout.TheConstants.{TONE_KNOT_COUNT, RULE_KIND, RULE_SIZE, RULE_FORM}
+use Rattle.spec_arithmetic.specs.Fields.{byte_at}
+use Rattle.spec_arithmetic.specs.Places.{index_of, number_at}
+use Rattle.spec_pack.specs.Pack.{Pst, loaded, read_pack}
 use Rattle.tonekit_core.proofs.Split.{split}
 use Rattle.tonekit_pack.proofs.Loads.{RuleFine, Loads, loads, firsts_bound}
 use Rattle.std.specs.Prelude.{Some, None}
-use Rattle.tonekit_expect.specs.declared.Context.{Context}
-use Rattle.tonekit_expect.specs.declared.Listing.{Listing}
-use Rattle.tonekit_expect.specs.Lookup.{Found, Walked, to_rule, find_rule, rule_listing, citation, listed, look_at, look_up}
+use Rattle.spec_lookup.specs.declared.Context.{Context}
+use Rattle.spec_lookup.specs.declared.Listing.{Listing}
+use Rattle.spec_lookup.specs.Lookup.{Found, Walked, to_rule, find_rule, rule_listing, citation, listed, look_at, look_up}
 use Rattle.tonekit_expect.proofs.Walk.{index_found, winner_is}
 use Rattle.tonekit_expect.proofs.Curves.{listed_fine}
 use Rattle.tonekit_sheet_plan.specs.Listings.{record_of, listing_from, LookKept}
@@ -17,7 +17,7 @@ use Rattle.tonekit_sheet_plan.specs.Listings.{record_of, listing_from, LookKept}
 -- found again
 record Again (s : List ℕ) (l : Listing) : Type 0 where
   near : record_of l < 65536
-  behind : (l.name.form ≡ 1 → ⊥) → rule_size ≤ l.at
+  behind : (l.name.form ≡ 1 → ⊥) → RULE_SIZE ≤ l.at
   same : listing_from s l.name.owner (record_of l) ≡ l
   some : 1 ≤ l.count
   few : l.count ≤ 4
@@ -39,12 +39,12 @@ module _ (s : List ℕ) (st : Pst) (e : ℕ) (l : Loads s st e) (rules : (k : �
   of_rule : (owner r : ℕ) → Own r → Again s (rule_listing s owner r)
   unfolding listing_from
   of_rule owner r R =
-      let n = ne_eqb (byte_at s (r + rule_form)) 1 (λ q. omega (arith, R.0.least)) in
-      let q : r + rule_size - rule_size ≡ r = omega arith in
+      let n = ne_eqb (byte_at s (r + RULE_FORM)) 1 (λ q. omega (arith, R.0.least)) in
+      let q : r + RULE_SIZE - RULE_SIZE ≡ r = omega arith in
       record {
         near = rw (n, q) R.1;
         behind = λ f. omega arith;
-        same = rw (n, q, eq-eqb (byte_at s r) rule_kind R.0.kind);
+        same = rw (n, q, eq-eqb (byte_at s r) RULE_KIND R.0.kind);
         some = R.0.some_parts;
         few = R.0.few_parts;
       }
@@ -69,7 +69,7 @@ module _ (s : List ℕ) (st : Pst) (e : ℕ) (l : Loads s st e) (rules : (k : �
       subst (Again s) is (of_rule (number_at s (get_or st.accents a 0)) r (winner_is s st c Own own i a r hi q).1)
   of_winner m i t hi ht None q g =
       let o = get_or st.tones t 0 in
-      split (eqb (byte_at s (o + tone_knot_count)) 0)
+      split (eqb (byte_at s (o + TONE_KNOT_COUNT)) 0)
       (λ z. let g' = rw z at g in let n : ◌≡◌ {A = ℕ} 0 1 = cc in absurd (omega arith))
       (λ z. let g' = rw z at g in
       let is : citation c.accent o ≡ m = cc in

@@ -3,16 +3,16 @@ use Rattle.std.proofs.Common.{ℕ, zero, suc, ◌+◌, ◌-◌, ◌≤◌, ◌<�
 use mathlib.Core.Option.{Option, none, some}
 use lib.ListN.{length-map}
 use Rattle.tonekit_core.specs.Loop.{turns, range, range_step}
-use Rattle.tonekit_pack.specs.Pack.{Pst, read_pack}
+use Rattle.spec_pack.specs.Pack.{Pst, read_pack}
 use Rattle.tonekit_pack.specs.Held.{shown}
 use Rattle.tonekit_pack.specs.declared.Pack.{Pack}
 use Rattle.tonekit_core.proofs.Split.{split}
 use Rattle.tonekit_bytes.proofs.InOrder.{order_length}
 use Rattle.tonekit_pack.proofs.Loads.{loads, some_tones}
-use Rattle.tonekit_expect.specs.Lookup.{look_up}
-use Rattle.tonekit_expect.specs.Source.{Carried, given, accent_at, tone_at, source_of_pack}
-use Rattle.tonekit_sheet.specs.Number.{seen_in, noted}
-use Rattle.tonekit_sheet.specs.Sheet.{View, view_of, ascending, row_context, row_count, rows_of, note_turn, lists_of}
+use Rattle.spec_lookup.specs.Lookup.{look_up}
+use Rattle.spec_lookup.specs.Source.{Carried, given, accent_at, tone_at, source_of_pack}
+use Rattle.spec_sheet.specs.Number.{seen_in, noted}
+use Rattle.spec_sheet.specs.Sheet.{View, view_of, ascending, row_context, row_count, rows_of, note_turn, lists_of}
 use Rattle.tonekit_sheet_plan.specs.Rows.{pack_view, tones_of, accents_at, Ordered, end_of, Reads}
 
 -- ---- the parts of a pack's view

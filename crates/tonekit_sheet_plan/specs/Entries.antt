@@ -1,8 +1,8 @@
 -- The lists of a plan, and a memo of numbers that promises only that what it holds is right.
 use Rattle.std.specs.Prelude.{ℕ, suc, ◌≤◌, ◌<◌, ◌≡◌, true, List, map, ltb, length, get_or}
-use Rattle.tonekit_expect.specs.Source.{Carried}
-use Rattle.tonekit_expect.specs.declared.Listing.{Listing}
-use Rattle.tonekit_sheet.specs.Number.{seen_in, place_in}
+use Rattle.spec_lookup.specs.Source.{Carried}
+use Rattle.spec_lookup.specs.declared.Listing.{Listing}
+use Rattle.spec_sheet.specs.Number.{seen_in, place_in}
 use Rattle.tonekit_sheet_plan.specs.declared.Entry.{Entry}
 use Rattle.tonekit_sheet_plan.specs.declared.Known.{Known}
 use Rattle.tonekit_sheet_plan.specs.Listings.{carried_by, record_of, listing_from, Kept}

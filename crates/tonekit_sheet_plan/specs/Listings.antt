@@ -1,10 +1,10 @@
 -- The curves of a context, found again from their owner and the record that they stand in.
 use Rattle.std.specs.Prelude.{ℕ, ◌-◌, ◌≤◌, ◌<◌, ◌≡◌, cond, List, Some, eqb}
-use Rattle.tonekit_core.specs.Layout.{citation_form, rule_kind, rule_size}
-use Rattle.tonekit_bytes.specs.Fields.{byte_at}
-use Rattle.tonekit_expect.specs.Lookup.{Look, rule_listing, citation, Listed}
-use Rattle.tonekit_expect.specs.Source.{Carried, components}
-use Rattle.tonekit_expect.specs.declared.Listing.{Listing}
+use Rattle.tonekit_core.specs.declared.layout.TheConstants.{CITATION_FORM, RULE_KIND, RULE_SIZE}
+use Rattle.spec_arithmetic.specs.Fields.{byte_at}
+use Rattle.spec_lookup.specs.Lookup.{Look, rule_listing, citation, Listed}
+use Rattle.spec_lookup.specs.Source.{Carried, components}
+use Rattle.spec_lookup.specs.declared.Listing.{Listing}
 
 -- all that the components of a listing carry
 abbrev pub carried_by : List ℕ → Listing → List Carried
@@ -12,16 +12,16 @@ carried_by s l = components s l l.count
 
 -- the record of a listing: a citation's tone, else the rule before the parts
 abbrev pub record_of : Listing → ℕ
-record_of l = cond (eqb l.name.form citation_form) l.at (l.at - rule_size)
+record_of l = cond (eqb l.name.form CITATION_FORM) l.at (l.at - RULE_SIZE)
 
 -- a rule's record; any other record of a listing is a tone's
 unfoldable pub listing_from : List ℕ → ℕ → ℕ → Listing
-listing_from s owner o = cond (eqb (byte_at s o) rule_kind) (rule_listing s owner o) (citation owner o)
+listing_from s owner o = cond (eqb (byte_at s o) RULE_KIND) (rule_listing s owner o) (citation owner o)
 
 -- a listing that is found again, and whose components can be read
 pub record Kept (s : List ℕ) (l : Listing) : Type 0 where
   pub near : record_of l < 65536
-  pub behind : (l.name.form ≡ citation_form → ⊥) → rule_size ≤ l.at
+  pub behind : (l.name.form ≡ CITATION_FORM → ⊥) → RULE_SIZE ≤ l.at
   pub same : listing_from s l.name.owner (record_of l) ≡ l
   pub some : 1 ≤ l.count
   pub few : l.count ≤ 4

@@ -1,7 +1,7 @@
 -- The mark of what a list's components carry.
 use Rattle.std.specs.Prelude.{ℕ, ◌+◌, ◌/◌, ◌%◌, List}
 use Rattle.tonekit_core.specs.Loop.{fold}
-use Rattle.tonekit_expect.specs.Source.{Carried}
+use Rattle.spec_lookup.specs.Source.{Carried}
 use Rattle.tonekit_sheet.specs.Marks.{mixed}
 
 -- weight and points of one more component

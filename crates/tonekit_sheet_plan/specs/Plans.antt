@@ -3,11 +3,11 @@ use Rattle.std.specs.Prelude.{ℕ, ◌≡◌, List, []}
 use Rattle.std.proofs.Math.Option.{some}
 use Rattle.tonekit_pack.specs.Held.{shown}
 use Rattle.tonekit_pack.specs.declared.Pack.{Pack}
-use Rattle.tonekit_expect.specs.Lookup.{Look}
-use Rattle.tonekit_expect.specs.Source.{Carried, given}
-use Rattle.tonekit_expect.specs.declared.Listing.{Listing}
-use Rattle.tonekit_sheet.specs.Number.{noted}
-use Rattle.tonekit_sheet.specs.Sheet.{note_turn}
+use Rattle.spec_lookup.specs.Lookup.{Look}
+use Rattle.spec_lookup.specs.Source.{Carried, given}
+use Rattle.spec_lookup.specs.declared.Listing.{Listing}
+use Rattle.spec_sheet.specs.Number.{noted}
+use Rattle.spec_sheet.specs.Sheet.{note_turn}
 use Rattle.tonekit_sheet_plan.specs.declared.Plan.{Plan}
 use Rattle.tonekit_sheet_plan.specs.Rows.{pack_view}
 use Rattle.tonekit_sheet_plan.specs.Listings.{carried_by}

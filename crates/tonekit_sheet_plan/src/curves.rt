@@ -3,10 +3,10 @@ ghost use Rattle.std.specs.Prelude.{◌≡◌, ◌<◌, map, length};
 ghost use Rattle.std.specs.Float.{binary32};
 ghost use Rattle.std.specs.Float.Ieee.{to_bits};
 ghost use Rattle.tonekit_core.specs.Loop.{fold};
-ghost use Rattle.tonekit_expect.specs.Lookup.{component_of};
-ghost use Rattle.tonekit_expect.specs.Source.{carried};
+ghost use Rattle.spec_lookup.specs.Lookup.{component_of};
+ghost use Rattle.spec_lookup.specs.Source.{carried};
 ghost use Rattle.tonekit_sheet.specs.Marks.{mixed};
-ghost use Rattle.tonekit_sheet.specs.Number.{same_numbers, same_carried, same};
+ghost use Rattle.spec_sheet.specs.Number.{same_numbers, same_carried, same};
 ghost use Rattle.tonekit_sheet_plan.specs.Listings.{carried_by, record_of, Kept};
 ghost use Rattle.tonekit_sheet_plan.specs.Marks.{component_mark, mark_of};
 

@@ -5,9 +5,9 @@
 ghost use Rattle.std.specs.Prelude.{◌≡◌, ◌≤◌, ◌<◌, IfSome, length, [], ◌∷◌, ◌++◌};
 ghost use Rattle.std.proofs.Math.Option.{some};
 ghost use Rattle.tonekit_pack.specs.Held.{shown};
-ghost use Rattle.tonekit_expect.specs.Source.{given};
-ghost use Rattle.tonekit_sheet.specs.Number.{same, number_in};
-ghost use Rattle.tonekit_sheet.specs.Sheet.{lists_of};
+ghost use Rattle.spec_lookup.specs.Source.{given};
+ghost use Rattle.spec_sheet.specs.Number.{same, number_in};
+ghost use Rattle.spec_sheet.specs.Sheet.{lists_of};
 ghost use Rattle.tonekit_sheet_plan.specs.Rows.{pack_view};
 ghost use Rattle.tonekit_sheet_plan.specs.Listings.{carried_by, listing_from, Kept, LookKept};
 ghost use Rattle.tonekit_sheet_plan.specs.Entries.{entry_listing, list_at, Marked, Right, Sane, FirstPlace, Noted};

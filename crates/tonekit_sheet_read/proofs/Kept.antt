@@ -2,9 +2,9 @@
 use Rattle.std.proofs.Common.{ℕ, ◌+◌, ◌-◌, ◌*◌, ◌≤◌, ◌<◌, ◌≡◌, refl, List, [], ◌∷◌, ◌++◌, arith, length, get_or, length-append, ltb, ltb-true, ltb-false, Ok}
 use lib.ListN.{get_or-append}
 use lib.Seq.{get_or-append_seam}
-use Rattle.tonekit_bytes.specs.Fields.{byte_at}
+use Rattle.spec_arithmetic.specs.Fields.{byte_at}
 use Rattle.tonekit_core.proofs.Split.{split}
-use Rattle.tonekit_sheet.specs.Reader.{Sst, size_of, last_list, body_verdict, added, start}
+use Rattle.spec_sheet.specs.Reader.{Sst, size_of, last_list, body_verdict, added, start}
 use Rattle.tonekit_sheet.proofs.Every.{every_snoc}
 use Rattle.tonekit_sheet.proofs.Records.{Complete, rows_done, list_done, Due, settings, tone, accent, row, list, component, finish, tone_room, accent_room, list_room, list_some, component_room}
 use Rattle.tonekit_sheet_read.specs.Going.{Placed}

@@ -1,11 +1,11 @@
 -- The lists at a sheet's end: one that is there, two that differ, and a list's turn with its offset. Assumes nothing.
 use Rattle.std.proofs.Common.{ℕ, ◌+◌, ◌≤◌, ◌<◌, ◌≡◌, refl, sym, true, false, cond, not, ◌&&◌, List, arith, eqb, ne_eqb, length, get_or, take, length-take-le, get_or-take, Some}
 use Rattle.tonekit_core.specs.Loop.{next, stop, range}
-use Rattle.tonekit_bytes.specs.Fields.{byte_at}
-use Rattle.tonekit_pack.specs.Pack.{holds, zero_or_held}
+use Rattle.spec_arithmetic.specs.Fields.{byte_at}
+use Rattle.spec_pack.specs.Pack.{holds, zero_or_held}
 use Rattle.tonekit_pack.proofs.Numbers.{not_held}
 use Rattle.tonekit_core.proofs.Split.{split}
-use Rattle.tonekit_sheet.specs.Reader.{Sst, named, list_size, same_turn, same_lists, equal_turn, repeated, list_turn}
+use Rattle.spec_sheet.specs.Reader.{Sst, named, list_size, same_turn, same_lists, equal_turn, repeated, list_turn}
 use Rattle.tonekit_core.proofs.LoopLaws.{range_same}
 use Rattle.tonekit_sheet_read.proofs.Loops.{settled, range_parts}
 

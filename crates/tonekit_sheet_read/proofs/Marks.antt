@@ -5,10 +5,10 @@ use Rattle.tonekit_core.specs.Loop.{range}
 use Rattle.tonekit_core.proofs.LoopLaws.{range_same}
 use lib.ListN.{get_or-append}
 use lib.Seq.{get_or_at}
-use Rattle.tonekit_bytes.specs.Fields.{byte_at, u32_at}
+use Rattle.spec_arithmetic.specs.Fields.{byte_at, u32_at}
 use Rattle.tonekit_core.proofs.Split.{split, absurd_bool}
 use Rattle.tonekit_sheet.specs.Marks.{mixed}
-use Rattle.tonekit_sheet.specs.Reader.{list_size, same_lists}
+use Rattle.spec_sheet.specs.Reader.{list_size, same_lists}
 use Rattle.tonekit_sheet_read.specs.Marks.{mark_turn, mark_at, Marked}
 use Rattle.tonekit_sheet_read.proofs.Lists.{differ}
 

@@ -2,10 +2,10 @@
 use Rattle.std.proofs.Common.{ℕ, ◌+◌, ◌-◌, ◌*◌, ◌≤◌, ◌<◌, ◌≡◌, refl, List, arith, length, Result, length-append, leb, ltb, ne_eqb, leb-true, leb-false, Ok, Err}
 use Rattle.tonekit_core.specs.Loop.{loop_again, loop_stop}
 use Rattle.tonekit_core.specs.declared.Refusal.TheVariants.{CutShort}
-use Rattle.tonekit_bytes.specs.Fields.{byte_at}
+use Rattle.spec_arithmetic.specs.Fields.{byte_at}
 use Rattle.tonekit_core.proofs.Split.{split}
 use Rattle.tonekit_bytes.proofs.InOrder.{order_length}
-use Rattle.tonekit_sheet.specs.Reader.{Sst, refused, rows_due, size_of, added, finished, body_verdict, record_verdict, record_turn, start, read_sheet, load_sheet, check_sheet}
+use Rattle.spec_sheet.specs.Reader.{Sst, refused, rows_due, size_of, added, finished, body_verdict, record_verdict, record_turn, start, read_sheet, load_sheet, check_sheet}
 use Rattle.tonekit_sheet_read.specs.declared.Sheet.{Sheet}
 use Rattle.tonekit_sheet_read.specs.Held.{shown, answered, Follows}
 use Rattle.tonekit_sheet_read.specs.Going.{Placed, Going}

@@ -1,8 +1,8 @@
 -- What is due at a row's places. Assumes nothing.
 use Rattle.std.proofs.Common.{ℕ, zero, suc, ◌+◌, ◌-◌, ◌*◌, ◌/◌, ◌%◌, ◌≤◌, ◌<◌, ◌≡◌, ◌&&◌, List, arith, sub-one, eqb}
-use Rattle.tonekit_bytes.specs.Fields.{byte_at}
-use Rattle.tonekit_sheet.specs.Sheet.{row_count}
-use Rattle.tonekit_sheet.specs.Reader.{rows_due, row_at, prev_due, row_due}
+use Rattle.spec_arithmetic.specs.Fields.{byte_at}
+use Rattle.spec_sheet.specs.Sheet.{row_count}
+use Rattle.spec_sheet.specs.Reader.{rows_due, row_at, prev_due, row_due}
 use Rattle.tonekit_sheet_read.specs.declared.Sheet.{Sheet}
 use Rattle.tonekit_sheet_read.specs.Held.{shown}
 use Rattle.tonekit_bytes.proofs.Stepped.{stepped_length, stepped_get}

@@ -5,7 +5,7 @@ use Rattle.tonekit_core.specs.Loop.{loop_to, loop_stop}
 use Rattle.tonekit_core.specs.declared.Refusal.{Refusal}
 use Rattle.tonekit_core.specs.declared.Refusal.TheVariants.{CutShort}
 use Rattle.tonekit_pack.specs.Format.{judged}
-use Rattle.tonekit_sheet.specs.Reader.{Sst, refused, rows_due, due_next, size_of, body_verdict, record_verdict, record_turn, read_sheet}
+use Rattle.spec_sheet.specs.Reader.{Sst, refused, rows_due, due_next, size_of, body_verdict, record_verdict, record_turn, read_sheet}
 use Rattle.tonekit_sheet_read.specs.declared.Sheet.{Sheet}
 use Rattle.tonekit_sheet_read.specs.Held.{shown}
 

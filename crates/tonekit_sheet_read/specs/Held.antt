@@ -1,20 +1,21 @@
 -- What the reader's struct and answer stand for.
 use Rattle.std.specs.Prelude.{ℕ, ◌≤◌, ◌<◌, ◌≡◌, List, length, Result, Ok, Err}
 use Rattle.tonekit_core.specs.declared.Rejection.{Rejection}
-use Rattle.tonekit_core.specs.Layout.{settings_size, sheet_tone_kind, sheet_tone_size, sheet_accent_kind, sheet_accent_size, sheet_row_kind}
-use Rattle.tonekit_core.specs.Layout.{sheet_list_kind, sheet_component_kind, sheet_tone_at, sheet_accent_at}
-use Rattle.tonekit_bytes.specs.Places.{in_order, stepped}
+use Rattle.tonekit_core.specs.declared.layout.TheConstants.{SETTINGS_SIZE, SHEET_TONE_KIND, SHEET_TONE_SIZE, SHEET_ACCENT_KIND, SHEET_ACCENT_SIZE, SHEET_ROW_KIND}
+use Rattle.tonekit_core.specs.declared.layout.TheConstants.{SHEET_LIST_KIND, SHEET_COMPONENT_KIND}
+use Rattle.tonekit_core.specs.Layout.{sheet_tone_at, sheet_accent_at}
+use Rattle.spec_arithmetic.specs.Places.{in_order, stepped}
 use Rattle.tonekit_pack.specs.declared.Loaded.{Loaded}
 use Rattle.tonekit_sheet_read.specs.declared.Sheet.{Sheet}
 use Rattle.tonekit_sheet.specs.Kinds.{last_of}
-use Rattle.tonekit_sheet.specs.Reader.{Sst, Out, loaded, refused, read_sheet}
+use Rattle.spec_sheet.specs.Reader.{Sst, Out, loaded, refused, read_sheet}
 
 -- tones and accents stand one behind the other, after the settings
 abbrev pub shown : Sheet → Sst
 shown p = record {
   last = last_of p.last;
-  tones = stepped settings_size sheet_tone_size p.tones;
-  accents = stepped (sheet_tone_at p.tones) sheet_accent_size p.accents;
+  tones = stepped SETTINGS_SIZE SHEET_TONE_SIZE p.tones;
+  accents = stepped (sheet_tone_at p.tones) SHEET_ACCENT_SIZE p.accents;
   rows = p.rows;
   lists = in_order p.lists.at p.lists.count;
   due = p.due;
@@ -42,8 +43,8 @@ pub record ReadFrom (s : List ℕ) (p : Sheet) : Type 0 where
 
 -- the record of kind k at o, a list of so many components, may follow what was read: it stands where it is shown to, and there is room for it
 pub record Follows (k o count : ℕ) (p : Sheet) : Type 0 where
-  pub tone : k ≡ sheet_tone_kind → (o ≡ sheet_tone_at p.tones) × (p.tones < 8) × (p.accents ≡ 0)
-  pub accent : k ≡ sheet_accent_kind → (o ≡ sheet_accent_at p.tones p.accents) × (p.accents < 8)
-  pub row : k ≡ sheet_row_kind → p.rows < 576
-  pub list : k ≡ sheet_list_kind → (o < 65536) × (p.lists.count < 128) × (count ≤ 4)
-  pub component : k ≡ sheet_component_kind → (1 ≤ p.due) × (p.total < 192)
+  pub tone : k ≡ SHEET_TONE_KIND → (o ≡ sheet_tone_at p.tones) × (p.tones < 8) × (p.accents ≡ 0)
+  pub accent : k ≡ SHEET_ACCENT_KIND → (o ≡ sheet_accent_at p.tones p.accents) × (p.accents < 8)
+  pub row : k ≡ SHEET_ROW_KIND → p.rows < 576
+  pub list : k ≡ SHEET_LIST_KIND → (o < 65536) × (p.lists.count < 128) × (count ≤ 4)
+  pub component : k ≡ SHEET_COMPONENT_KIND → (1 ≤ p.due) × (p.total < 192)

@@ -1,8 +1,8 @@
 // A sheet as a file of records, and the calls that read one.
 ghost use Rattle.std.specs.Prelude.{◌≡◌, ◌≤◌, eqb};
-ghost use Rattle.tonekit_core.specs.Layout.{sheet_end_kind};
+ghost use Rattle.tonekit_core.specs.declared.layout.TheConstants.{SHEET_END_KIND};
 ghost use Rattle.tonekit_sheet.specs.Kinds.{number};
-ghost use Rattle.tonekit_sheet.specs.Reader.{rows_due, due_next, size_of, body_verdict, record_verdict, finished, read_sheet, load_sheet, check_sheet};
+ghost use Rattle.spec_sheet.specs.Reader.{rows_due, due_next, size_of, body_verdict, record_verdict, finished, read_sheet, load_sheet, check_sheet};
 ghost use Rattle.tonekit_sheet_read.specs.Held.{shown, answered};
 ghost use Rattle.tonekit_sheet_read.specs.Going.{Going, judges, refuses};
 
@@ -16,7 +16,7 @@ use tonekit_sheet::Kind;
 impl SheetView<'_> {
     // What is judged once the end is read, which stands before `end`: a row that names a list that is
     // not there, then what is out of order. All rows are there.
-    #[tactic(auto, unfolding(tonekit_sheet::specs::Reader::finished))]
+    #[tactic(auto, unfolding(spec_sheet::specs::Reader::finished))]
     fn judged(&self, end: usize) -> Result<Loaded<Sheet>, Rejection>
         requires { self.now.sheet.rows ≤ rows_due (shown self.now.sheet) }
         ensures { answered result ≡ finished self.now.bytes.now (shown self.now.sheet) end }
@@ -45,7 +45,7 @@ impl Format for Sheet {
 
     ghost number = { number };
 
-    ghost last = { λ n. eqb n sheet_end_kind };
+    ghost last = { λ n. eqb n SHEET_END_KIND };
 
     ghost due = { λ p n. due_next (shown p) n };
 
@@ -116,7 +116,7 @@ pub fn read_sheet(sheet: &[u8]) -> Result<Loaded<Sheet>, Rejection>
 
 // Reads an input that is one sheet: what read_sheet answers, and Overrun at the first byte behind it.
 // Stays: the name by which the inventory and sheet_text call `format::load`, with the definition `load_sheet` as its contract.
-#[tactic(auto, using(crate::proofs::Reading::alone_is), unfolding(tonekit_sheet::specs::Reader::load_sheet))]
+#[tactic(auto, using(crate::proofs::Reading::alone_is), unfolding(spec_sheet::specs::Reader::load_sheet))]
 pub fn load_sheet(sheet: &[u8]) -> Result<Loaded<Sheet>, Rejection>
     ensures { answered result ≡ load_sheet sheet.now }
 {
@@ -125,7 +125,7 @@ pub fn load_sheet(sheet: &[u8]) -> Result<Loaded<Sheet>, Rejection>
 
 // Whether an input loads as one sheet, or its refusal and place.
 // Stays: the name by which the C interface and the programs call `format::check`, with the definition `check_sheet` as its contract.
-#[tactic(auto, using(crate::proofs::Reading::told_is), unfolding(tonekit_sheet::specs::Reader::check_sheet))]
+#[tactic(auto, using(crate::proofs::Reading::told_is), unfolding(spec_sheet::specs::Reader::check_sheet))]
 pub fn check_sheet(sheet: &[u8]) -> Result<(), Rejection>
     ensures { result ≡ check_sheet sheet.now }
 {

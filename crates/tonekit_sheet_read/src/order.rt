@@ -1,8 +1,8 @@
 // What is judged at a sheet's end: list references (7), then the order (8).
 ghost use Rattle.std.specs.Prelude.{◌≡◌, ◌+◌, ◌<◌, ◌≤◌, false, length, is_some, IfSome};
 ghost use Rattle.tonekit_core.specs.Loop.{range};
-ghost use Rattle.tonekit_pack.specs.Pack.{zero_or_held};
-ghost use Rattle.tonekit_sheet.specs.Reader.{rows_due, row_at, loose_row, accent_down, prev_due, row_due, row_names, row_wrong, names_turn, named, same_lists, repeated, list_wrong};
+ghost use Rattle.spec_pack.specs.Pack.{zero_or_held};
+ghost use Rattle.spec_sheet.specs.Reader.{rows_due, row_at, loose_row, accent_down, prev_due, row_due, row_names, row_wrong, names_turn, named, same_lists, repeated, list_wrong};
 ghost use Rattle.tonekit_sheet_read.specs.Held.{shown};
 ghost use Rattle.tonekit_sheet_read.specs.Marks.{mark_at, Marked};
 
@@ -31,7 +31,7 @@ fn mark_at(s: &[u8], o: usize) -> u32
 
 // Whether the lists at two offsets are equal but for their numbers.
 // Stays: a byte behind the input reads as 0 on both sides; two slices with == would first have to be cut to the input, each by its own length.
-#[tactic(auto, using(tonekit_core::specs::Loop::again, tonekit_core::specs::Loop::ended, crate::proofs::Loops::settled), unfolding(tonekit_sheet::specs::Reader::same_lists))]
+#[tactic(auto, using(tonekit_core::specs::Loop::again, tonekit_core::specs::Loop::ended, crate::proofs::Loops::settled), unfolding(spec_sheet::specs::Reader::same_lists))]
 fn same_lists(s: &[u8], a: usize, b: usize) -> bool
     ensures { result ≡ same_lists s.now a b }
 {
@@ -47,7 +47,7 @@ fn same_lists(s: &[u8], a: usize, b: usize) -> bool
 
 // Whether one of the lists at these offsets, which have these marks, is equal to the one at o, which
 // has this mark. Lists of different marks are not compared.
-#[tactic(auto, using(tonekit_core::specs::Loop::again, tonekit_core::specs::Loop::ended, crate::proofs::Marks::marked_apart), unfolding(tonekit_sheet::specs::Reader::repeated))]
+#[tactic(auto, using(tonekit_core::specs::Loop::again, tonekit_core::specs::Loop::ended, crate::proofs::Marks::marked_apart), unfolding(spec_sheet::specs::Reader::repeated))]
 fn repeated(s: &[u8], lists: &[u16], marks: &[u32], o: usize, mark: u32) -> bool
     requires { (length lists.now ≡ length marks.now)
         × Marked s.now lists.now marks.now (length marks.now)
@@ -78,7 +78,7 @@ impl Sheet {
 impl SheetView<'_> {
     // Whether x is 0, or the number of one of the lists: in a sheet in order, of list x.
     // Stays: beside tonekit_pack's `zero_or_held`, since it looks first where list x stands in a sheet in order; a pack's records have no such place.
-    #[tactic(auto, using(crate::proofs::Lists::there, tonekit_pack::proofs::Numbers::holds_found), unfolding(tonekit_pack::specs::Pack::zero_or_held))]
+    #[tactic(auto, using(crate::proofs::Lists::there, tonekit_pack::proofs::Numbers::holds_found), unfolding(spec_pack::specs::Pack::zero_or_held))]
     fn list_there(&self, x: u8) -> bool
         ensures { result ≡ zero_or_held self.now.bytes.now (shown self.now.sheet).lists x }
     {
@@ -96,7 +96,7 @@ impl SheetView<'_> {
     }
 
     // The first row that names a list that is not there.
-    #[tactic(auto, using(tonekit_core::specs::Loop::to_again, tonekit_core::specs::Loop::to_ended), unfolding(tonekit_sheet::specs::Reader::loose_row))]
+    #[tactic(auto, using(tonekit_core::specs::Loop::to_again, tonekit_core::specs::Loop::to_ended), unfolding(spec_sheet::specs::Reader::loose_row))]
     pub fn loose_row(&self) -> Option<usize>
         ensures { result ≡ loose_row self.now.bytes.now (shown self.now.sheet) }
     {
@@ -112,7 +112,7 @@ impl SheetView<'_> {
     }
 
     // The first accent whose number is not above that of the one before it.
-    #[tactic(auto, using(tonekit_core::specs::Loop::to_again, tonekit_core::specs::Loop::to_ended, tonekit_bytes::proofs::Stepped::stepped_length, tonekit_bytes::proofs::Stepped::stepped_get), unfolding(tonekit_sheet::specs::Reader::accent_down))]
+    #[tactic(auto, using(tonekit_core::specs::Loop::to_again, tonekit_core::specs::Loop::to_ended, tonekit_bytes::proofs::Stepped::stepped_length, tonekit_bytes::proofs::Stepped::stepped_get), unfolding(spec_sheet::specs::Reader::accent_down))]
     pub fn accent_down(&self) -> Option<usize>
         ensures { result ≡ accent_down self.now.bytes.now (shown self.now.sheet) }
     {
@@ -165,7 +165,7 @@ impl SheetView<'_> {
     }
 
     // Whether row r names no list above 1 more than the greatest before it.
-    #[tactic(auto, unfolding(tonekit_sheet::specs::Reader::row_names))]
+    #[tactic(auto, unfolding(spec_sheet::specs::Reader::row_names))]
     fn row_names(&self, r: usize, m: u8) -> bool
         requires { r ≤ 576 }
         ensures { result ≡ row_names self.now.bytes.now (shown self.now.sheet) r m }
@@ -177,7 +177,7 @@ impl SheetView<'_> {
     }
 
     // The first row that is not the one due, or names a list out of order. All rows are there.
-    #[tactic(auto, using(tonekit_core::specs::Loop::to_again, tonekit_core::specs::Loop::to_ended), unfolding(tonekit_sheet::specs::Reader::row_wrong))]
+    #[tactic(auto, using(tonekit_core::specs::Loop::to_again, tonekit_core::specs::Loop::to_ended), unfolding(spec_sheet::specs::Reader::row_wrong))]
     pub fn row_wrong(&self) -> Option<usize>
         requires { self.now.sheet.rows ≤ rows_due (shown self.now.sheet) }
         ensures { result ≡ row_wrong self.now.bytes.now (shown self.now.sheet) }
@@ -215,7 +215,7 @@ impl SheetView<'_> {
 
     // A row that names list n: the first from a row on, else the first of all. Lists are numbered by
     // first use, so list n is first named at or behind list n - 1.
-    #[tactic(auto, using(crate::proofs::Loops::found_before), unfolding(tonekit_sheet::specs::Reader::named))]
+    #[tactic(auto, using(crate::proofs::Loops::found_before), unfolding(spec_sheet::specs::Reader::named))]
     fn use_of(&self, n: usize, from: usize) -> Option<usize>
         requires { from ≤ self.now.sheet.rows }
         ensures { IfSome result (λ r. r < self.now.sheet.rows)

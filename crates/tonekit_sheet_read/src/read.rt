@@ -1,10 +1,10 @@
 // What is said of one record of a sheet, and what is kept of it.
 ghost use Rattle.std.specs.Prelude.{◌≡◌, ◌+◌, ◌≤◌, length, replicate};
-ghost use Rattle.tonekit_core.specs.Layout.{sheet_tone_size, sheet_accent_size, sheet_component_size};
-ghost use Rattle.tonekit_bytes.specs.Places.{index_of};
-ghost use Rattle.tonekit_pack.specs.Pack.{holds};
+ghost use Rattle.tonekit_core.specs.declared.layout.TheConstants.{SHEET_TONE_SIZE, SHEET_ACCENT_SIZE, SHEET_COMPONENT_SIZE};
+ghost use Rattle.spec_arithmetic.specs.Places.{index_of};
+ghost use Rattle.spec_pack.specs.Pack.{holds};
 ghost use Rattle.tonekit_sheet.specs.Kinds.{number};
-ghost use Rattle.tonekit_sheet.specs.Reader.{rows_due, complete, due_next, size_of, tone_verdict, accent_verdict, row_verdict, list_verdict, points_fine, component_verdict, body_verdict, added, start};
+ghost use Rattle.spec_sheet.specs.Reader.{rows_due, complete, due_next, size_of, tone_verdict, accent_verdict, row_verdict, list_verdict, points_fine, component_verdict, body_verdict, added, start};
 ghost use Rattle.tonekit_sheet_read.specs.Held.{shown, Follows};
 
 use crate::{Sheet, SheetView};
@@ -16,7 +16,7 @@ use tonekit_pack::read::{in_turn, settings_verdict};
 use tonekit_sheet::{Kind, row_count};
 
 // Ten points from an offset on, each of size at most 128.
-#[tactic(auto, using(tonekit_core::specs::Loop::again, tonekit_core::specs::Loop::ended, crate::proofs::Bounds::point_within), unfolding(tonekit_sheet::specs::Reader::points_fine))]
+#[tactic(auto, using(tonekit_core::specs::Loop::again, tonekit_core::specs::Loop::ended, crate::proofs::Bounds::point_within), unfolding(spec_sheet::specs::Reader::points_fine))]
 fn points_fine(s: &[u8], o: usize) -> bool
     ensures { result ≡ points_fine s.now o }
 {
@@ -29,7 +29,7 @@ fn points_fine(s: &[u8], o: usize) -> bool
 
 impl Sheet {
     // Before the first record.
-    #[tactic(auto, unfolding(tonekit_bytes::specs::Places::in_order, tonekit_bytes::specs::Places::stepped))]
+    #[tactic(auto, unfolding(spec_arithmetic::specs::Places::in_order, spec_arithmetic::specs::Places::stepped))]
     pub fn nothing() -> Sheet
         ensures read { shown result ≡ start.st }
         ensures lists { result.lists.at ≡ replicate 128 0 }
@@ -54,7 +54,7 @@ impl Sheet {
     }
 
     // Whether all rows are there, and all components of the last list.
-    #[tactic(auto, unfolding(tonekit_sheet::specs::Reader::complete))]
+    #[tactic(auto, unfolding(spec_sheet::specs::Reader::complete))]
     fn complete(&self) -> bool
         ensures { result ≡ complete (shown self.now) }
     {
@@ -66,7 +66,7 @@ impl Sheet {
     }
 
     // Whether a record of this kind may stand next.
-    #[tactic(auto, unfolding(tonekit_sheet::specs::Reader::due_next))]
+    #[tactic(auto, unfolding(spec_sheet::specs::Reader::due_next))]
     pub fn due_next(&self, k: Kind) -> bool
         ensures { result ≡ due_next (shown self.now) (number k) }
     {
@@ -83,7 +83,7 @@ impl Sheet {
     }
 
     // Keeps the record of this kind at o, a list of so many components, once it is fine.
-    #[tactic(auto, using(tonekit_bytes::proofs::Stepped::stepped_more, tonekit_bytes::proofs::Stepped::stepped_none), unfolding(tonekit_sheet::specs::Reader::added))]
+    #[tactic(auto, using(tonekit_bytes::proofs::Stepped::stepped_more, tonekit_bytes::proofs::Stepped::stepped_none), unfolding(spec_sheet::specs::Reader::added))]
     pub fn keep(&mut self, k: Kind, o: usize, count: u8)
         requires { Follows (number k) o count self.old }
         ensures { shown self.new ≡ added (number k) o count (shown self.old) }
@@ -151,9 +151,9 @@ impl SheetView<'_> {
 
     // What is said of a record of each kind that is due and whole, here and below. A tone: number, prior, region.
     // Stays: beside tonekit_pack's, which tests knots too; one for both would take the places of all fields as arguments.
-    #[tactic(auto, using(tonekit_bytes::proofs::Stepped::stepped_length), unfolding(tonekit_sheet::specs::Reader::tone_verdict))]
+    #[tactic(auto, using(tonekit_bytes::proofs::Stepped::stepped_length), unfolding(spec_sheet::specs::Reader::tone_verdict))]
     fn tone_verdict(&self, o: usize) -> Result<(), Refusal>
-        requires { o + sheet_tone_size ≤ length self.now.bytes.now }
+        requires { o + SHEET_TONE_SIZE ≤ length self.now.bytes.now }
         ensures { result ≡ tone_verdict self.now.bytes.now o (shown self.now.sheet) }
     {
         let number = byte_at(self.bytes, o, layout::OWN_NUMBER);
@@ -166,9 +166,9 @@ impl SheetView<'_> {
 
     // An accent: number, tolerances. Its order waits for the end.
     // Stays: beside tonekit_pack's, which tests a parent too; one for both would take the places of all fields as arguments.
-    #[tactic(auto, using(tonekit_bytes::proofs::Stepped::stepped_length), unfolding(tonekit_sheet::specs::Reader::accent_verdict))]
+    #[tactic(auto, using(tonekit_bytes::proofs::Stepped::stepped_length), unfolding(spec_sheet::specs::Reader::accent_verdict))]
     fn accent_verdict(&self, o: usize) -> Result<(), Refusal>
-        requires { o + sheet_accent_size ≤ length self.now.bytes.now }
+        requires { o + SHEET_ACCENT_SIZE ≤ length self.now.bytes.now }
         ensures { result ≡ accent_verdict self.now.bytes.now o (shown self.now.sheet) }
     {
         let number = byte_at(self.bytes, o, layout::OWN_NUMBER);
@@ -179,7 +179,7 @@ impl SheetView<'_> {
     }
 
     // A row: its accent, its tone and what stood before are held. Its order and its lists wait for the end.
-    #[tactic(auto, unfolding(tonekit_sheet::specs::Reader::row_verdict, tonekit_pack::specs::Pack::zero_or_held))]
+    #[tactic(auto, unfolding(spec_sheet::specs::Reader::row_verdict, spec_pack::specs::Pack::zero_or_held))]
     fn row_verdict(&self, o: usize) -> Result<(), Refusal>
         ensures { result ≡ row_verdict self.now.bytes.now o (shown self.now.sheet) }
     {
@@ -193,7 +193,7 @@ impl SheetView<'_> {
     }
 
     // A list: count, number, owner, form, label.
-    #[tactic(auto, unfolding(tonekit_sheet::specs::Reader::list_verdict))]
+    #[tactic(auto, unfolding(spec_sheet::specs::Reader::list_verdict))]
     fn list_verdict(&self, o: usize) -> Result<(), Refusal>
         ensures { result ≡ list_verdict self.now.bytes.now o (shown self.now.sheet) }
     {
@@ -211,9 +211,9 @@ impl SheetView<'_> {
     }
 
     // A component: weight and points.
-    #[tactic(auto, unfolding(tonekit_sheet::specs::Reader::component_verdict))]
+    #[tactic(auto, unfolding(spec_sheet::specs::Reader::component_verdict))]
     fn component_verdict(&self, o: usize) -> Result<(), Refusal>
-        requires { o + sheet_component_size ≤ length self.now.bytes.now }
+        requires { o + SHEET_COMPONENT_SIZE ≤ length self.now.bytes.now }
         ensures { result ≡ component_verdict self.now.bytes.now o (shown self.now.sheet) }
     {
         let weight = u32_at(self.bytes, o, layout::SHEET_COMPONENT_WEIGHT);
@@ -226,7 +226,7 @@ impl SheetView<'_> {
 
     // What is said of a record of this kind; the end has nothing to be wrong.
     // Stays: beside the `tests` of tonekit_pack's `Format for Pack`; each names the tests of its own kinds, which is all that it says.
-    #[tactic(auto, unfolding(tonekit_sheet::specs::Reader::body_verdict, tonekit_sheet::specs::Reader::size_of))]
+    #[tactic(auto, unfolding(spec_sheet::specs::Reader::body_verdict, spec_sheet::specs::Reader::size_of))]
     pub fn body_verdict(&self, k: Kind, o: usize) -> Result<(), Refusal>
         requires { o + size_of (number k) ≤ length self.now.bytes.now }
         ensures { result ≡ body_verdict (number k) self.now.bytes.now o (shown self.now.sheet) }

@@ -4,15 +4,15 @@ use Rattle.std.specs.Prelude.{Result, Ok, Err}
 use Rattle.tonekit_core.specs.declared.Rejection.{Rejection}
 use Rattle.tonekit_core.specs.Calls.{written}
 use Rattle.tonekit_core.specs.Calls as calls
-use Rattle.tonekit_pack.specs.Pack.{load_pack}
+use Rattle.spec_pack.specs.Pack.{load_pack}
 use Rattle.tonekit_pack.specs.Held.{shown, answered}
 use Rattle.tonekit_pack.specs.declared.Loaded.{Loaded}
 use Rattle.tonekit_pack.specs.declared.Pack.{Pack}
 use Rattle.tonekit_pack.proofs.Single.{loads_alone}
-use Rattle.tonekit_expect.specs.Source.{source_of_pack}
-use Rattle.tonekit_sheet.specs.Sheet.{sheet}
+use Rattle.spec_lookup.specs.Source.{source_of_pack}
+use Rattle.spec_sheet.specs.Sheet.{sheet}
 use Rattle.tonekit_sheet_plan.specs.Rows.{Reads}
-use Rattle.tonekit_sheet_write.specs.Outcome.{sheet_outcome}
+use Rattle.spec_sheet.specs.Outcome.{sheet_outcome}
 
 module _ (s : List ℕ) (r : Result (Loaded Pack) Rejection) (h : answered r ≡ load_pack s) where
   module _ (l : Loaded Pack) (g : r ≡ Ok l) where

@@ -3,20 +3,20 @@ use Rattle.std.proofs.Common.{ℕ, zero, suc, ◌+◌, ◌-◌, ◌*◌, ◌≤�
 use lib.Ieee.{binary32}
 use lib.ListN.{length-map}
 use lib.Seq.{sets, length-sets}
-use Rattle.tonekit_core.specs.Layout.{sheet_list_kind, sheet_list_size, sheet_component_size}
-use Rattle.tonekit_bytes.specs.Fields.{le16, f32_bytes, f32s_bytes}
+use Rattle.tonekit_core.specs.declared.layout.TheConstants.{SHEET_LIST_KIND, SHEET_LIST_SIZE, SHEET_COMPONENT_SIZE}
+use Rattle.spec_arithmetic.specs.Fields.{le16, f32_bytes, f32s_bytes}
 use Rattle.tonekit_bytes.proofs.Write.{part_put}
 use Rattle.tonekit_pack.specs.Held.{shown}
 use Rattle.tonekit_pack.specs.declared.Pack.{Pack}
-use Rattle.tonekit_expect.specs.Lookup.{Look, component_of}
-use Rattle.tonekit_expect.specs.Source.{Tone, Accent, Carried, carried, components, given}
-use Rattle.tonekit_expect.specs.declared.Component.{Component}
-use Rattle.tonekit_expect.specs.declared.Context.{Context}
-use Rattle.tonekit_expect.specs.declared.Listing.{Listing}
+use Rattle.spec_lookup.specs.Lookup.{Look, component_of}
+use Rattle.spec_lookup.specs.Source.{Tone, Accent, Carried, carried, components, given}
+use Rattle.spec_lookup.specs.declared.Component.{Component}
+use Rattle.spec_lookup.specs.declared.Context.{Context}
+use Rattle.spec_lookup.specs.declared.Listing.{Listing}
 use Rattle.tonekit_expect.proofs.Carried.{named, components_length, components_at}
-use Rattle.tonekit_sheet.specs.Gather.{pieces, gather, gather_length, Wrote}
-use Rattle.tonekit_sheet.specs.Number.{number_in}
-use Rattle.tonekit_sheet.specs.Sheet.{no_carried, row_bytes, row_context, bits_bytes, component_bytes, components_bytes, list_bytes, row_piece}
+use Rattle.spec_sheet.specs.Pieces.{pieces, gather, gather_length, Wrote}
+use Rattle.spec_sheet.specs.Number.{number_in}
+use Rattle.spec_sheet.specs.Sheet.{no_carried, row_bytes, row_context, bits_bytes, component_bytes, components_bytes, list_bytes, row_piece}
 use Rattle.tonekit_sheet_plan.specs.declared.Entry.{Entry}
 use Rattle.tonekit_sheet_plan.specs.Rows.{pack_view, tones_of, accents_at, Ordered}
 use Rattle.tonekit_sheet_plan.specs.Listings.{carried_by, Kept}
@@ -67,18 +67,18 @@ module _ (s : List ℕ) (l : Listing) where
   unfolding carried
   ten j = length-map (component_of s l j).points (to_bits binary32) ∙ points_ten s l j refl
 
-  pub component_length : (j : ℕ) → length (component_piece s l j) ≡ sheet_component_size
+  pub component_length : (j : ℕ) → length (component_piece s l j) ≡ SHEET_COMPONENT_SIZE
   component_length j = omega (arith, bits_length (carried (component_of s l j)).points, ten j)
 
   -- of a component that was read
   pub component_is : {c : Component} (j : ℕ) → c ≡ component_of s l j → component_bytes (carried c) ≡ component_piece s l j
   component_is j e = ap (λ (c : Component). component_bytes (carried c)) e
 
-  pub component_size : {c : Component} (j : ℕ) → c ≡ component_of s l j → length (component_bytes (carried c)) ≡ sheet_component_size
+  pub component_size : {c : Component} (j : ℕ) → c ≡ component_of s l j → length (component_bytes (carried c)) ≡ SHEET_COMPONENT_SIZE
   component_size j e = ap length (component_is j e) ∙ component_length j
 
-  pub components_size : length (components_part s l) ≡ sheet_component_size * l.count
-  components_size = let q : l.count - 0 ≡ l.count = omega arith in rw q at (gather_length (component_piece s l) sheet_component_size component_length 0 l.count)
+  pub components_size : length (components_part s l) ≡ SHEET_COMPONENT_SIZE * l.count
+  components_size = let q : l.count - 0 ≡ l.count = omega arith in rw q at (gather_length (component_piece s l) SHEET_COMPONENT_SIZE component_length 0 l.count)
 
 -- pieces from the front, and one more behind them
 module _ (f : ℕ → List ℕ) where
@@ -109,7 +109,7 @@ unfolding gather
 components_gather s l = components_pieces s l l.count ∙ (let q : l.count - 0 ≡ l.count = omega arith in rw q)
 
 -- ---- lists
-head_is : (s : List ℕ) (l : Listing) (n : ℕ) → Kept s l → (sheet_list_kind ∷ n ∷ (get_or (carried_by s l) 0 no_carried).owner ∷ (get_or (carried_by s l) 0 no_carried).form ∷ []) ++ (le16 (get_or (carried_by s l) 0 no_carried).label ++ (length (carried_by s l) ∷ [])) ≡ head_of n l
+head_is : (s : List ℕ) (l : Listing) (n : ℕ) → Kept s l → (SHEET_LIST_KIND ∷ n ∷ (get_or (carried_by s l) 0 no_carried).owner ∷ (get_or (carried_by s l) 0 no_carried).form ∷ []) ++ (le16 (get_or (carried_by s l) 0 no_carried).label ++ (length (carried_by s l) ∷ [])) ≡ head_of n l
 head_is s l n k =
     rw (components_at s l no_carried l.count 0 k.some, (named s l 0).owner, (named s l 0).form, (named s l 0).label, components_length s l l.count)
 
@@ -120,7 +120,7 @@ module _ (s : List ℕ) (lists : List Entry) (i : ℕ) (h : i < length lists) {l
       sym (ap (list_bytes (i + 1)) (planned_get s lists i h ∙ ap (carried_by s) (sym e))
       ∙ ap₂ (λ (a b : List ℕ). a ++ b) (head_is s l (i + 1) k) (components_gather s l))
 
-  pub list_size_lem : sheet_list_size + sheet_component_size * l.count ≡ length (planned_list (planned s lists) i)
+  pub list_size_lem : SHEET_LIST_SIZE + SHEET_COMPONENT_SIZE * l.count ≡ length (planned_list (planned s lists) i)
   list_size_lem = omega (arith, ap length list_is, length-append (head_of (i + 1) l) (components_part s l), components_size s l)
 
   pub list_room : (at m : ℕ) → at + length (planned_list (planned s lists) i) ≤ m → at + length (head_of (i + 1) l ++ components_part s l) ≤ m

@@ -1,12 +1,13 @@
 -- The whole sheet of a pack: its parts one behind the other, its length, and what the writer answers. Assumes nothing.
 use Rattle.std.proofs.Common.{ℕ, ◌+◌, ◌-◌, ◌*◌, ◌≤◌, ◌<◌, ◌≡◌, refl, ◌∙◌, ap, ap₂, List, [], ◌∷◌, ◌++◌, arith, length, get_or, length-append}
-use Rattle.tonekit_core.specs.Layout.{sheet_tone_size, sheet_accent_size, sheet_row_size, sheet_end_kind, sheet_end_size, sheet_row_at}
+use Rattle.tonekit_core.specs.declared.layout.TheConstants.{SHEET_TONE_SIZE, SHEET_ACCENT_SIZE, SHEET_ROW_SIZE, SHEET_END_KIND, SHEET_END_SIZE}
+use Rattle.tonekit_core.specs.Layout.{sheet_row_at}
 use Rattle.tonekit_bytes.proofs.InOrder.{order_length}
 use Rattle.tonekit_pack.specs.Held.{shown}
 use Rattle.tonekit_pack.specs.declared.Pack.{Pack}
-use Rattle.tonekit_expect.specs.Source.{Carried, tone_at, accent_at, settings_at, source_of_pack}
-use Rattle.tonekit_sheet.specs.Gather.{gather, gather_length, gather_more, gather_none, Wrote, joined, room_first, room_then}
-use Rattle.tonekit_sheet.specs.Sheet.{view_of, no_tone, no_accent, settings_bytes, tone_bytes, accent_bytes, row_piece, row_count, rows_of, lists_of, bytes_with, bytes_of, sheet}
+use Rattle.spec_lookup.specs.Source.{Carried, tone_at, accent_at, settings_at, source_of_pack}
+use Rattle.spec_sheet.specs.Pieces.{gather, gather_length, gather_more, gather_none, Wrote, joined, room_first, room_then}
+use Rattle.spec_sheet.specs.Sheet.{view_of, no_tone, no_accent, settings_bytes, tone_bytes, accent_bytes, row_piece, row_count, rows_of, lists_of, bytes_with, bytes_of, sheet}
 use Rattle.tonekit_sheet_plan.specs.Rows.{pack_view, Ordered}
 use Rattle.tonekit_sheet_plan.proofs.Views.{view_tones, view_sorted, view_rows}
 use Rattle.tonekit_sheet_write.specs.Pieces.{settings_made, tone_made, accent_made, records_part, planned_list, lists_part}
@@ -30,7 +31,7 @@ module _ (s : List ℕ) (p : Pack) (os : List ℕ) (n : ℕ) (its : List (List C
   E = lists_part its
 
   abbrev pub F : List ℕ
-  F = sheet_end_kind ∷ []
+  F = SHEET_END_KIND ∷ []
 
   abbrev pub Whole : List ℕ
   Whole = bytes_with (pack_view s (shown p)) its
@@ -53,12 +54,12 @@ module _ (s : List ℕ) (p : Pack) (os : List ℕ) (n : ℕ) (its : List (List C
         (ap (λ (d : ℕ). gather (row_piece v its) 0 d ++ (E ++ F)) rows_are)))
 
     -- what stands before a row past the last, the lists, and the end
-    pub sheet_length : (r o z : ℕ) → r ≡ row_count n p.tones.count → o ≡ sheet_row_at p.tones.count n r → z ≡ length E → o + z + sheet_end_size ≡ length Whole
+    pub sheet_length : (r o z : ℕ) → r ≡ row_count n p.tones.count → o ≡ sheet_row_at p.tones.count n r → z ≡ length E → o + z + SHEET_END_SIZE ≡ length Whole
     sheet_length r o z h at k =
         let t = order_length p.tones.at p.tones.count in
-        let b : length B ≡ sheet_tone_size * (length (shown p).tones - 0) = gather_length (λ i. tone_made s (get_or (shown p).tones i 0)) sheet_tone_size (λ i. refl) 0 (length (shown p).tones) in
-        let c : length C ≡ sheet_accent_size * (length os - 0) = gather_length (λ i. accent_made s (get_or os i 0)) sheet_accent_size (λ i. refl) 0 (length os) in
-        let d : length D ≡ sheet_row_size * (row_count n p.tones.count - 0) = gather_length (row_piece (pack_view s (shown p)) its) sheet_row_size (λ i. refl) 0 (row_count n p.tones.count) in
+        let b : length B ≡ SHEET_TONE_SIZE * (length (shown p).tones - 0) = gather_length (λ i. tone_made s (get_or (shown p).tones i 0)) SHEET_TONE_SIZE (λ i. refl) 0 (length (shown p).tones) in
+        let c : length C ≡ SHEET_ACCENT_SIZE * (length os - 0) = gather_length (λ i. accent_made s (get_or os i 0)) SHEET_ACCENT_SIZE (λ i. refl) 0 (length os) in
+        let d : length D ≡ SHEET_ROW_SIZE * (row_count n p.tones.count - 0) = gather_length (row_piece (pack_view s (shown p)) its) SHEET_ROW_SIZE (λ i. refl) 0 (row_count n p.tones.count) in
         omega
         (arith, e, t, ap length parts, length-append A (B ++ (C ++ (D ++ (E ++ F)))), length-append B (C ++ (D ++ (E ++ F))), length-append C (D ++ (E ++ F)), length-append D (E ++ F), length-append E F)
 
@@ -99,7 +100,7 @@ module _ (s : List ℕ) (p : Pack) (os : List ℕ) (n : ℕ) (its : List (List C
               fifth = room_first E F r₄ (length o₄) room₄
 
               module _ {o₅ : List ℕ} {r₅ : ℕ} (w₅ : Wrote E r₄ o₄ o₅ r₅) where
-                pub last : r₅ + sheet_end_size ≤ length o₅
+                pub last : r₅ + SHEET_END_SIZE ≤ length o₅
                 last = room_then F w₅ room₄
 
                 pub all_written : {o₆ : List ℕ} {r₆ : ℕ} → Wrote F r₅ o₅ o₆ r₆ → Wrote Whole 0 o₀ o₆ r₆

@@ -4,16 +4,16 @@ use Rattle.std.specs.Float.Ieee.{le, lt, of_bits, to_bits}
 use Rattle.tonekit_core.specs.Loop.{turns, range, turns_to, range_to, loop_on, loop_to}
 use Rattle.tonekit_core.specs.Calls.{answer_in, written}
 use Rattle.tonekit_core.specs.declared.Refusal.TheVariants.{ShortBuffer}
-use Rattle.tonekit_bytes.specs.Places.{index_of}
-use Rattle.tonekit_pack.specs.Ranges.{above_zero, a_share, knot_fine, weight_fine, slot_fine, knots_fine, region_fine, tolerances_fine}
-use Rattle.tonekit_pack.specs.Pack.{parts_from, due_after, size_of, holds, zero_or_held, settings_verdict, tone_verdict, accent_verdict, rule_verdict, part_verdict, body_verdict, record_verdict, added, read_pack, load_pack}
-use Rattle.tonekit_expect.specs.Knots.{point_at, first_points, knots_at}
-use Rattle.tonekit_expect.specs.Lookup.{best_rule, climb_turn, find_rule, look_up, component_of}
-use Rattle.tonekit_expect.specs.Source.{accent_in, carried, components, source_of_pack}
-use Rattle.tonekit_sheet.specs.Gather.{pieces, gather}
-use Rattle.tonekit_sheet.specs.Number.{same_numbers, same_carried, same, seen_in, place_in, noted, number_in}
-use Rattle.tonekit_sheet.specs.Sheet.{asc_from, ascending, row_context, view_of, lists_of, bits_bytes, components_bytes, bytes_with, bytes_of, sheet}
-use Rattle.tonekit_sheet_write.specs.Outcome.{sheet_outcome}
+use Rattle.spec_arithmetic.specs.Places.{index_of}
+use Rattle.spec_pack.specs.Ranges.{above_zero, a_share, knot_fine, weight_fine, slot_fine, knots_fine, region_fine, tolerances_fine}
+use Rattle.spec_pack.specs.Pack.{parts_from, due_after, size_of, holds, zero_or_held, settings_verdict, tone_verdict, accent_verdict, rule_verdict, part_verdict, body_verdict, record_verdict, added, read_pack, load_pack}
+use Rattle.spec_lookup.specs.Knots.{point_at, first_points, knots_at}
+use Rattle.spec_lookup.specs.Lookup.{best_rule, climb_turn, find_rule, look_up, component_of}
+use Rattle.spec_lookup.specs.Source.{accent_in, carried, components, source_of_pack}
+use Rattle.spec_sheet.specs.Pieces.{pieces, gather}
+use Rattle.spec_sheet.specs.Number.{same_numbers, same_carried, same, seen_in, place_in, noted, number_in}
+use Rattle.spec_sheet.specs.Sheet.{asc_from, ascending, row_context, view_of, lists_of, bits_bytes, components_bytes, bytes_with, bytes_of, sheet}
+use Rattle.spec_sheet.specs.Outcome.{sheet_outcome}
 
 abbrev one : List ℕ
 one = 0 ∷ 0 ∷ 128 ∷ 63 ∷ []

@@ -1,4 +1,3 @@
 pub mod Pieces
 pub mod Drafts
-pub mod Outcome
 pub mod Bench

@@ -1,13 +1,13 @@
 -- The pieces of a pack's sheet, as they are written.
 use Rattle.std.specs.Prelude.{ℕ, ◌+◌, ◌*◌, ◌≤◌, ◌≡◌, List, [], ◌∷◌, ◌++◌, length, get_or}
 use Rattle.std.proofs.lemmas.List.Edits.{sets}
-use Rattle.tonekit_core.specs.Layout.{sheet_list_kind, sheet_list_size, sheet_component_size}
-use Rattle.tonekit_bytes.specs.Fields.{le16}
-use Rattle.tonekit_expect.specs.Lookup.{component_of}
-use Rattle.tonekit_expect.specs.Source.{Carried, carried, settings_at, tone_at, accent_at}
-use Rattle.tonekit_expect.specs.declared.Listing.{Listing}
-use Rattle.tonekit_sheet.specs.Sheet.{settings_bytes, tone_bytes, accent_bytes, component_bytes, list_piece}
-use Rattle.tonekit_sheet.specs.Gather.{gather}
+use Rattle.tonekit_core.specs.declared.layout.TheConstants.{SHEET_LIST_KIND, SHEET_LIST_SIZE, SHEET_COMPONENT_SIZE}
+use Rattle.spec_arithmetic.specs.Fields.{le16}
+use Rattle.spec_lookup.specs.Lookup.{component_of}
+use Rattle.spec_lookup.specs.Source.{Carried, carried, settings_at, tone_at, accent_at}
+use Rattle.spec_lookup.specs.declared.Listing.{Listing}
+use Rattle.spec_sheet.specs.Sheet.{settings_bytes, tone_bytes, accent_bytes, component_bytes, list_piece}
+use Rattle.spec_sheet.specs.Pieces.{gather}
 
 -- what is lent has room for these bytes at a place
 abbrev pub Lent : List ℕ → ℕ → List ℕ → Type 0
@@ -33,11 +33,11 @@ records_part made s os = gather (λ i. made s (get_or os i 0)) 0 (length os)
 
 -- the head of a listing's list, under a number
 abbrev pub head_of : ℕ → Listing → List ℕ
-head_of n l = (sheet_list_kind ∷ n ∷ l.name.owner ∷ l.name.form ∷ []) ++ (le16 l.name.label ++ (l.count ∷ []))
+head_of n l = (SHEET_LIST_KIND ∷ n ∷ l.name.owner ∷ l.name.form ∷ []) ++ (le16 l.name.label ++ (l.count ∷ []))
 
 -- the most bytes that a list takes: it has at most four components
 abbrev pub list_most : ℕ
-list_most = sheet_list_size + sheet_component_size * 4
+list_most = SHEET_LIST_SIZE + SHEET_COMPONENT_SIZE * 4
 
 -- component j of a listing, and all of them
 abbrev pub component_piece : List ℕ → Listing → ℕ → List ℕ

@@ -4,14 +4,14 @@
 ghost use Rattle.std.specs.Prelude.{◌≡◌, ◌*◌, ◌≤◌, ◌<◌, length};
 ghost use Rattle.tonekit_core.specs.Calls.{Delivers, written};
 ghost use Rattle.tonekit_pack.specs.Held.{shown};
-ghost use Rattle.tonekit_expect.specs.Source.{source_of_pack};
-ghost use Rattle.tonekit_sheet.specs.Gather.{Wrote};
-ghost use Rattle.tonekit_sheet.specs.Sheet.{sheet};
+ghost use Rattle.spec_lookup.specs.Source.{source_of_pack};
+ghost use Rattle.spec_sheet.specs.Pieces.{Wrote};
+ghost use Rattle.spec_sheet.specs.Sheet.{sheet};
 ghost use Rattle.tonekit_sheet_plan.specs.Rows.{Reads};
 ghost use Rattle.tonekit_sheet_plan.specs.Plans.{planned_by};
 ghost use Rattle.tonekit_sheet_write.specs.Pieces.{Lent, list_most, lists_part};
 ghost use Rattle.tonekit_sheet_write.specs.Drafts.{sheet_of};
-ghost use Rattle.tonekit_sheet_write.specs.Outcome.{sheet_outcome};
+ghost use Rattle.spec_sheet.specs.Outcome.{sheet_outcome};
 
 mod draft;
 mod parts;

@@ -1,8 +1,8 @@
 // The parts of a sheet, each written at a place of what is lent: where the next begins is answered.
 ghost use Rattle.std.specs.Prelude.{[], ◌∷◌, ◌+◌, ◌≤◌, ◌<◌, length};
-ghost use Rattle.tonekit_core.specs.Layout.{sheet_row_size, sheet_list_size, sheet_component_size};
-ghost use Rattle.tonekit_core.specs.Layout.{sheet_end_kind, sheet_end_size};
-ghost use Rattle.tonekit_sheet.specs.Gather.{Wrote};
+ghost use Rattle.tonekit_core.specs.declared.layout.TheConstants.{SHEET_ROW_SIZE, SHEET_LIST_SIZE, SHEET_COMPONENT_SIZE};
+ghost use Rattle.tonekit_core.specs.declared.layout.TheConstants.{SHEET_END_KIND, SHEET_END_SIZE};
+ghost use Rattle.spec_sheet.specs.Pieces.{Wrote};
 ghost use Rattle.tonekit_sheet_plan.specs.Plans.{planned_by};
 ghost use Rattle.tonekit_sheet_write.specs.Pieces.{Lent, head_of, component_piece, planned_list};
 ghost use Rattle.tonekit_sheet_write.specs.Pieces.{records_part, lists_part, components_part};
@@ -39,7 +39,7 @@ pub fn write_records<R: Record>(s: &[u8], offsets: &[u16], out: &mut [u8], at: u
 
 // Row r: its context, and the numbers of what its two lookups give.
 fn write_row(d: &Draft<'_>, r: usize, out: &mut [u8], at: usize) -> usize
-    requires { at + sheet_row_size ≤ length out.old }
+    requires { at + SHEET_ROW_SIZE ≤ length out.old }
     ensures { Wrote (row_of d.now r) at out.old out.new result }
 {
     let c = d.rows.context(r, false);
@@ -64,7 +64,7 @@ pub fn write_rows(d: &Draft<'_>, out: &mut [u8], at: usize) -> usize
 
 // Component j of these curves.
 fn write_component(c: Curves<'_>, j: usize, out: &mut [u8], at: usize) -> usize
-    requires { (j < c.listing.count) × (at + sheet_component_size ≤ length out.old) }
+    requires { (j < c.listing.count) × (at + SHEET_COMPONENT_SIZE ≤ length out.old) }
     ensures { Wrote (component_piece c.entry.bytes.now c.entry.listing j) at out.old out.new result }
 {
     put_component(&mut out[at..], c.component(j));
@@ -86,7 +86,7 @@ fn write_components(c: Curves<'_>, out: &mut [u8], at: usize) -> usize
 
 // The head of list i.
 fn write_head(l: Listing, i: usize, out: &mut [u8], at: usize) -> usize
-    requires { (l.count ≤ 4) × (i < 128) × (at + sheet_list_size ≤ length out.old) }
+    requires { (l.count ≤ 4) × (i < 128) × (at + SHEET_LIST_SIZE ≤ length out.old) }
     ensures { Wrote (head_of (i + 1) l) at out.old out.new result }
 {
     put_head(&mut out[at..], (i + 1) as u8, l);
@@ -118,8 +118,8 @@ pub fn write_lists(plan: &Plan<'_>, out: &mut [u8], at: usize) -> usize
 
 // The end.
 pub fn write_end(out: &mut [u8], at: usize) -> usize
-    requires { at + sheet_end_size ≤ length out.old }
-    ensures { Wrote (sheet_end_kind ∷ []) at out.old out.new result }
+    requires { at + SHEET_END_SIZE ≤ length out.old }
+    ensures { Wrote (SHEET_END_KIND ∷ []) at out.old out.new result }
 {
     out[at] = layout::SHEET_END_KIND;
     at + layout::SHEET_END_SIZE

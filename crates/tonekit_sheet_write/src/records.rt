@@ -1,8 +1,8 @@
 // The records of a sheet, each written to the front of what is lent.
 ghost use Rattle.std.specs.Prelude.{◌≡◌, ◌≤◌, List, ℕ, length};
-ghost use Rattle.tonekit_core.specs.Layout.{sheet_row_size, sheet_list_size, sheet_component_size};
-ghost use Rattle.tonekit_sheet.specs.Sheet.{row_bytes, component_bytes};
-ghost use Rattle.tonekit_expect.specs.Source.{carried};
+ghost use Rattle.tonekit_core.specs.declared.layout.TheConstants.{SHEET_ROW_SIZE, SHEET_LIST_SIZE, SHEET_COMPONENT_SIZE};
+ghost use Rattle.spec_sheet.specs.Sheet.{row_bytes, component_bytes};
+ghost use Rattle.spec_lookup.specs.Source.{carried};
 ghost use Rattle.tonekit_sheet_write.specs.Pieces.{Fronted, head_of, settings_made, tone_made, accent_made};
 
 use tonekit_bytes::{byte_at, put_f32, put_f32s, put_u8, put_u16, put_u32, u32_at};
@@ -104,7 +104,7 @@ impl Record for Accent {
 
 // A row's accent, tone and prev, and its two list numbers.
 pub fn put_row(out: &mut [u8], c: Context, n: u8, m: u8)
-    requires { sheet_row_size ≤ length out.old }
+    requires { SHEET_ROW_SIZE ≤ length out.old }
     ensures { Fronted (row_bytes c n m) out.old out.new }
 {
     out[0] = layout::SHEET_ROW_KIND;
@@ -117,7 +117,7 @@ pub fn put_row(out: &mut [u8], c: Context, n: u8, m: u8)
 
 // A list's number and its name, and how many components follow.
 pub fn put_head(out: &mut [u8], number: u8, l: Listing)
-    requires { (sheet_list_size ≤ length out.old) × (l.count ≤ 4) }
+    requires { (SHEET_LIST_SIZE ≤ length out.old) × (l.count ≤ 4) }
     ensures { Fronted (head_of number l) out.old out.new }
 {
     put_u8(out, 0, layout::SHEET_LIST_KIND);
@@ -130,7 +130,7 @@ pub fn put_head(out: &mut [u8], number: u8, l: Listing)
 
 // A component's weight and ten points.
 pub fn put_component(out: &mut [u8], c: Component)
-    requires { sheet_component_size ≤ length out.old }
+    requires { SHEET_COMPONENT_SIZE ≤ length out.old }
     ensures { Fronted (component_bytes (carried c)) out.old out.new }
 {
     let points = c.points;

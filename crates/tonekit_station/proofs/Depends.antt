@@ -3,19 +3,19 @@ use Rattle.std.proofs.Common.{ℕ, zero, suc, ◌<◌, ◌≡◌, refl, sym, ◌
 use mathlib.Core.Option.{Option, none, some}
 use Rattle.tonekit_core.specs.Loop.{range}
 use Rattle.tonekit_core.proofs.LoopLaws.{range_same}
-use Rattle.tonekit_query.specs.Query.{load_query, frames_of}
-use Rattle.tonekit_query.specs.declared.Query.{Query}
+use Rattle.spec_query.specs.Query.{load_query, frames_of}
+use Rattle.spec_query.specs.declared.Query.{Query}
 use Rattle.std.specs.Prelude.{Some, None, Result, Ok, Err}
 use Rattle.tonekit_core.specs.declared.Rejection.{Rejection}
-use Rattle.tonekit_score.specs.declared.Tolerance.{Tolerance}
+use Rattle.spec_judgement.specs.declared.Tolerance.{Tolerance}
 use Rattle.tonekit_core.proofs.Split.{split}
-use Rattle.tonekit_expect.specs.Source.{Tone, Accent, Carried, Source, accent_in, tone_in}
-use Rattle.tonekit_expect.specs.declared.Context.{Context}
-use Rattle.tonekit_shape.specs.Extract.{extent_of}
-use Rattle.tonekit_sheet.specs.Agree.{Held, Agree}
-use Rattle.tonekit_judge.specs.Judge.{Listings}
-use Rattle.tonekit_inventory.specs.Gather.{Gathering, no_tone, nothing_yet, in_context, given_of, slotted, list_tone, listings, graded_of, tolerance_of, gathered}
-use Rattle.tonekit_station.specs.Judgement.{context_of, query_verdict, judge_gathered, on_query, judgement}
+use Rattle.spec_lookup.specs.Source.{Tone, Accent, Carried, Source, accent_in, tone_in}
+use Rattle.spec_lookup.specs.declared.Context.{Context}
+use Rattle.spec_shape.specs.Extract.{extent_of}
+use Rattle.spec_sheet.specs.Agree.{Held, Agree}
+use Rattle.spec_judgement.specs.Judge.{Listings}
+use Rattle.spec_judgement.specs.Gather.{Gathering, no_tone, nothing_yet, in_context, given_of, slotted, list_tone, listings, graded_of, tolerance_of, gathered}
+use Rattle.spec_judgement.specs.Judgement.{context_of, query_verdict, judge_gathered, on_query, judgement}
 
 -- a tone of the list is held by its number
 tone_at_lem : (ts : List Tone) (i : ℕ) → i < length ts → tone_in ts (get_or ts i no_tone).number ≡ true

@@ -1,22 +1,23 @@
 -- 10,287 bytes of a query are enough to judge it: a query that loads has at most 10,286. And 75,824 bytes of a program's input are enough to answer it: what
 -- stands past them is not read. Assumes nothing.
 use Rattle.std.proofs.Common.{ℕ, ◌-◌, ◌≤◌, ◌<◌, ◌≡◌, refl, ◌∙◌, ap, List, arith, length, take, take_all}
-use Rattle.tonekit_bytes.specs.Fields.{byte_at, u16_at}
-use Rattle.tonekit_input.specs.Input.{held_of, query_of}
+use Rattle.spec_arithmetic.specs.Fields.{byte_at, u16_at}
+use Rattle.spec_judgement.specs.Input.{held_of, query_of}
 use Rattle.tonekit_input.proofs.Input.{held_same, query_same, query_enough}
-use Rattle.tonekit_query.specs.Query.{load_query, end_of}
+use Rattle.spec_query.specs.Query.{load_query, end_of}
 use Rattle.std.specs.Prelude.{Result, Ok, Err}
 use Rattle.tonekit_core.specs.declared.Rejection.{Rejection}
-use Rattle.tonekit_query.specs.declared.Query.{Query}
+use Rattle.spec_query.specs.declared.Query.{Query}
 use Rattle.tonekit_query.proofs.Laws.{load_reads, load_length, read_holds}
 use Rattle.tonekit_query.proofs.Enough.{load_enough}
-use Rattle.tonekit_pack.specs.Pack.{Out, load_pack}
-use Rattle.tonekit_pack.specs.Pack as pack
-use Rattle.tonekit_sheet.specs.Reader.{load_sheet}
-use Rattle.tonekit_sheet.specs.Reader as sheet
-use Rattle.tonekit_sheet.specs.FromSheet.{source_of_sheet}
-use Rattle.tonekit_expect.specs.Source.{Source, source_of_pack}
-use Rattle.tonekit_station.specs.Judgement.{on_query, judgement, on_pack, judge_outcome, on_sheet, judge_sheet_outcome, station_outcome, station_sheet_outcome}
+use Rattle.spec_pack.specs.Pack.{Out, load_pack}
+use Rattle.spec_pack.specs.Pack as pack
+use Rattle.spec_sheet.specs.Reader.{load_sheet}
+use Rattle.spec_sheet.specs.Reader as sheet
+use Rattle.spec_sheet.specs.FromSheet.{source_of_sheet}
+use Rattle.spec_lookup.specs.Source.{Source, source_of_pack}
+use Rattle.spec_judgement.specs.Judgement.{on_query, judgement, on_pack, judge_outcome, station_outcome}
+use Rattle.spec_sheet.specs.JudgeSheet.{on_sheet, judge_sheet_outcome, station_sheet_outcome}
 
 module _ (src : Source) (s : List ℕ) (n : ℕ) (h : 10287 ≤ n) where
   either_way : (r : Result Query Rejection) → load_query s ≡ r → on_query src (take n s) r ≡ on_query src s r

@@ -5,23 +5,23 @@ use Rattle.tonekit_core.specs.Calls.{written}
 use Rattle.tonekit_core.specs.declared.Refusal.TheVariants.{BadVariant}
 use Rattle.std.specs.Prelude.{Some, None, Ok, Err}
 use Rattle.tonekit_core.specs.declared.DeltaKind.TheVariants.{StartLower}
-use Rattle.tonekit_root.specs.Root.{root_of}
-use Rattle.tonekit_root.specs.Bench as root
-use Rattle.tonekit_fit.specs.Chao.{hz_to_st, width_of, st_to_chao}
-use Rattle.tonekit_fit.specs.Bench as chao
-use Rattle.tonekit_expect.specs.Knots.{expanded}
-use Rattle.tonekit_expect.specs.Bench as knots
-use Rattle.tonekit_query.specs.declared.Query.{Query}
-use Rattle.tonekit_deltas.specs.Deltas.{no_deltas}
-use Rattle.tonekit_deltas.specs.Bench as deltas
-use Rattle.tonekit_judge.specs.Judge.{Inventory, ranking_of, heard_of}
-use Rattle.tonekit_judge.specs.declared.ToneEntry.{ToneEntry}
-use Rattle.tonekit_score.specs.declared.Tolerance.{Tolerance}
-use Rattle.tonekit_judge.specs.Bench as heard
-use Rattle.tonekit_target.specs.Target.{variants_fine}
-use Rattle.tonekit_target.specs.Bench as variants
-use Rattle.tonekit_station.specs.Judgement.{tones_verdict, query_verdict, judge_outcome}
-use Rattle.tonekit_station.specs.Bench as station
+use Rattle.spec_arithmetic.specs.Root.{root_of}
+use Rattle.spec_arithmetic.specs.RootBench as root
+use Rattle.spec_shape.specs.Chao.{hz_to_st, width_of, st_to_chao}
+use Rattle.spec_shape.specs.FitBench as chao
+use Rattle.spec_lookup.specs.Knots.{expanded}
+use Rattle.spec_lookup.specs.Bench as knots
+use Rattle.spec_query.specs.declared.Query.{Query}
+use Rattle.spec_judgement.specs.Deltas.{no_deltas}
+use Rattle.spec_judgement.specs.DeltasBench as deltas
+use Rattle.spec_judgement.specs.Judge.{Inventory, ranking_of, heard_of}
+use Rattle.spec_judgement.specs.declared.ToneEntry.{ToneEntry}
+use Rattle.spec_judgement.specs.declared.Tolerance.{Tolerance}
+use Rattle.spec_judgement.specs.JudgeBench as heard
+use Rattle.spec_judgement.specs.Target.{variants_fine}
+use Rattle.spec_judgement.specs.TargetBench as variants
+use Rattle.spec_judgement.specs.Judgement.{tones_verdict, query_verdict, judge_outcome}
+use Rattle.spec_judgement.specs.Bench as station
 use Rattle.tonekit_station.proofs.Ways.{bad_variant}
 
 -- whole numbers, and f32s by their bits

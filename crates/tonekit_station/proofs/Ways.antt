@@ -5,27 +5,28 @@ use Rattle.tonekit_core.specs.Calls.{refused, written}
 use Rattle.tonekit_core.specs.declared.Rejection.{Rejection}
 use Rattle.tonekit_core.specs.declared.Refusal.{Refusal}
 use Rattle.tonekit_core.specs.declared.Refusal.TheVariants as refusal
-use Rattle.tonekit_query.specs.Query.{load_query, frames_of}
-use Rattle.tonekit_query.specs.declared.Query.{Query}
+use Rattle.spec_query.specs.Query.{load_query, frames_of}
+use Rattle.spec_query.specs.declared.Query.{Query}
 use Rattle.tonekit_core.proofs.Split.{split}
-use Rattle.tonekit_pack.specs.Pack.{load_pack}
-use Rattle.tonekit_pack.specs.Pack as pack
-use Rattle.tonekit_sheet.specs.Reader.{load_sheet}
-use Rattle.tonekit_sheet.specs.Reader as sheet
-use Rattle.tonekit_expect.specs.Source.{Source}
-use Rattle.tonekit_shape.specs.Extract.{extent_of, shape_of}
-use Rattle.tonekit_shape.specs.Record.{united}
-use Rattle.tonekit_shape.specs.declared.Extent.{Extent}
-use Rattle.tonekit_shape.specs.declared.ToneShape.{ToneShape}
-use Rattle.tonekit_score.specs.declared.Tolerance.{Tolerance}
-use Rattle.tonekit_judge.specs.Judge.{Inventory, Targets, judgement_of}
-use Rattle.tonekit_judge.specs.Record.{judgement_bytes}
-use Rattle.tonekit_judge.specs.declared.ToneJudgement.{ToneJudgement}
-use Rattle.tonekit_target.specs.Target.{variants_fine, targets_of}
-use Rattle.tonekit_inventory.specs.Gather.{Gathering, gathered}
+use Rattle.spec_pack.specs.Pack.{load_pack}
+use Rattle.spec_pack.specs.Pack as pack
+use Rattle.spec_sheet.specs.Reader.{load_sheet}
+use Rattle.spec_sheet.specs.Reader as sheet
+use Rattle.spec_lookup.specs.Source.{Source}
+use Rattle.spec_shape.specs.Extract.{extent_of, shape_of}
+use Rattle.spec_shape.specs.Record.{united}
+use Rattle.spec_shape.specs.declared.Extent.{Extent}
+use Rattle.spec_shape.specs.declared.ToneShape.{ToneShape}
+use Rattle.spec_judgement.specs.declared.Tolerance.{Tolerance}
+use Rattle.spec_judgement.specs.Judge.{Inventory, Targets, judgement_of}
+use Rattle.spec_judgement.specs.Record.{judgement_bytes}
+use Rattle.spec_judgement.specs.declared.ToneJudgement.{ToneJudgement}
+use Rattle.spec_judgement.specs.Target.{variants_fine, targets_of}
+use Rattle.spec_judgement.specs.Gather.{Gathering, gathered}
 use Rattle.tonekit_inventory.specs.OfPack as of-pack
 use Rattle.tonekit_sheet_inventory.specs.Look as of-sheet
-use Rattle.tonekit_station.specs.Judgement.{context_of, tones_verdict, query_verdict, judge_gathered, judgement, on_held, on_pack, on_sheet, judge_outcome, judge_sheet_outcome}
+use Rattle.spec_judgement.specs.Judgement.{context_of, tones_verdict, query_verdict, judge_gathered, judgement, on_held, on_pack, judge_outcome}
+use Rattle.spec_sheet.specs.JudgeSheet.{on_sheet, judge_sheet_outcome}
 
 -- 11 to 15 but for targets, each once those before it are passed
 module _ (voiced : ℕ) (i : Inventory) (s : List ℕ) (q : Query) where

@@ -5,25 +5,26 @@ use Rattle.tonekit_core.specs.Calls.{Outcome}
 use Rattle.tonekit_core.proofs.Calls.{Writes}
 use Rattle.tonekit_core.specs.declared.Refusal.{Refusal}
 use Rattle.tonekit_core.specs.declared.Rejection.{Rejection}
-use Rattle.tonekit_query.specs.Query.{load_query, frames_of}
-use Rattle.tonekit_query.specs.declared.Query.{Query}
-use Rattle.tonekit_pack.specs.Pack.{Out, load_pack}
-use Rattle.tonekit_pack.specs.Pack as pack
-use Rattle.tonekit_sheet.specs.Reader.{load_sheet}
-use Rattle.tonekit_sheet.specs.Reader as sheet
-use Rattle.tonekit_sheet.specs.FromSheet.{source_of_sheet}
-use Rattle.tonekit_expect.specs.Source.{Source, source_of_pack}
-use Rattle.tonekit_shape.specs.Extract.{extent_of, shape_of}
-use Rattle.tonekit_shape.specs.Record.{united}
-use Rattle.tonekit_shape.specs.declared.Extent.{Extent}
-use Rattle.tonekit_shape.specs.declared.ToneShape.{ToneShape}
-use Rattle.tonekit_score.specs.declared.Tolerance.{Tolerance}
-use Rattle.tonekit_judge.specs.Judge.{Listings, Targets, judgement_of}
-use Rattle.tonekit_judge.specs.Record.{judgement_bytes}
-use Rattle.tonekit_score.specs.declared.Settings.{Settings}
-use Rattle.tonekit_target.specs.Target.{targets_of}
-use Rattle.tonekit_inventory.specs.Gather.{Gathering, gathered}
-use Rattle.tonekit_station.specs.Judgement.{context_of, query_verdict, recorded, unless, judge_gathered, on_query, judgement, on_held, on_pack, judge_outcome, on_sheet, judge_sheet_outcome}
+use Rattle.spec_query.specs.Query.{load_query, frames_of}
+use Rattle.spec_query.specs.declared.Query.{Query}
+use Rattle.spec_pack.specs.Pack.{Out, load_pack}
+use Rattle.spec_pack.specs.Pack as pack
+use Rattle.spec_sheet.specs.Reader.{load_sheet}
+use Rattle.spec_sheet.specs.Reader as sheet
+use Rattle.spec_sheet.specs.FromSheet.{source_of_sheet}
+use Rattle.spec_lookup.specs.Source.{Source, source_of_pack}
+use Rattle.spec_shape.specs.Extract.{extent_of, shape_of}
+use Rattle.spec_shape.specs.Record.{united}
+use Rattle.spec_shape.specs.declared.Extent.{Extent}
+use Rattle.spec_shape.specs.declared.ToneShape.{ToneShape}
+use Rattle.spec_judgement.specs.declared.Tolerance.{Tolerance}
+use Rattle.spec_judgement.specs.Judge.{Listings, Targets, judgement_of}
+use Rattle.spec_judgement.specs.Record.{judgement_bytes}
+use Rattle.spec_judgement.specs.declared.Settings.{Settings}
+use Rattle.spec_judgement.specs.Target.{targets_of}
+use Rattle.spec_judgement.specs.Gather.{Gathering, gathered}
+use Rattle.spec_judgement.specs.Judgement.{context_of, query_verdict, recorded, unless, judge_gathered, on_query, judgement, on_held, on_pack, judge_outcome}
+use Rattle.spec_sheet.specs.JudgeSheet.{on_sheet, judge_sheet_outcome}
 
 -- the record of every judgement, of any shape against anything
 abbrev pub Records : (List ℕ → Type 0) → Type 0

@@ -3,10 +3,11 @@
 
 ghost use Rattle.std.specs.Prelude.{◌≡◌, ◌≤◌};
 ghost use Rattle.tonekit_core.specs.Calls.{Delivers};
-ghost use Rattle.tonekit_input.specs.Input.{held_of, query_of};
-ghost use Rattle.tonekit_judge.specs.Judge.{Counted};
-ghost use Rattle.tonekit_inventory.specs.Gather.{gathering_of};
-ghost use Rattle.tonekit_station.specs.Judgement.{context_of, all_listed, tones_verdict, query_verdict, judge_gathered, on_held, judge_outcome, judge_sheet_outcome, station_outcome, station_sheet_outcome};
+ghost use Rattle.spec_judgement.specs.Input.{held_of, query_of};
+ghost use Rattle.spec_judgement.specs.Judge.{Counted};
+ghost use Rattle.spec_judgement.specs.Gather.{gathering_of};
+ghost use Rattle.spec_judgement.specs.Judgement.{context_of, all_listed, tones_verdict, query_verdict, judge_gathered, on_held, judge_outcome, station_outcome};
+ghost use Rattle.spec_sheet.specs.JudgeSheet.{judge_sheet_outcome, station_sheet_outcome};
 
 use tonekit_core::{Refusal, Rejection};
 use tonekit_expect::Context;
@@ -32,11 +33,13 @@ fn context_of(q: Query) -> Context
 fn all_listed(inventory: &Inventory) -> bool
     ensures { result ≡ all_listed inventory.now }
 {
-    inventory.iter().all(|entry| entry.count() != 0)
+    inventory
+        .iter()
+        .all(|entry| tonekit_judge::count_of(entry) != 0)
 }
 
 // Refusal 14 where some inventory tone has no component.
-#[tactic(auto, unfolding(crate::specs::Judgement::tones_verdict))]
+#[tactic(auto, unfolding(spec_judgement::specs::Judgement::tones_verdict))]
 fn tones_verdict(inventory: &Inventory) -> Result<(), Refusal>
     ensures { result ≡ tones_verdict inventory.now }
 {
@@ -48,7 +51,7 @@ fn tones_verdict(inventory: &Inventory) -> Result<(), Refusal>
 
 // Refusals 11 to 15 but for targets, of so many voiced frames and of what was gathered; else the
 // tolerances of the accent.
-#[tactic(auto, unfolding(crate::specs::Judgement::query_verdict))]
+#[tactic(auto, unfolding(spec_judgement::specs::Judgement::query_verdict))]
 fn query_verdict(voiced: usize, g: &Gathered, query: &[u8], q: Query) -> Result<Tolerance, Refusal>
     requires { q.variants ≤ 4 }
     ensures { result ≡ query_verdict voiced g.now.tolerance g.now.prev g.now.inventory query.now q }

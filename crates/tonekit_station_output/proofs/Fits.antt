@@ -1,23 +1,23 @@
 -- What `judge_parts` writes has room in what the programs lend: 64 bytes. Assumes nothing.
 use Rattle.std.proofs.Common.{ℕ, ◌≤◌, ◌≡◌, List, length, subst, arith}
 use Rattle.std.specs.Prelude.{Result}
-use Rattle.tonekit_core.specs.Layout.{judgement_size}
+use Rattle.tonekit_core.specs.declared.layout.TheConstants.{JUDGEMENT_SIZE}
 use Rattle.tonekit_core.specs.declared.Rejection.{Rejection}
 use Rattle.tonekit_core.specs.Calls.{Outcome}
 use Rattle.tonekit_report.specs.Report.{Told}
 use Rattle.tonekit_report.proofs.Told.{Fits}
-use Rattle.tonekit_expect.specs.Source.{Source}
+use Rattle.spec_lookup.specs.Source.{Source}
 use Rattle.tonekit_judge.proofs.Bounds.{judgement_length}
-use Rattle.tonekit_station.specs.Judgement.{on_held}
+use Rattle.spec_judgement.specs.Judgement.{on_held}
 use Rattle.tonekit_station.proofs.Written.{Records, held_writes}
 
 abbrev Room : List ℕ → Type 0
-Room bs = length bs ≤ judgement_size
+Room bs = length bs ≤ JUDGEMENT_SIZE
 
 records : Records Room
 records x settings t l g issues expected tones = omega (arith, judgement_length x settings t l g issues expected tones)
 
-pub judgement_fits : (r : Result Source Rejection) (s : List ℕ) → Fits judgement_size (on_held r s)
+pub judgement_fits : (r : Result Source Rejection) (s : List ℕ) → Fits JUDGEMENT_SIZE (on_held r s)
 judgement_fits r s = held_writes Room records r s
 
 -- of the same outcome the same is told

@@ -2,8 +2,9 @@
 #![tactic(auto)]
 
 ghost use Rattle.tonekit_report.specs.Report.{Told};
-ghost use Rattle.tonekit_input.specs.Input.{held_of, query_of};
-ghost use Rattle.tonekit_station.specs.Judgement.{on_held, station_outcome, station_sheet_outcome};
+ghost use Rattle.spec_judgement.specs.Input.{held_of, query_of};
+ghost use Rattle.spec_judgement.specs.Judgement.{on_held, station_outcome};
+ghost use Rattle.spec_sheet.specs.JudgeSheet.{station_sheet_outcome};
 
 use tonekit_core::layout;
 use tonekit_inventory::{Held, HeldPack};

@@ -2,9 +2,9 @@
 use Rattle.std.proofs.Common.{ℕ, ◌<◌, ◌≡◌, [], ◌∷◌, ◌++◌, length, get_or, length-append, lt-ltb, arith, ⊎_elim, eq-or-lt_of_le}
 use Rattle.std.proofs.Math.ListN.{get_or-append}
 use Rattle.std.proofs.Math.Seq.{get_or-append_seam}
-use Rattle.tonekit_judge.specs.Judge.{Targets, Placed, no_target}
-use Rattle.tonekit_judge.specs.declared.Target.{Target}
-use Rattle.tonekit_target.specs.Target.{no_targets, with_target}
+use Rattle.spec_judgement.specs.Judge.{Targets, Placed, no_target}
+use Rattle.spec_judgement.specs.declared.Target.{Target}
+use Rattle.spec_judgement.specs.Target.{no_targets, with_target}
 
 pub placed_none : (tones : ℕ) → Placed tones no_targets
 placed_none tones = record { few = omega arith; each = λ k h. absurd (omega arith) }

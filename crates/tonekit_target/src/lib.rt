@@ -3,8 +3,8 @@
 #![tactic(auto)]
 
 ghost use Rattle.std.specs.Prelude.{◌≡◌, ◌==◌, IfSome, ◌≤◌, ◌<◌, length};
-ghost use Rattle.tonekit_judge.specs.Judge.{Placed};
-ghost use Rattle.tonekit_target.specs.Target.{weight_fine, weights_fine, main_weight, variants_fine, place_of, target_of, targets_of};
+ghost use Rattle.spec_judgement.specs.Judge.{Placed};
+ghost use Rattle.spec_judgement.specs.Target.{weight_fine, weights_fine, main_weight, variants_fine, place_of, target_of, targets_of};
 
 use tonekit_judge::{Inventory, Target, Targets};
 
@@ -12,7 +12,7 @@ use tonekit_judge::{Inventory, Target, Targets};
 const VARIANT_SUM_SLACK: f32 = 1e-6;
 
 // Whether a weight is finite and not below 0.
-#[tactic(auto, unfolding(crate::specs::Target::weight_fine))]
+#[tactic(auto, unfolding(spec_judgement::specs::Target::weight_fine))]
 fn weight_fine(w: f32) -> bool
     ensures { result ≡ weight_fine w }
 {
@@ -48,7 +48,7 @@ pub fn main_weight(query: &[u8], n: u8) -> f32
 
 // Whether a query's n variants may be judged: no weight below 0 or not finite, and no more than 1 in
 // all but for rounding.
-#[tactic(auto, unfolding(crate::specs::Target::variants_fine))]
+#[tactic(auto, unfolding(spec_judgement::specs::Target::variants_fine))]
 pub fn variants_fine(query: &[u8], n: u8) -> bool
     requires { n ≤ 4 }
     ensures { result ≡ variants_fine query.now n }
@@ -57,7 +57,7 @@ pub fn variants_fine(query: &[u8], n: u8) -> bool
 }
 
 // The place of a tone's number among the inventory's, none where it is not held.
-#[tactic(auto, unfolding(crate::specs::Target::place_of))]
+#[tactic(auto, unfolding(spec_judgement::specs::Target::place_of))]
 pub fn place_of(inventory: &Inventory, n: u8) -> Option<usize>
     ensures { (result ≡ place_of inventory.now n)
         × IfSome result (λ t. (t < length inventory.now.items) × (t < 8)) }

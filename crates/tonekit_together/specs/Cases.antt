@@ -5,36 +5,36 @@ use Rattle.std.specs.Float.Ieee.{add, sub, mul, div, lt, le, eq, neg, of_bits, t
 use Rattle.tonekit_core.specs.Calls.{refused, written}
 use Rattle.tonekit_core.specs.declared.Refusal.TheVariants.{BadVariant}
 use Rattle.tonekit_core.specs.Loop.{turns, range, turns_to, range_to, loop_on, loop_to, while, while_if}
-use Rattle.tonekit_float.specs.Narrow.{narrowed}
-use Rattle.tonekit_float.specs.Whole.{whole_part, round_up}
-use Rattle.tonekit_float.specs.Pick.{lesser, greater}
-use Rattle.tonekit_log.specs.Log.{ln_of, log2_of}
-use Rattle.tonekit_bytes.specs.Fields.{f32s_bytes}
-use Rattle.tonekit_contour.specs.Position.{position}
-use Rattle.tonekit_query.specs.Frames.{frame_at}
-use Rattle.tonekit_query.specs.Query.{variant_fine, variants_fine, record_verdict, frame_verdict, fields_of, read_query, load_query}
-use Rattle.tonekit_pack.specs.Ranges.{above_zero, a_share, knot_fine, weight_fine, slot_fine, knots_fine, region_fine, tolerances_fine}
-use Rattle.tonekit_pack.specs.Pack.{due_after, size_of, holds, zero_or_held, settings_verdict, tone_verdict, accent_verdict, rule_verdict, part_verdict, body_verdict, added, read_pack, load_pack}
-use Rattle.tonekit_pack.specs.Pack as reader
-use Rattle.tonekit_fit.specs.Chao.{hz_to_st, width_of, st_to_chao}
-use Rattle.tonekit_window.specs.Window.{half_width, reach, curve_at, step_of, mean_over, rounded}
-use Rattle.tonekit_shape.specs.Extract.{extent_of, semitones, holes_filled, chao_curve, drawn, list_of, shape_of}
-use Rattle.tonekit_shape.specs.Record.{united}
-use Rattle.tonekit_expect.specs.Knots.{point_at, first_points, knots_at}
-use Rattle.tonekit_bytes.specs.Places.{index_of}
-use Rattle.tonekit_expect.specs.Lookup.{best_rule, climb_turn, find_rule, look_up, component_of}
-use Rattle.tonekit_expect.specs.Source.{carried, components, source_of_pack, accent_in, tone_in}
+use Rattle.spec_arithmetic.specs.Narrow.{narrowed}
+use Rattle.spec_arithmetic.specs.Whole.{whole_part, round_up}
+use Rattle.spec_arithmetic.specs.Pick.{lesser, greater}
+use Rattle.spec_arithmetic.specs.Log.{ln_of, log2_of}
+use Rattle.spec_arithmetic.specs.Fields.{f32s_bytes}
+use Rattle.spec_arithmetic.specs.Position.{position}
+use Rattle.spec_query.specs.Frames.{frame_at}
+use Rattle.spec_query.specs.Query.{variant_fine, variants_fine, record_verdict, frame_verdict, fields_of, read_query, load_query}
+use Rattle.spec_pack.specs.Ranges.{above_zero, a_share, knot_fine, weight_fine, slot_fine, knots_fine, region_fine, tolerances_fine}
+use Rattle.spec_pack.specs.Pack.{due_after, size_of, holds, zero_or_held, settings_verdict, tone_verdict, accent_verdict, rule_verdict, part_verdict, body_verdict, added, read_pack, load_pack}
+use Rattle.spec_pack.specs.Pack as reader
+use Rattle.spec_shape.specs.Chao.{hz_to_st, width_of, st_to_chao}
+use Rattle.spec_shape.specs.Window.{half_width, reach, curve_at, step_of, mean_over, rounded}
+use Rattle.spec_shape.specs.Extract.{extent_of, semitones, holes_filled, chao_curve, drawn, list_of, shape_of}
+use Rattle.spec_shape.specs.Record.{united}
+use Rattle.spec_lookup.specs.Knots.{point_at, first_points, knots_at}
+use Rattle.spec_arithmetic.specs.Places.{index_of}
+use Rattle.spec_lookup.specs.Lookup.{best_rule, climb_turn, find_rule, look_up, component_of}
+use Rattle.spec_lookup.specs.Source.{carried, components, source_of_pack, accent_in, tone_in}
 use Rattle.tonekit_core.specs.Words.{with_issue}
-use Rattle.tonekit_root.specs.Root.{root_of}
-use Rattle.tonekit_log.specs.Exp.{exp_of}
-use Rattle.tonekit_score.specs.Score.{widen_for, scoring_of, clamp_log, add_to, value_of, excused, point_weight, squares_of, end_term, ends_of, distance_of, log_of, mixed, mix_turn, calibrate}
-use Rattle.tonekit_deltas.specs.Deltas.{kept, offer, offer_end, offer_turn, end_deltas, deltas_of}
-use Rattle.tonekit_judge.specs.Judge.{tone_mixing, loglik_at, logliks, ranked, ranking_of, heard_of, weighed, part_mixing, target_mixing, llr_of, plain_of, distance_from, advice_of, part_of, nearest_at, with_best, judged_of, usable, judgement_of}
-use Rattle.tonekit_judge.specs.Record.{delta_count, kind_of, amount_of, nearest_bytes, score_bytes, one_bytes, delta_bytes, judgement_bytes}
-use Rattle.tonekit_target.specs.Target as target
-use Rattle.tonekit_target.specs.Target.{targets_of, target_of, place_of, weights_fine, main_weight, with_target}
-use Rattle.tonekit_inventory.specs.Gather.{with_tone, put_in, slotted, listings, gathered}
-use Rattle.tonekit_station.specs.Judgement.{tones_verdict, query_verdict, judge_gathered, judgement, judge_outcome}
+use Rattle.spec_arithmetic.specs.Root.{root_of}
+use Rattle.spec_arithmetic.specs.Exp.{exp_of}
+use Rattle.spec_judgement.specs.Score.{widen_for, scoring_of, clamp_log, add_to, value_of, excused, point_weight, squares_of, end_term, ends_of, distance_of, log_of, mixed, mix_turn, calibrate}
+use Rattle.spec_judgement.specs.Deltas.{kept, offer, offer_end, offer_turn, end_deltas, deltas_of}
+use Rattle.spec_judgement.specs.Judge.{tone_mixing, loglik_at, logliks, ranked, ranking_of, heard_of, weighed, part_mixing, target_mixing, llr_of, plain_of, distance_from, advice_of, part_of, nearest_at, with_best, judged_of, usable, judgement_of}
+use Rattle.spec_judgement.specs.Record.{delta_count, kind_of, amount_of, nearest_bytes, score_bytes, one_bytes, delta_bytes, judgement_bytes}
+use Rattle.spec_judgement.specs.Target as target
+use Rattle.spec_judgement.specs.Target.{targets_of, target_of, place_of, weights_fine, main_weight, with_target}
+use Rattle.spec_judgement.specs.Gather.{with_tone, put_in, slotted, listings, gathered}
+use Rattle.spec_judgement.specs.Judgement.{tones_verdict, query_verdict, judge_gathered, judgement, judge_outcome}
 
 -- ---- bytes
 -- the bits of 1, a half, a quarter, 3 and 4

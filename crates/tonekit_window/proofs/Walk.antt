@@ -3,8 +3,8 @@ use Rattle.std.proofs.Common.{ℕ, zero, suc, ◌+◌, ◌-◌, ◌^◌, ◌≤�
 use lib.Ieee.{binary64, add, le, lt, of_int, of_bits}
 use lib.Ieee.Scale.{finite}
 use Rattle.tonekit_core.specs.Loop.{while, while_again, while_ended, while_out}
-use Rattle.tonekit_float.specs.Pick.{lesser}
-use Rattle.tonekit_float.specs.Whole.{whole_part}
+use Rattle.spec_arithmetic.specs.Pick.{lesser}
+use Rattle.spec_arithmetic.specs.Whole.{whole_part}
 use Rattle.tonekit_float.proofs.Order.{le_trans_float, le_refl_finite, le→not-lt}
 use Rattle.tonekit_float.proofs.Bounds.{in_finite}
 use Rattle.tonekit_float.proofs.Exact.{whole_worth, whole_le, whole_add}
@@ -12,10 +12,10 @@ use Rattle.tonekit_float.proofs.Whole.{part_le}
 use Rattle.tonekit_float.proofs.Nans.{finite_number}
 use Rattle.tonekit_float.proofs.Picked.{lesser_finite, le_lesser}
 use Rattle.tonekit_core.proofs.LoopLaws.{while_ends}
-use Rattle.tonekit_contour.specs.Position.{whole64}
-use Rattle.tonekit_fit.specs.Chao.{one64}
-use Rattle.tonekit_window.specs.declared.Sweep.{Sweep}
-use Rattle.tonekit_window.specs.Window.{span_at, curve_at, moved_to, step_of, unswept, start_of, turn_limit, walk_of, Swept, Frame}
+use Rattle.spec_arithmetic.specs.Position.{whole64}
+use Rattle.spec_shape.specs.Chao.{one64}
+use Rattle.spec_shape.specs.declared.Sweep.{Sweep}
+use Rattle.spec_shape.specs.Window.{span_at, curve_at, moved_to, step_of, unswept, start_of, turn_limit, walk_of, Swept, Frame}
 use Rattle.tonekit_window.proofs.Within.{low_in, high_in, frame}
 
 -- one more than a whole number

@@ -3,16 +3,16 @@ use Rattle.std.proofs.Common.{ℕ, ◌-◌, ◌≤◌, zero-le, true, false, ari
 use lib.Ieee.{fin, binary64, add, sub, mul, le, lt, of_int, of_bits}
 use lib.Ieee.Fits.{of_int-fits}
 use lib.Ieee.Scale.{finite}
-use Rattle.tonekit_float.specs.Pick.{lesser}
-use Rattle.tonekit_float.specs.Bounds.{In}
+use Rattle.spec_arithmetic.specs.Pick.{lesser}
+use Rattle.spec_arithmetic.specs.Bounds.{In}
 use Rattle.tonekit_float.proofs.Order.{le_trans_float, between_finite, le_lt}
 use Rattle.tonekit_float.proofs.Monotone.{zero_f}
 use Rattle.tonekit_float.proofs.Bounds.{in_finite, in_wider, in_add, in_sub, in_mul}
 use Rattle.tonekit_float.proofs.Exact.{whole_worth, whole_le, sub_nonneg, sub_no_more, add_nonneg, add_within}
 use Rattle.tonekit_float.proofs.Picked.{lesser_finite, lesser_le_left, lesser_le_right, le_lesser, greater_finite, le_greater_right}
-use Rattle.tonekit_contour.specs.Position.{whole64, position}
+use Rattle.spec_arithmetic.specs.Position.{whole64, position}
 use Rattle.tonekit_contour.proofs.Places.{position_in, position_fits}
-use Rattle.tonekit_window.specs.Window.{share, half, edge, half_width, reach, span_at, Frame}
+use Rattle.spec_shape.specs.Window.{share, half, edge, half_width, reach, span_at, Frame}
 
 -- ---- the window
 -- 0.05 n

@@ -4,10 +4,11 @@
 #![tactic(auto)]
 
 ghost use Rattle.std.specs.Prelude.{◌≡◌, ◌+◌, ◌-◌, ◌≤◌, ◌<◌, length};
-ghost use Rattle.tonekit_float.specs.Whole.{whole_part};
-ghost use Rattle.tonekit_contour.specs.Position.{whole64, position};
-ghost use Rattle.tonekit_window.specs.Window.{half_width, reach, curve_at, moved_to, step_of, mean_over, contour_at, rounded, voiced_in, weight_at, Frame, Spans, Swept, Framed};
+ghost use Rattle.spec_arithmetic.specs.Whole.{whole_part};
+ghost use Rattle.spec_arithmetic.specs.Position.{whole64, position};
+ghost use Rattle.spec_shape.specs.Window.{half_width, reach, curve_at, moved_to, step_of, mean_over, contour_at, rounded, voiced_in, weight_at, Frame, Spans, Swept, Framed};
 
+pub use spec_shape::{FrameRange, Span, Sweep};
 use tonekit_fit::Frames;
 
 // WINDOW_FRACTION, MIN_HALF_WINDOW and EDGE_EPS of the Rust.
@@ -41,32 +42,8 @@ pub struct Point {
     ghost ten: { k ≤ 9 },
 }
 
-// The window about a contour point, in frames of the voiced part.
-#[derive(Clone, Copy)]
-pub struct Span {
-    pub low: f64,
-    pub high: f64,
-}
-
-// Where the sweep over a window stands: a time, the curve there, the next whole frame, and the
-// area so far.
-#[derive(Clone, Copy)]
-pub struct Sweep {
-    pub t0: f64,
-    pub v0: f64,
-    pub next: f64,
-    pub area: f64,
-}
-
-// The first and the last frame inside a window.
-#[derive(Clone, Copy)]
-pub struct FrameRange {
-    pub from: usize,
-    pub to: usize,
-}
-
 // Half the width of a window in a part of n frames.
-#[tactic(auto, unfolding(crate::specs::Window::half_width))]
+#[tactic(auto, unfolding(spec_shape::specs::Window::half_width))]
 fn half_width(n: usize) -> f64
     ensures { result ≡ half_width n }
 {
@@ -82,7 +59,7 @@ impl Time {
     }
 
     // The nearest whole frame, a half up.
-    #[tactic(auto, unfolding(crate::specs::Window::rounded))]
+    #[tactic(auto, unfolding(spec_shape::specs::Window::rounded))]
     fn rounded(self) -> usize
         ensures { result ≡ rounded self.at }
     {
@@ -104,7 +81,7 @@ impl Point {
     }
 
     // Half the width of the window about the point, which narrows at the ends of the part.
-    #[tactic(auto, unfolding(crate::specs::Window::reach))]
+    #[tactic(auto, unfolding(spec_shape::specs::Window::reach))]
     fn reach(self) -> f64
         ensures { result ≡ reach self.n self.k }
     {
@@ -160,7 +137,7 @@ fn moved(s: Sweep, t1: f64, v1: f64) -> Sweep
 
 impl Curve<'_> {
     // The curve at time t, whose whole part is w, from a line between the two frames about it.
-    #[tactic(auto, unfolding(crate::specs::Window::curve_at))]
+    #[tactic(auto, unfolding(spec_shape::specs::Window::curve_at))]
     fn between(self, t: f64, w: usize) -> f64
         requires { w ≡ whole_part t }
         ensures { result ≡ curve_at self.entry.values.now t }
@@ -215,7 +192,7 @@ impl Curve<'_> {
 
     // The mean of the curve over the window from a to b; its value there where the window is a
     // point.
-    #[tactic(auto, unfolding(crate::specs::Window::mean_over))]
+    #[tactic(auto, unfolding(spec_shape::specs::Window::mean_over))]
     fn mean(self, a: Time, b: Time) -> f64
         ensures { result ≡ mean_over self.entry.values.now (record { low = a.at; high = b.at }) }
     {

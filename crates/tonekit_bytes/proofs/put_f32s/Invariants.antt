@@ -1,6 +1,6 @@
 use Rattle.std.proofs.Common.{◌≡◌, length, take}
 use Rattle.std.proofs.lemmas.List.Edits.{sets}
-use Rattle.tonekit_bytes.specs.Fields.{f32s_bytes}
+use Rattle.spec_arithmetic.specs.Fields.{f32s_bytes}
 use Rattle.tonekit_bytes.proofs.put_f32s.Given as goal
 
 abbrev pub invariant-loop-i : goal.invariant-loop-i

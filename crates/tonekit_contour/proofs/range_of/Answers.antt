@@ -4,8 +4,8 @@ use Rattle.std.proofs.lemmas.List.{get_or-map}
 use Rattle.std.specs.Float.{nan}
 use lib.Ieee.{sub}
 use Rattle.tonekit_core.specs.Loop.{again, ended}
-use Rattle.tonekit_float.specs.Pick.{lesser, greater}
-use Rattle.tonekit_contour.specs.Range.{range_in}
+use Rattle.spec_arithmetic.specs.Pick.{lesser, greater}
+use Rattle.spec_shape.specs.Range.{range_in}
 use Rattle.tonekit_contour.proofs.range_of.Goals as goal
 use Rattle.tonekit_contour.proofs.range_of.Goals.{After-greater-high}
 

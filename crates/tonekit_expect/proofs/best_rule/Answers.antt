@@ -1,5 +1,5 @@
 use Rattle.std.proofs.Common.{◌∙◌, ◌+◌, lt-ltb, le-ltb}
-use Rattle.tonekit_expect.specs.Lookup.{best_rule}
+use Rattle.spec_lookup.specs.Lookup.{best_rule}
 use Rattle.tonekit_bytes.proofs.InOrder.{order_length, order_get}
 use Rattle.tonekit_expect.proofs.best_rule.Goals as goal
 use Rattle.tonekit_expect.proofs.best_rule.Goals.{then-i-v, else-i-v}

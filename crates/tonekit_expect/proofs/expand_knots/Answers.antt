@@ -1,7 +1,7 @@
 -- The invariant: the points below i are written.
 use Rattle.std.proofs.Common.{◌≡◌, refl, sym, ◌∙◌, subst, ℕ, ◌<◌, arith, add-one, rules, length, get_or, length-set, take-suc-set, take_all}
 use lib.Ieee.{nan}
-use Rattle.tonekit_expect.specs.Knots.{first_points, expanded, Point}
+use Rattle.spec_lookup.specs.Knots.{first_points, expanded, Point}
 use Rattle.tonekit_expect.proofs.Bound.{points_bounded}
 use Rattle.tonekit_expect.proofs.expand_knots.Goals as goal
 

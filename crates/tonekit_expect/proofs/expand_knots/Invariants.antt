@@ -1,5 +1,5 @@
 use Rattle.std.proofs.Common.{◌≡◌, ◌≤◌, length, take}
-use Rattle.tonekit_expect.specs.Knots.{first_points}
+use Rattle.spec_lookup.specs.Knots.{first_points}
 use Rattle.tonekit_expect.proofs.expand_knots.Given as goal
 
 abbrev pub invariant-loop-i : goal.invariant-loop-i

@@ -2,7 +2,7 @@ use Rattle.std.proofs.Common.{◌<◌, ◌-◌, ◌≡◌}
 use Rattle.tonekit_core.specs.Loop.{loop_to}
 use Rattle.tonekit_pack.specs.Held.{shown}
 use Rattle.std.specs.Prelude.{None}
-use Rattle.tonekit_expect.specs.Lookup.{climb_turn, find_rule}
+use Rattle.spec_lookup.specs.Lookup.{climb_turn, find_rule}
 use Rattle.tonekit_expect.proofs.find_rule.Given as goal
 
 abbrev pub invariant-loop : goal.invariant-loop

@@ -1,6 +1,6 @@
 use Rattle.std.proofs.Common.{rules, arith, ℕ, ◌<◌, sym, ◌∙◌, get_or, ◌≡◌, Fits, w16, lit<}
 use Rattle.std.specs.Prelude.{None}
-use Rattle.tonekit_expect.specs.Lookup.{look_up}
+use Rattle.spec_lookup.specs.Lookup.{look_up}
 use Rattle.tonekit_bytes.proofs.InOrder.{order_length, order_get}
 use Rattle.tonekit_expect.proofs.InOrder.{order_all}
 use Rattle.tonekit_expect.proofs.Walk.{index_found, winner_is, look_found}

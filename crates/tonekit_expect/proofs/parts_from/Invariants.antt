@@ -1,5 +1,5 @@
 use Rattle.std.proofs.Common.{◌+◌, ◌-◌, ◌*◌, ◌≤◌, ◌≡◌}
-use Rattle.tonekit_pack.specs.Pack.{parts_from}
+use Rattle.spec_pack.specs.Pack.{parts_from}
 use Rattle.tonekit_expect.proofs.parts_from.Given as goal
 
 abbrev pub invariant-loop-n : goal.invariant-loop-n

@@ -1,6 +1,6 @@
 use Rattle.std.proofs.Common.{arith, ◌≡◌, ◌≤◌, ◌<◌, refl, sym, ◌∙◌, ap, subst, add-one, length, length-set, take-suc-set}
 use Rattle.std.proofs.lemmas.List.{length-take-le, take_all, take_at}
-use Rattle.tonekit_expect.specs.Knots.{knots_at, expanded, Knots}
+use Rattle.spec_lookup.specs.Knots.{knots_at, expanded, Knots}
 use Rattle.tonekit_expect.proofs.Bound.{length_knots}
 use Rattle.tonekit_expect.proofs.points_at.Goals as goal
 use Rattle.tonekit_expect.proofs.points_at.Goals.{Start, After-loop-k}

@@ -1,5 +1,5 @@
 use Rattle.std.proofs.Common.{◌≡◌, ◌≤◌, length, take}
-use Rattle.tonekit_expect.specs.Knots.{knots_at}
+use Rattle.spec_lookup.specs.Knots.{knots_at}
 use Rattle.tonekit_expect.proofs.points_at.Given as goal
 
 abbrev pub invariant-loop-k : goal.invariant-loop-k

@@ -1,7 +1,7 @@
 -- `ceil_index`: the whole part, and one more where it is below x.
 use Rattle.std.proofs.Common.{◌≡◌, ℕ, ◌+◌, ◌^◌, ◌<◌, true, false, ap, ◌∙◌, subst, arith}
 use lib.Ieee.{binary64, lt}
-use Rattle.tonekit_float.specs.Whole.{whole_part}
+use Rattle.spec_arithmetic.specs.Whole.{whole_part}
 use Rattle.tonekit_float.proofs.Exact.{whole}
 use Rattle.tonekit_float.proofs.Whole.{up_lt, more_up, no_more_up, none_up, exact_index}
 use Rattle.tonekit_float.proofs.ceil_index.Goals as goal

@@ -1,5 +1,5 @@
 -- `greater`: its three ways out are those of the definition.
-use Rattle.tonekit_float.specs.Pick.{greater}
+use Rattle.spec_arithmetic.specs.Pick.{greater}
 use Rattle.tonekit_float.proofs.Picked.{of_nan, later, earlier, differs, less}
 use Rattle.tonekit_float.proofs.greater.Goals as goal
 

@@ -1,5 +1,5 @@
 -- `lesser`: its three ways out are those of the definition.
-use Rattle.tonekit_float.specs.Pick.{lesser}
+use Rattle.spec_arithmetic.specs.Pick.{lesser}
 use Rattle.tonekit_float.proofs.Picked.{of_nan, later, earlier, differs, less}
 use Rattle.tonekit_float.proofs.lesser.Goals as goal
 

@@ -1,5 +1,5 @@
 -- `total_le`: a NaN b is the greatest, and of a NaN a every comparison is false.
-use Rattle.tonekit_float.specs.Magnitude.{total_le}
+use Rattle.spec_arithmetic.specs.Magnitude.{total_le}
 use Rattle.tonekit_float.proofs.Nans.{ne_self}
 use Rattle.tonekit_float.proofs.Total.{nan_le}
 use Rattle.tonekit_float.proofs.total_le.Goals as goal

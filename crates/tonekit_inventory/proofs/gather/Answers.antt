@@ -1,7 +1,7 @@
 -- `gather` meets its contract: each field is what the definition gathers.
 use Rattle.std.proofs.Common.{◌≡◌, ◌∙◌, ◌||◌, eqb, eq-eqb, ne_eqb}
-use Rattle.tonekit_expect.specs.Source.{tone_in}
-use Rattle.tonekit_inventory.specs.Gather.{gathered}
+use Rattle.spec_lookup.specs.Source.{tone_in}
+use Rattle.spec_judgement.specs.Gather.{gathered}
 use Rattle.tonekit_inventory.proofs.gather.Goals as goal
 use Rattle.tonekit_inventory.proofs.gather.Goals.{then-c-eq0, else-c-eq0}
 

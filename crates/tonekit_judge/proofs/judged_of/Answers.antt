@@ -1,6 +1,6 @@
 -- `judged_of` meets its contract, by the ways through its code.
 use Rattle.std.proofs.Common.{refl, sym, ◌∙◌, ◌/◌, ◌<◌, arith, length}
-use Rattle.tonekit_judge.specs.Judge.{listing, cell, judged_of, with_best}
+use Rattle.spec_judgement.specs.Judge.{listing, cell, judged_of, with_best}
 use Rattle.tonekit_judge.proofs.Agree.{judged_same}
 use Rattle.tonekit_judge.proofs.Winner.{Among, winner_among}
 use Rattle.tonekit_judge.proofs.judged_of.Goals as goal

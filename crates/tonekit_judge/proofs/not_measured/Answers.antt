@@ -2,9 +2,9 @@
 use Rattle.std.proofs.Common.{ℕ, zero, suc, ◌≡◌, refl, ◌≤◌, ◌++◌, drop, replicate, arith, length-take-le}
 use Rattle.std.specs.Float.Ieee.{neg}
 use Rattle.tonekit_core.specs.Loop.{range, turns}
-use Rattle.tonekit_float.specs.Narrow.{narrowed}
-use Rattle.tonekit_score.specs.Score.{zero32, million}
-use Rattle.tonekit_judge.specs.Judge.{lowest_turn, not_measured}
+use Rattle.spec_arithmetic.specs.Narrow.{narrowed}
+use Rattle.spec_judgement.specs.Score.{zero32, million}
+use Rattle.spec_judgement.specs.Judge.{lowest_turn, not_measured}
 use Rattle.tonekit_judge.proofs.not_measured.Goals as goal
 
 filled : (tones : ℕ) → tones ≤ 8 → range lowest_turn 0 tones (replicate 8 zero32) ≡ replicate tones (narrowed (neg million)) ++ drop tones (replicate 8 zero32)

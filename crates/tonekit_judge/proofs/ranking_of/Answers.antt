@@ -1,8 +1,8 @@
 -- `ranking_of` meets its contract: a turn of the loop is a turn of the ranking, and the top stays a tone.
 use Rattle.std.proofs.Common.{rules, refl, ◌<◌, length}
 use Rattle.tonekit_core.specs.Loop.{again, ended}
-use Rattle.tonekit_score.specs.declared.Lead.{Lead}
-use Rattle.tonekit_judge.specs.Judge.{rank_turn, ranking_of, ranked}
+use Rattle.spec_judgement.specs.declared.Lead.{Lead}
+use Rattle.spec_judgement.specs.Judge.{rank_turn, ranking_of, ranked}
 use Rattle.tonekit_judge.proofs.Cells.{led_keeps}
 use Rattle.tonekit_judge.proofs.ranking_of.Goals as goal
 

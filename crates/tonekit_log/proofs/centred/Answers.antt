@@ -1,5 +1,5 @@
 -- `centred` meets its contract.
-use Rattle.tonekit_log.specs.Log.{centred}
+use Rattle.spec_arithmetic.specs.Log.{centred}
 use Rattle.tonekit_log.proofs.centred.Goals as goal
 
 pub returns-then-p : goal.returns-then-p

@@ -1,10 +1,10 @@
 -- `exp` meets its contract: past its three tests, what the whole number n gives.
 use Rattle.std.proofs.Common.{◌≡◌, ◌*◌, ◌^◌, false, ap, ◌∙◌, arith, Float, is_nan}
 use lib.Ieee.{binary64, of_bits, mul, neg}
-use Rattle.tonekit_float.specs.Bounds.{In}
+use Rattle.spec_arithmetic.specs.Bounds.{In}
 use Rattle.tonekit_float.proofs.Nans.{ne_self}
 use Rattle.tonekit_float.proofs.Narrowing.{below_inf}
-use Rattle.tonekit_log.specs.Constants.{bound}
+use Rattle.spec_arithmetic.specs.Constants.{bound}
 use Rattle.tonekit_log.proofs.Turns.{inside, between}
 use Rattle.tonekit_log.proofs.ExpCases.{field_of, field_small, result_is, nan_result, low_result, high_result}
 use Rattle.tonekit_log.proofs.exp.Goals as goal

@@ -1,7 +1,7 @@
 -- `exp_series` meets its contract: its thirteen lines are the definition's thirteen steps.
 use Rattle.std.proofs.Common.{refl}
 use lib.Ieee.{of_bits, of_int}
-use Rattle.tonekit_log.specs.Exp.{exp_series, steps}
+use Rattle.spec_arithmetic.specs.Exp.{exp_series, steps}
 use Rattle.tonekit_log.proofs.exp_series.Goals as goal
 
 pub returns : goal.returns

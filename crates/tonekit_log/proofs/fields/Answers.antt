@@ -2,7 +2,7 @@
 use Rattle.std.proofs.Common.{◌+◌, ◌%◌, ◌^◌, arith, to_bits}
 use lib.Ieee.{binary64, of_int, of_bits}
 use Rattle.tonekit_float.proofs.Narrowing.{below_inf}
-use Rattle.tonekit_log.specs.Log.{fields}
+use Rattle.spec_arithmetic.specs.Log.{fields}
 use Rattle.tonekit_log.proofs.fields.Goals as goal
 
 pub float_from_bits-m : goal.float_from_bits-m

@@ -1,8 +1,8 @@
 -- `ln` meets its contract: the logarithm by the parts, or what there is without them.
 use Rattle.std.proofs.Common.{sym, ap, ◌∙◌, subst, Float}
 use lib.Ieee.{binary64, add, mul}
-use Rattle.tonekit_log.specs.Constants.{LN2}
-use Rattle.tonekit_log.specs.Log.{ln_at, IsPartsOf}
+use Rattle.spec_arithmetic.specs.Constants.{LN2}
+use Rattle.spec_arithmetic.specs.Log.{ln_at, IsPartsOf}
 use Rattle.tonekit_log.proofs.LogCases.{ln_is}
 use Rattle.tonekit_log.proofs.ln.Goals as goal
 

@@ -1,8 +1,8 @@
 -- `log2` meets its contract: the logarithm by the parts, or what there is without them.
 use Rattle.std.proofs.Common.{sym, ap, ◌∙◌, subst, Float}
 use lib.Ieee.{binary64, add, mul}
-use Rattle.tonekit_log.specs.Constants.{LOG2E}
-use Rattle.tonekit_log.specs.Log.{log2_at, IsPartsOf}
+use Rattle.spec_arithmetic.specs.Constants.{LOG2E}
+use Rattle.spec_arithmetic.specs.Log.{log2_at, IsPartsOf}
 use Rattle.tonekit_log.proofs.LogCases.{log2_is}
 use Rattle.tonekit_log.proofs.log2.Goals as goal
 

@@ -1,7 +1,7 @@
 -- `log_series` meets its contract: its eleven lines are the definition's eleven steps.
 use Rattle.std.proofs.Common.{refl}
 use lib.Ieee.{of_bits, of_int}
-use Rattle.tonekit_log.specs.Log.{series, steps}
+use Rattle.spec_arithmetic.specs.Log.{series, steps}
 use Rattle.tonekit_log.proofs.log_series.Goals as goal
 
 pub returns : goal.returns

@@ -1,6 +1,6 @@
 -- `scaled` meets its contract.
 use lib.Ieee.{of_bits, of_int}
-use Rattle.tonekit_log.specs.Log.{scaled}
+use Rattle.spec_arithmetic.specs.Log.{scaled}
 use Rattle.tonekit_log.proofs.LogCases.{scaled_number}
 use Rattle.tonekit_log.proofs.scaled.Goals as goal
 

@@ -2,7 +2,7 @@
 use Rattle.std.proofs.Common.{T, sym, ap, ◌∙◌, subst}
 use lib.Ieee.{fits, binary64, of_bits}
 use Rattle.tonekit_float.proofs.Signs.{positive, limited}
-use Rattle.tonekit_log.specs.Log.{centred}
+use Rattle.spec_arithmetic.specs.Log.{centred}
 use Rattle.tonekit_log.proofs.LogCases.{at_number, at_infinity, at_zero, at_nan}
 use Rattle.tonekit_log.proofs.split.Goals as goal
 use Rattle.tonekit_log.proofs.split.Goals.{Start}

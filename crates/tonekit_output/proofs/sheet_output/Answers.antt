@@ -1,6 +1,6 @@
 -- `sheet_output` meets its contract. Assumes nothing.
 use Rattle.std.proofs.Common.{◌≡◌, length, rules}
-use Rattle.tonekit_core.specs.Layout.{sheet_most}
+use Rattle.tonekit_core.specs.declared.layout.TheConstants.{SHEET_MOST}
 use Rattle.tonekit_report.proofs.Told.{tells}
 use Rattle.tonekit_output.proofs.Fits.{sheet_fits}
 use Rattle.tonekit_output.proofs.sheet_output.Goals as goal
@@ -8,5 +8,5 @@ use Rattle.tonekit_output.proofs.sheet_output.Goals as goal
 pub returns : goal.returns
 returns c =
     let held = c.args.out.now in
-    let room : length held ≡ sheet_most = search rules in
-    tells sheet_most _ held _ _ _ _ room (search rules) (sheet_fits c.args.pack.now) c.write_sheet-a.ensures c.tell.ensures.0 c.tell.ensures.1
+    let room : length held ≡ SHEET_MOST = search rules in
+    tells SHEET_MOST _ held _ _ _ _ room (search rules) (sheet_fits c.args.pack.now) c.write_sheet-a.ensures c.tell.ensures.0 c.tell.ensures.1

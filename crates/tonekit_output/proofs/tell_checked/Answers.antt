@@ -1,7 +1,7 @@
 -- `tell_checked` meets its contract. Assumes nothing.
 use Rattle.std.proofs.Common.{◌≡◌, refl, length, rules}
 use Rattle.tonekit_core.specs.Calls.{refused}
-use Rattle.tonekit_core.specs.Layout.{refusal_size}
+use Rattle.tonekit_core.specs.declared.layout.TheConstants.{REFUSAL_SIZE}
 use Rattle.tonekit_core.proofs.Calls.{delivers_refused}
 use Rattle.tonekit_report.proofs.Told.{tells}
 use Rattle.tonekit_output.specs.Check.{check_outcome}
@@ -15,7 +15,7 @@ pub returns-in-Err : goal.returns-in-Err
 unfolding check_outcome
 returns-in-Err c =
     let held = c.args.out.now in
-    let room : length held ≡ refusal_size = search rules in
+    let room : length held ≡ REFUSAL_SIZE = search rules in
     rw c.in-Err.is
-    (tells refusal_size (refused _ _) held held _ _ _ room (search rules) tt (delivers_refused held _ _ (refused _ _) refl) c.tell.ensures.0
+    (tells REFUSAL_SIZE (refused _ _) held held _ _ _ room (search rules) tt (delivers_refused held _ _ (refused _ _) refl) c.tell.ensures.0
     c.tell.ensures.1)

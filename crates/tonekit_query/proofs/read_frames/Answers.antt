@@ -1,6 +1,6 @@
 use Rattle.std.proofs.Common.{rules, ℕ, ◌+◌, ◌≡◌, ◌∙◌, ap, Ok, Err, arith}
 use Rattle.tonekit_core.specs.Loop.{next, to_again, to_stop, to_ended}
-use Rattle.tonekit_query.specs.Query.{end_of, frame_turn, fields_of}
+use Rattle.spec_query.specs.Query.{end_of, frame_turn, fields_of}
 use Rattle.tonekit_query.proofs.read_frames.Goals as goal
 
 pub returns-in-Err : goal.returns-in-Err

@@ -1,7 +1,7 @@
 -- What is left of the loop, from here, gives what the whole gives.
 use Rattle.std.proofs.Common.{◌≡◌}
 use Rattle.tonekit_core.specs.Loop.{range}
-use Rattle.tonekit_score.specs.Score.{zero64, square_turn}
+use Rattle.spec_judgement.specs.Score.{zero64, square_turn}
 use Rattle.tonekit_score.proofs.squares_of.Given as goal
 
 abbrev pub invariant-loop-k : goal.invariant-loop-k

@@ -1,6 +1,6 @@
 use Rattle.std.proofs.Common.{◌≡◌}
 use Rattle.tonekit_core.specs.Loop.{range}
-use Rattle.tonekit_shape.specs.Extract.{zero32, frames_in, confidence_turn}
+use Rattle.spec_shape.specs.Extract.{zero32, frames_in, confidence_turn}
 use Rattle.tonekit_shape.proofs.confidence_of.Given as goal
 
 abbrev pub invariant-loop-j : goal.invariant-loop-j

@@ -1,6 +1,6 @@
 use Rattle.std.proofs.Common.{◌≡◌}
 use Rattle.tonekit_core.specs.Loop.{range}
-use Rattle.tonekit_shape.specs.Extract.{zero32, add_turn}
+use Rattle.spec_shape.specs.Extract.{zero32, add_turn}
 use Rattle.tonekit_shape.proofs.mean_of.Given as goal
 
 abbrev pub invariant-loop-x : goal.invariant-loop-x

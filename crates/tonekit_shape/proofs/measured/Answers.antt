@@ -1,7 +1,7 @@
 use Rattle.std.proofs.Common.{rules, ap, ◌∙◌}
 use Rattle.std.proofs.lemmas.List.{map-id}
 use Rattle.std.specs.Float.{binary32}
-use Rattle.tonekit_contour.specs.Range.{range_in}
+use Rattle.spec_shape.specs.Range.{range_in}
 use Rattle.tonekit_shape.proofs.Built.{built}
 use Rattle.tonekit_shape.proofs.measured.Goals as goal
 

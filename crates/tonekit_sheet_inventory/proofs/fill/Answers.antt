@@ -1,7 +1,7 @@
 -- `fill` meets its contract: as many components as turns are passed stand in their slots.
 use Rattle.std.proofs.Common.{rules, ℕ, ◌*◌, ◌+◌, ◌-◌, ◌≤◌, ◌<◌, ◌≡◌, ◌∙◌, ap, List, drop, arith, length, length-drop, length-take-le, length-set}
-use Rattle.tonekit_bytes.specs.Fields.{byte_at}
-use Rattle.tonekit_judge.specs.declared.Slot.{Slot}
+use Rattle.spec_arithmetic.specs.Fields.{byte_at}
+use Rattle.spec_judgement.specs.declared.Slot.{Slot}
 use Rattle.tonekit_inventory.proofs.Slots.{about_whole, about_set}
 use Rattle.tonekit_sheet_inventory.proofs.Slots.{put_none, put_one}
 use Rattle.tonekit_sheet_inventory.proofs.fill.Goals as goal

@@ -1,9 +1,9 @@
 use Rattle.std.proofs.Common.{◌≡◌, ◌+◌, ◌-◌, ◌*◌, length}
-use Rattle.tonekit_bytes.specs.Fields.{byte_at}
-use Rattle.tonekit_judge.specs.declared.Slots.{Slots}
-use Rattle.tonekit_inventory.specs.Gather.{put_in}
+use Rattle.spec_arithmetic.specs.Fields.{byte_at}
+use Rattle.spec_judgement.specs.declared.Slots.{Slots}
+use Rattle.spec_judgement.specs.Gather.{put_in}
 use Rattle.tonekit_inventory.proofs.Slots.{about}
-use Rattle.tonekit_sheet.specs.FromSheet.{carried_from}
+use Rattle.spec_sheet.specs.FromSheet.{carried_from}
 use Rattle.tonekit_sheet_inventory.proofs.fill.Given as goal
 
 abbrev pub invariant-loop-j : goal.invariant-loop-j

@@ -1,6 +1,6 @@
 use Rattle.std.proofs.Common.{◌≡◌, ◌<◌, ◌+◌, ◌*◌, ℕ, length, get_or}
 use lib.Ieee.{nan}
-use Rattle.tonekit_bytes.specs.Fields.{f32_at}
+use Rattle.spec_arithmetic.specs.Fields.{f32_at}
 use Rattle.tonekit_sheet_inventory.proofs.ten_at.Given as goal
 
 abbrev pub invariant-loop-k : goal.invariant-loop-k

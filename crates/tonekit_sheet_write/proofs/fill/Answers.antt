@@ -1,7 +1,7 @@
-use Rattle.tonekit_bytes.specs.Places.{in_order}
+use Rattle.spec_arithmetic.specs.Places.{in_order}
 use Rattle.tonekit_bytes.proofs.InOrder.{order_length}
 use Rattle.tonekit_pack.specs.Held.{shown}
-use Rattle.tonekit_sheet.specs.Gather.{Wrote}
+use Rattle.spec_sheet.specs.Pieces.{Wrote}
 use Rattle.tonekit_sheet_plan.specs.Plans.{planned_by}
 use Rattle.tonekit_sheet_write.specs.Pieces.{tone_made, accent_made, records_part}
 use Rattle.tonekit_sheet_write.proofs.Bytes.{wrote_size}

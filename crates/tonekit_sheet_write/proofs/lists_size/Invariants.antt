@@ -1,5 +1,5 @@
 use Rattle.std.proofs.Common.{◌+◌, ◌*◌, ◌≤◌, ◌≡◌, length}
-use Rattle.tonekit_sheet.specs.Gather.{gather}
+use Rattle.spec_sheet.specs.Pieces.{gather}
 use Rattle.tonekit_sheet_plan.specs.Plans.{planned_by}
 use Rattle.tonekit_sheet_write.specs.Pieces.{list_most, planned_list, lists_part}
 use Rattle.tonekit_sheet_write.proofs.lists_size.Given as goal

@@ -1,9 +1,9 @@
 -- `judge_gathered` meets its contract, by the ways through its code.
 use Rattle.std.proofs.Common.{◌≡◌, sym, ap, ◌∙◌, arith, ℕ}
-use Rattle.tonekit_judge.specs.Record.{judgement_bytes}
+use Rattle.spec_judgement.specs.Record.{judgement_bytes}
 use Rattle.tonekit_core.proofs.Calls.{delivers_refused, delivers_same}
-use Rattle.tonekit_query.specs.Query.{frames_of}
-use Rattle.tonekit_shape.specs.Extract.{extent_of}
+use Rattle.spec_query.specs.Query.{frames_of}
+use Rattle.spec_shape.specs.Extract.{extent_of}
 use Rattle.tonekit_station.proofs.Ways.{enough_voiced, turned_back_lem, target_loose, target_held}
 use Rattle.tonekit_station.proofs.judge_gathered.Goals as goal
 use Rattle.tonekit_station.proofs.judge_gathered.Goals.{After-voiced_frames-e}

@@ -4,10 +4,10 @@ use Rattle.std.specs.Prelude.{Result, Err}
 use Rattle.tonekit_core.specs.declared.Rejection.{Rejection}
 use Rattle.tonekit_core.proofs.Calls.{delivers_refused, delivers_same}
 use Rattle.tonekit_query.proofs.Laws.{load_reads, read_holds}
-use Rattle.tonekit_expect.specs.Source.{Source}
-use Rattle.tonekit_expect.specs.declared.Context.{Context}
-use Rattle.tonekit_inventory.specs.Gather.{Gathering, gathered}
-use Rattle.tonekit_station.specs.Judgement.{judge_gathered, on_held}
+use Rattle.spec_lookup.specs.Source.{Source}
+use Rattle.spec_lookup.specs.declared.Context.{Context}
+use Rattle.spec_judgement.specs.Gather.{Gathering, gathered}
+use Rattle.spec_judgement.specs.Judgement.{judge_gathered, on_held}
 use Rattle.tonekit_station.proofs.Ways.{query_good, query_bad}
 use Rattle.tonekit_station.proofs.judge_held.Goals as goal
 

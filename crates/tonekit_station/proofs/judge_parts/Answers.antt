@@ -1,8 +1,8 @@
 -- `judge_parts` meets its contract: the parts that are lent are what is held and the query.
 use Rattle.std.proofs.Common.{◌∙◌, ap, List, ℕ}
 use Rattle.tonekit_core.proofs.Calls.{delivers_same}
-use Rattle.tonekit_input.specs.Input.{query_of}
-use Rattle.tonekit_station.specs.Judgement.{on_held}
+use Rattle.spec_judgement.specs.Input.{query_of}
+use Rattle.spec_judgement.specs.Judgement.{on_held}
 use Rattle.tonekit_station.proofs.judge_parts.Goals as goal
 
 pub returns : goal.returns

@@ -1,6 +1,6 @@
 -- `judge_sheet_input` meets its contract: what a sheet holds is judged.
 use Rattle.tonekit_core.proofs.Calls.{delivers_same}
-use Rattle.tonekit_input.specs.Input.{held_of, query_of}
+use Rattle.spec_judgement.specs.Input.{held_of, query_of}
 use Rattle.tonekit_station.proofs.Ways.{sheet_held}
 use Rattle.tonekit_station.proofs.judge_sheet_input.Goals as goal
 

@@ -1,6 +1,6 @@
 use Rattle.std.proofs.Common.{◌≡◌, ◌≤◌}
 use Rattle.tonekit_core.specs.Loop.{range}
-use Rattle.tonekit_target.specs.Target.{zero32, sum_turn}
+use Rattle.spec_judgement.specs.Target.{zero32, sum_turn}
 use Rattle.tonekit_target.proofs.main_weight.Given as goal
 
 abbrev pub invariant-loop-i : goal.invariant-loop-i

@@ -1,6 +1,6 @@
 -- `target_of` meets its contract: the tone is held or it is not.
 use Rattle.std.proofs.Common.{refl, arith}
-use Rattle.tonekit_target.specs.Target.{target_of}
+use Rattle.spec_judgement.specs.Target.{target_of}
 use Rattle.tonekit_target.proofs.target_of.Goals as goal
 
 pub returns-in_err-place : goal.returns-in_err-place

@@ -1,6 +1,6 @@
 use Rattle.std.proofs.Common.{◌≡◌, ◌≤◌}
 use Rattle.tonekit_core.specs.Loop.{range}
-use Rattle.tonekit_target.specs.Target.{weight_turn, weights_fine}
+use Rattle.spec_judgement.specs.Target.{weight_turn, weights_fine}
 use Rattle.tonekit_target.proofs.weights_fine.Given as goal
 
 abbrev pub invariant-loop-i : goal.invariant-loop-i

@@ -1,6 +1,6 @@
 use Rattle.std.proofs.Common.{◌≡◌, ◌+◌, ◌≤◌}
 use Rattle.tonekit_core.specs.Loop.{range}
-use Rattle.tonekit_window.specs.Window.{count_turn, voiced_in}
+use Rattle.spec_shape.specs.Window.{count_turn, voiced_in}
 use Rattle.tonekit_window.proofs.voiced_in.Given as goal
 
 abbrev pub invariant-loop-j : goal.invariant-loop-j

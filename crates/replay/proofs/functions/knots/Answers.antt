@@ -1,7 +1,7 @@
 -- `knots` meets its contract: each number stored is a knot. Assumes nothing.
 use Rattle.std.proofs.Common.{◌≡◌, ℕ, ◌+◌, ◌<◌, List, length, get_or, set, ◌∙◌, arith, length-set, get_or-set_other, get_or-set_same, below_more, Float}
 use lib.Ieee.{nan}
-use Rattle.tonekit_expect.specs.Knots.{Knot}
+use Rattle.spec_lookup.specs.Knots.{Knot}
 use Rattle.replay.proofs.functions.knots.Goals as goal
 
 stored : (l : List Float) (i : ℕ) (x : Float) → i < 10 → (length l ≡ 10) × ((k : ℕ) → k < i → Knot (get_or l k nan)) → Knot x

@@ -1,7 +1,7 @@
 -- The numbers stored so far are knots.
 use Rattle.std.proofs.Common.{◌≡◌, ℕ, ◌<◌, length, get_or}
 use lib.Ieee.{nan}
-use Rattle.tonekit_expect.specs.Knots.{Knot}
+use Rattle.spec_lookup.specs.Knots.{Knot}
 use Rattle.replay.proofs.functions.knots.Given as goal
 
 abbrev pub invariant-loop-i : goal.invariant-loop-i

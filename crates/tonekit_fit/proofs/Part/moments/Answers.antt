@@ -1,8 +1,8 @@
 -- `moments` meets its contract.
 use Rattle.std.proofs.Common.{ℕ, rules, Float}
 use lib.Ieee.{binary64, sub}
-use Rattle.tonekit_fit.specs.declared.Moments.{Moments}
-use Rattle.tonekit_fit.specs.Fit.{fraction, point_added, moments_of}
+use Rattle.spec_shape.specs.declared.Moments.{Moments}
+use Rattle.spec_shape.specs.Fit.{fraction, point_added, moments_of}
 use Rattle.tonekit_fit.proofs.Part.moments.Goals as goal
 
 pub returns : goal.returns

@@ -1,6 +1,6 @@
 use Rattle.std.proofs.Common.{◌≡◌, ◌<◌, ◌^◌, ℕ, length, Float}
 use Rattle.tonekit_core.specs.Loop.{range}
-use Rattle.tonekit_fit.specs.Fit.{voiced_step, walk}
+use Rattle.spec_shape.specs.Fit.{voiced_step, walk}
 use Rattle.tonekit_fit.specs.Lent.{part_of}
 use Rattle.tonekit_fit.proofs.Part.over_voiced.Given as goal
 

@@ -1,7 +1,7 @@
 -- `sum_fractions` meets its contract.
 use Rattle.std.proofs.Common.{ℕ, rules, Float}
 use lib.Ieee.{binary64, add}
-use Rattle.tonekit_fit.specs.Fit.{fraction}
+use Rattle.spec_shape.specs.Fit.{fraction}
 use Rattle.tonekit_fit.proofs.Part.sum_fractions.Goals as goal
 
 pub returns : goal.returns

@@ -1,6 +1,6 @@
 -- `sum_points` meets its contract: its walk keeps two sums.
 use Rattle.std.proofs.Common.{◌∙◌, rules}
-use Rattle.tonekit_fit.specs.Fit.{seconds}
+use Rattle.spec_shape.specs.Fit.{seconds}
 use Rattle.tonekit_fit.specs.Lent.{part_of}
 use Rattle.tonekit_fit.proofs.Pairs.{both, pair_walk}
 use Rattle.tonekit_fit.proofs.Part.sum_points.Goals as goal

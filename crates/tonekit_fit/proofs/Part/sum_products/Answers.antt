@@ -1,7 +1,7 @@
 -- `sum_products` meets its contract: its walk keeps two sums.
 use Rattle.std.proofs.Common.{ℕ, ◌∙◌, rules, Float}
 use lib.Ieee.{binary64, sub, mul}
-use Rattle.tonekit_fit.specs.Fit.{seconds, square}
+use Rattle.spec_shape.specs.Fit.{seconds, square}
 use Rattle.tonekit_fit.specs.Lent.{part_of}
 use Rattle.tonekit_fit.proofs.Pairs.{both, pair_walk}
 use Rattle.tonekit_fit.proofs.Part.sum_products.Goals as goal

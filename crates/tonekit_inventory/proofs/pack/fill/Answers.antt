@@ -1,6 +1,6 @@
 -- `fill` meets its contract: as many components as turns are passed stand in their slots.
 use Rattle.std.proofs.Common.{rules, ◌*◌, ◌+◌, ◌-◌, ◌≤◌, ◌<◌, ◌≡◌, ◌∙◌, ap, List, drop, arith, length, length-drop, length-take-le, length-set}
-use Rattle.tonekit_judge.specs.declared.Slot.{Slot}
+use Rattle.spec_judgement.specs.declared.Slot.{Slot}
 use Rattle.tonekit_inventory.proofs.Slots.{put_none, put_one, about_whole, about_set}
 use Rattle.tonekit_inventory.proofs.pack.fill.Goals as goal
 

@@ -1,7 +1,7 @@
 use Rattle.std.proofs.Common.{◌≡◌, ◌+◌, ◌-◌, ◌*◌, length}
-use Rattle.tonekit_expect.specs.Source.{components}
-use Rattle.tonekit_judge.specs.declared.Slots.{Slots}
-use Rattle.tonekit_inventory.specs.Gather.{put_in}
+use Rattle.spec_lookup.specs.Source.{components}
+use Rattle.spec_judgement.specs.declared.Slots.{Slots}
+use Rattle.spec_judgement.specs.Gather.{put_in}
 use Rattle.tonekit_inventory.proofs.Slots.{about}
 use Rattle.tonekit_inventory.proofs.pack.fill.Given as goal
 

@@ -1,7 +1,7 @@
 -- `logliks` meets its contract: a turn of the loop is a turn of the definition.
 use Rattle.std.proofs.Common.{rules, refl}
 use Rattle.tonekit_core.specs.Loop.{again, ended}
-use Rattle.tonekit_judge.specs.Judge.{logliks}
+use Rattle.spec_judgement.specs.Judge.{logliks}
 use Rattle.tonekit_judge.proofs.Components.logliks.Goals as goal
 
 pub loop-t-init : goal.loop-t-init

@@ -1,7 +1,7 @@
 -- What is left of the loop, from here, gives what the whole gives.
 use Rattle.std.proofs.Common.{◌≡◌, length}
 use Rattle.tonekit_core.specs.Loop.{range}
-use Rattle.tonekit_judge.specs.Judge.{cell, loglik_turn, logliks}
+use Rattle.spec_judgement.specs.Judge.{cell, loglik_turn, logliks}
 use Rattle.tonekit_judge.proofs.Components.logliks.Given as goal
 
 abbrev pub invariant-loop-t : goal.invariant-loop-t

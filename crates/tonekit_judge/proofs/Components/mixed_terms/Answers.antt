@@ -1,9 +1,9 @@
 -- `mixed_terms` meets its contract: a turn of the loop is a turn of the mixture, whether its term counts or not.
 use Rattle.std.proofs.Common.{rules, ◌+◌, ◌*◌, Option, refl, sym, ap, ◌∙◌}
 use Rattle.tonekit_core.specs.Loop.{again, ended}
-use Rattle.tonekit_score.specs.Score.{mixed}
-use Rattle.tonekit_score.specs.declared.Term.{Term}
-use Rattle.tonekit_judge.specs.Judge.{cell}
+use Rattle.spec_judgement.specs.Score.{mixed}
+use Rattle.spec_judgement.specs.declared.Term.{Term}
+use Rattle.spec_judgement.specs.Judge.{cell}
 use Rattle.tonekit_judge.specs.Terms.{either_turn, mixed_terms}
 use Rattle.tonekit_judge.proofs.Terms.{mix_in, one_term}
 use Rattle.tonekit_judge.proofs.Components.mixed_terms.Goals as goal

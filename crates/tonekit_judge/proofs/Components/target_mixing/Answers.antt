@@ -1,7 +1,7 @@
 -- `target_mixing` meets its contract: a turn of the loop is a turn of the mixture.
 use Rattle.std.proofs.Common.{rules, refl}
 use Rattle.tonekit_core.specs.Loop.{again, ended}
-use Rattle.tonekit_judge.specs.Judge.{target_mixing}
+use Rattle.spec_judgement.specs.Judge.{target_mixing}
 use Rattle.tonekit_judge.proofs.Components.target_mixing.Goals as goal
 
 pub loop-target-preserved : goal.loop-target-preserved

@@ -1,8 +1,8 @@
 -- What is left of the loop, from here, gives what the whole gives.
 use Rattle.std.proofs.Common.{◌≡◌, length}
 use Rattle.tonekit_core.specs.Loop.{range}
-use Rattle.tonekit_score.specs.Score.{no_mixing}
-use Rattle.tonekit_judge.specs.Judge.{cell, target_turn}
+use Rattle.spec_judgement.specs.Score.{no_mixing}
+use Rattle.spec_judgement.specs.Judge.{cell, target_turn}
 use Rattle.tonekit_judge.proofs.Components.target_mixing.Given as goal
 
 abbrev pub invariant-loop-target : goal.invariant-loop-target

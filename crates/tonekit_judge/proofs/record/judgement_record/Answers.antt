@@ -1,6 +1,6 @@
 -- `judgement_record` meets its contract, call by call.
 use Rattle.std.proofs.Common.{◌≡◌, ◌∙◌, rules, length}
-use Rattle.tonekit_judge.specs.Record.{judgement_bytes}
+use Rattle.spec_judgement.specs.Record.{judgement_bytes}
 use Rattle.tonekit_judge.proofs.Parts.{record_length, whole}
 use Rattle.tonekit_judge.proofs.record.judgement_record.Goals as goal
 

@@ -1,7 +1,7 @@
 use Rattle.std.proofs.Common.{◌≡◌, length}
 use Rattle.tonekit_core.specs.Loop.{range}
-use Rattle.tonekit_fit.specs.Chao.{width_of}
-use Rattle.tonekit_shape.specs.Extract.{chao_turn, chao_curve}
+use Rattle.spec_shape.specs.Chao.{width_of}
+use Rattle.spec_shape.specs.Extract.{chao_turn, chao_curve}
 use Rattle.tonekit_shape.proofs.curve.chao.Given as goal
 
 abbrev pub invariant-loop-value : goal.invariant-loop-value

@@ -1,7 +1,7 @@
 -- What is left of the loop, from here, over the gap between what stands before and behind it, gives what the whole gives.
 use Rattle.std.proofs.Common.{◌≡◌, ◌+◌, ◌-◌, length}
 use Rattle.tonekit_core.specs.Loop.{range}
-use Rattle.tonekit_shape.specs.Extract.{fill_turn, gap_filled}
+use Rattle.spec_shape.specs.Extract.{fill_turn, gap_filled}
 use Rattle.tonekit_shape.proofs.Gap.{joined}
 use Rattle.tonekit_shape.proofs.curve.fill_gap.Given as goal
 

@@ -1,6 +1,6 @@
 use Rattle.std.proofs.Common.{ap, rules}
 use Rattle.tonekit_core.specs.Loop.{ended}
-use Rattle.tonekit_shape.specs.Extract.{holes_filled, Filled}
+use Rattle.spec_shape.specs.Extract.{holes_filled, Filled}
 use Rattle.tonekit_shape.proofs.curve.fill_holes.Goals as goal
 
 pub returns : goal.returns

@@ -1,6 +1,6 @@
 use Rattle.std.proofs.Common.{eq-eqb, ne_eqb}
 use lib.Ieee.{of_int, of_bits}
-use Rattle.tonekit_shape.specs.Extract.{mean_with}
+use Rattle.spec_shape.specs.Extract.{mean_with}
 use Rattle.tonekit_shape.proofs.curve.mean_with.Goals as goal
 
 pub returns-then-j-eq0 : goal.returns-then-j-eq0

@@ -1,6 +1,6 @@
 use Rattle.std.proofs.Common.{◌≡◌, length}
 use Rattle.tonekit_core.specs.Loop.{range}
-use Rattle.tonekit_shape.specs.Extract.{semitone_turn, semitones}
+use Rattle.spec_shape.specs.Extract.{semitone_turn, semitones}
 use Rattle.tonekit_shape.proofs.curve.semitones.Given as goal
 
 abbrev pub invariant-loop-j : goal.invariant-loop-j

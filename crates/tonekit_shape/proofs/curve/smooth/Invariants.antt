@@ -1,6 +1,6 @@
 use Rattle.std.proofs.Common.{◌≡◌, ◌-◌, ◌≤◌, length, get_or}
 use lib.Ieee.{nan}
-use Rattle.tonekit_shape.specs.Extract.{smoothed_at}
+use Rattle.spec_shape.specs.Extract.{smoothed_at}
 use Rattle.tonekit_shape.proofs.Fill.{Listed}
 use Rattle.tonekit_shape.proofs.curve.smooth.Given as goal
 

@@ -1,7 +1,7 @@
 -- A search finds a tone that is held.
 use Rattle.std.proofs.Common.{refl, sym}
 use Rattle.tonekit_sheet_read.specs.Held.{shown}
-use Rattle.tonekit_sheet.specs.FromSheet.{tone_at, source_of_sheet}
+use Rattle.spec_sheet.specs.FromSheet.{tone_at, source_of_sheet}
 use Rattle.tonekit_inventory.proofs.Search.{tone_held}
 use Rattle.tonekit_sheet_inventory.proofs.HeldSheetHeld.holds_tone.Goals as goal
 

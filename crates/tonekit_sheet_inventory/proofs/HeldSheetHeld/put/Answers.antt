@@ -1,7 +1,7 @@
 -- What a lookup in a sheet lists stands in its slots after.
 use Rattle.std.proofs.Common.{refl, sym, arith}
-use Rattle.tonekit_sheet.specs.FromSheet.{source_of_sheet}
-use Rattle.tonekit_inventory.specs.Gather.{put_in}
+use Rattle.spec_sheet.specs.FromSheet.{source_of_sheet}
+use Rattle.spec_judgement.specs.Gather.{put_in}
 use Rattle.tonekit_sheet_inventory.specs.Look.{ShortList, name_at}
 use Rattle.tonekit_sheet_inventory.proofs.Slots.{list_named}
 use Rattle.tonekit_sheet_inventory.proofs.HeldSheetHeld.put.Goals as goal

@@ -1,6 +1,6 @@
 use Rattle.std.proofs.Common.{add-zero, ◌≡◌, sym, ◌∙◌, ap, eq-eqb, ne_eqb}
-use Rattle.tonekit_core.specs.Layout.{rule_kind}
-use Rattle.tonekit_bytes.specs.Fields.{byte_at}
+use Rattle.tonekit_core.specs.declared.layout.TheConstants.{RULE_KIND}
+use Rattle.spec_arithmetic.specs.Fields.{byte_at}
 use Rattle.tonekit_sheet_plan.specs.Listings.{listing_from}
 use Rattle.tonekit_sheet_plan.proofs.Entry.listing.Goals as goal
 use Rattle.tonekit_sheet_plan.proofs.Entry.listing.Goals.{After-byte_at}
@@ -19,4 +19,4 @@ pub returns : goal.returns
 unfolding listing_from
 returns c =
     let k = kind (goal.at.returns c).After-byte_at in
-    rw (ne_eqb (byte_at c.args.s.now c.args.self.at) rule_kind (λ e. c.if-byte_at-eq-RULE_KIND.false (k ∙ e)), ← c.from-o.ensures) c.citation.ensures
+    rw (ne_eqb (byte_at c.args.s.now c.args.self.at) RULE_KIND (λ e. c.if-byte_at-eq-RULE_KIND.false (k ∙ e)), ← c.from-o.ensures) c.citation.ensures

@@ -1,5 +1,5 @@
 use Rattle.std.proofs.Common.{◌≡◌, length}
-use Rattle.tonekit_sheet.specs.Number.{same_numbers}
+use Rattle.spec_sheet.specs.Number.{same_numbers}
 use Rattle.tonekit_sheet_plan.proofs.Alike.{bits}
 use Rattle.tonekit_sheet_plan.proofs.curves.same_points.Given as goal
 

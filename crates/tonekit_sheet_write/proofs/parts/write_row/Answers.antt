@@ -1,7 +1,7 @@
 use Rattle.std.proofs.Common.{refl, ◌∙◌, ap, List, ℕ}
-use Rattle.tonekit_bytes.specs.Places.{in_order}
-use Rattle.tonekit_expect.specs.Source.{given}
-use Rattle.tonekit_sheet.specs.Number.{number_in}
+use Rattle.spec_arithmetic.specs.Places.{in_order}
+use Rattle.spec_lookup.specs.Source.{given}
+use Rattle.spec_sheet.specs.Number.{number_in}
 use Rattle.tonekit_sheet_plan.specs.Plans.{planned_by}
 use Rattle.tonekit_sheet_write.proofs.Bytes.{wrote_part, wrote_as, row_is}
 use Rattle.tonekit_sheet_write.proofs.parts.write_row.Goals as goal

@@ -1,5 +1,5 @@
 use Rattle.std.proofs.Common.{rules, arith, ◌≡◌, length}
-use Rattle.tonekit_expect.specs.Source.{carried}
+use Rattle.spec_lookup.specs.Source.{carried}
 use Rattle.tonekit_sheet_write.proofs.Bytes.{bits_floats}
 use Rattle.tonekit_sheet_write.proofs.records.put_component.Goals as goal
 use Rattle.tonekit_sheet_write.proofs.records.put_component.Goals.{Start}

@@ -1,5 +1,5 @@
 use Rattle.std.proofs.Common.{sym, ◌∙◌, ap, arith}
-use Rattle.tonekit_float.specs.Whole.{whole_part}
+use Rattle.spec_arithmetic.specs.Whole.{whole_part}
 use Rattle.tonekit_float.proofs.Whole.{part_whole}
 use Rattle.tonekit_window.proofs.Walk.{step_whole}
 use Rattle.tonekit_window.proofs.Curve.step.Goals as goal

@@ -1,10 +1,10 @@
 use Rattle.std.proofs.Common.{rules, ◌≡◌, sym, ◌∙◌, ap, subst, ℕ, ◌-◌, ◌≤◌, ◌<◌, min, le-leb}
 use borrow.Author.Tests.{lt-leb}
 use lib.Ieee.{binary64, add, sub}
-use Rattle.tonekit_float.specs.Whole.{whole_part, round_up}
-use Rattle.tonekit_window.specs.declared.Span.{Span}
-use Rattle.tonekit_window.specs.declared.FrameRange.{FrameRange}
-use Rattle.tonekit_window.specs.Window.{edge, span_at, rounded, nearest, low_frame, high_frame, frames_at, Frame}
+use Rattle.spec_arithmetic.specs.Whole.{whole_part, round_up}
+use Rattle.spec_shape.specs.declared.Span.{Span}
+use Rattle.spec_shape.specs.declared.FrameRange.{FrameRange}
+use Rattle.spec_shape.specs.Window.{edge, span_at, rounded, nearest, low_frame, high_frame, frames_at, Frame}
 use Rattle.tonekit_window.proofs.Within.{frame, low_lt, high_from, high_lt, position_frame}
 use Rattle.tonekit_window.proofs.Point.frames.Goals as goal
 

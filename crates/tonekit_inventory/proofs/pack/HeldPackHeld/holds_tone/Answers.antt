@@ -1,7 +1,7 @@
 -- A search finds a tone that is held.
 use Rattle.std.proofs.Common.{refl, sym}
 use Rattle.tonekit_pack.specs.Held.{shown}
-use Rattle.tonekit_expect.specs.Source.{tone_at, source_of_pack}
+use Rattle.spec_lookup.specs.Source.{tone_at, source_of_pack}
 use Rattle.tonekit_inventory.proofs.Search.{tone_held}
 use Rattle.tonekit_inventory.proofs.pack.HeldPackHeld.holds_tone.Goals as goal
 

@@ -1,7 +1,7 @@
 -- What a lookup in a pack lists stands in its slots after.
 use Rattle.std.proofs.Common.{refl, sym, ◌∙◌, arith}
-use Rattle.tonekit_expect.specs.Source.{source_of_pack}
-use Rattle.tonekit_inventory.specs.Gather.{put_in}
+use Rattle.spec_lookup.specs.Source.{source_of_pack}
+use Rattle.spec_judgement.specs.Gather.{put_in}
 use Rattle.tonekit_inventory.specs.OfPack.{Short}
 use Rattle.tonekit_inventory.proofs.Few.{looked}
 use Rattle.tonekit_inventory.proofs.Tones.{listing_named}

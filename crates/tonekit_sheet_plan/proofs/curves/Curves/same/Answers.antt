@@ -1,6 +1,6 @@
 use Rattle.std.proofs.Common.{rules, ℕ, arith, ◌≡◌, sym, ◌∙◌, ap}
-use Rattle.tonekit_expect.specs.Source.{components}
-use Rattle.tonekit_sheet.specs.Number.{same}
+use Rattle.spec_lookup.specs.Source.{components}
+use Rattle.spec_sheet.specs.Number.{same}
 use Rattle.tonekit_sheet_plan.proofs.Alike.{same_first, counts_differ, first_none, first_on, first_off}
 use Rattle.tonekit_sheet_plan.proofs.curves.Curves.same.Goals as goal
 

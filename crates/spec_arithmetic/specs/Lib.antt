@@ -1,0 +1,15 @@
+pub mod Fields
+pub mod Places
+pub mod Pick
+pub mod Narrow
+pub mod Magnitude
+pub mod Whole
+pub mod Bounds
+pub mod Position
+pub mod Constants
+pub mod Log
+pub mod Exp
+pub mod Root
+pub mod Cases
+pub mod LogBench
+pub mod RootBench

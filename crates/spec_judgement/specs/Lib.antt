@@ -1,0 +1,16 @@
+pub mod Input
+pub mod Fields
+pub mod Score
+pub mod Deltas
+pub mod Judge
+pub mod Target
+pub mod Gather
+pub mod Record
+pub mod Judgement
+pub mod ScoreBench
+pub mod DeltasBench
+pub mod JudgeBench
+pub mod TargetBench
+pub mod GatherBench
+pub mod InputBench
+pub mod Bench

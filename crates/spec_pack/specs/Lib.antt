@@ -1,0 +1,3 @@
+pub mod Ranges
+pub mod Pack
+pub mod Bench

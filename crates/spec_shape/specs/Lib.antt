@@ -1,0 +1,11 @@
+pub mod Chao
+pub mod Fit
+pub mod Window
+pub mod Range
+pub mod Turning
+pub mod Extract
+pub mod Record
+pub mod FitBench
+pub mod WindowBench
+pub mod TurningBench
+pub mod ShapeBench

@@ -1,0 +1,10 @@
+pub mod Number
+pub mod Pieces
+pub mod Sheet
+pub mod Reader
+pub mod FromSheet
+pub mod Agree
+pub mod Outcome
+pub mod JudgeSheet
+pub mod Bench
+pub mod Written
