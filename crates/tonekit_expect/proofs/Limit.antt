@@ -2,7 +2,8 @@
 -- and where parents stand earlier, every chain ends (`earlier_ends`).
 use Rattle.std.proofs.Common.{ℕ, zero, suc, ◌+◌, ◌-◌, ◌≤◌, ◌<◌, ◌≡◌, refl, sym, ◌∙◌, ap, subst, ⊎_elim, cond, List, arith, sub-one, eqb, ltb, length, get_or, eqb-true, ltb-true, ltb-false, eq-eqb}
 use borrow.Author.Tests.{eqb-false}
-use Rattle.tonekit_core.specs.Loop.{range_to, to_again, to_stop, loop_to, loop_again, loop_stop}
+use Rattle.tonekit_core.specs.Loop.{range_to, loop_to, loop_stop}
+use Rattle.tonekit_core.proofs.LoopLaws.{to_again, to_stop, loop_again}
 use Rattle.tonekit_bytes.specs.Fields.{byte_at}
 use Rattle.tonekit_bytes.specs.Places.{index_turn, index_of, number_at}
 use Rattle.tonekit_pack.specs.Pack.{Pst, loaded, read_pack}

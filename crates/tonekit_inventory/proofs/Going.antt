@@ -1,7 +1,8 @@
 -- The loop over the tones of whatever a station holds: from each tone on the definition gives what it gives of the whole. Assumes nothing.
 use Rattle.std.specs.Prelude.{Option, Some, None}
 use Rattle.std.proofs.Common.{ℕ, zero, suc, ◌+◌, ◌≤◌, ◌<◌, ◌≡◌, refl, List, [], ◌∷◌, ◌++◌, map, length, length-append, get_or, arith, ltb, lt-ltb, true}
-use Rattle.tonekit_core.specs.Loop.{range, again, ended}
+use Rattle.tonekit_core.specs.Loop.{range}
+use Rattle.tonekit_core.proofs.LoopLaws.{again, ended}
 use Rattle.tonekit_expect.specs.Source.{Carried, Source}
 use Rattle.tonekit_expect.specs.declared.Context.{Context}
 use Rattle.tonekit_judge.specs.declared.ToneEntry.{ToneEntry}

@@ -1,6 +1,7 @@
 -- What the reader's loop keeps: from here it gives what it gives of the whole, and its place is near enough for a u16. Assumes nothing.
 use Rattle.std.proofs.Common.{ℕ, ◌+◌, ◌-◌, ◌<◌, ◌≡◌, refl, List, arith, length, length-append, ltb, ne_eqb}
-use Rattle.tonekit_core.specs.Loop.{loop_again, loop_stop}
+use Rattle.tonekit_core.specs.Loop.{loop_stop}
+use Rattle.tonekit_core.proofs.LoopLaws.{loop_again}
 use Rattle.tonekit_core.specs.declared.Refusal.TheVariants.{CutShort}
 use Rattle.std.specs.Prelude.{Result, Ok, Err}
 use Rattle.tonekit_bytes.specs.Fields.{byte_at}

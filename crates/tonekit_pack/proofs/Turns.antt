@@ -1,7 +1,8 @@
 -- The reader's turns: where the reading goes on to a pack's end, each record passes; and the limit of turns never ends the reading. Assumes nothing.
 use Rattle.std.proofs.Common.{ℕ, zero, suc, ◌+◌, ◌-◌, ◌≤◌, ◌<◌, ◌≡◌, refl, sym, ◌∙◌, List, arith, length, eqb, ne_eqb, eqb-true}
 use borrow.Author.Tests.{eqb-false}
-use Rattle.tonekit_core.specs.Loop.{loop_to, loop_again, loop_stop}
+use Rattle.tonekit_core.specs.Loop.{loop_to, loop_stop}
+use Rattle.tonekit_core.proofs.LoopLaws.{loop_again}
 use Rattle.tonekit_core.specs.declared.Refusal.{Refusal}
 use Rattle.tonekit_core.specs.declared.Refusal.TheVariants.{CutShort}
 use Rattle.std.specs.Prelude.{Result, Ok, Err}

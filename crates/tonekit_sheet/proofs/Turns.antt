@@ -6,7 +6,8 @@ use native.Mathlib.Omega.{arith}
 use lib.ListN.{length}
 use lib.Dec.{eqb, ltb}
 use borrow.Author.Tests.{ne_eqb, eqb-true, eqb-false, ltb-false}
-use Rattle.tonekit_core.specs.Loop.{loop_to, loop_on, loop_again, loop_stop}
+use Rattle.tonekit_core.specs.Loop.{loop_to, loop_on, loop_stop}
+use Rattle.tonekit_core.proofs.LoopLaws.{loop_again}
 use Rattle.tonekit_core.specs.declared.Refusal.{Refusal}
 use Rattle.tonekit_core.specs.declared.Refusal.TheVariants.{CutShort, Overrun, Loose, Unordered}
 use Rattle.std.specs.Prelude.{Option, Some, None, Ok, Err}

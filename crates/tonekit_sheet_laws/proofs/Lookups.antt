@@ -2,7 +2,8 @@
 use Rattle.std.proofs.Common.{ℕ, zero, suc, ◌+◌, ◌*◌, ◌≤◌, ◌<◌, ◌≡◌, refl, sym, ap, ◌∙◌, Bool, true, false, List, arith, add-one, eqb, length, get_or, eq-eqb, ne_eqb, eqb-true, Option as Found, Some, None}
 use mathlib.Core.Option.{Option, none, some}
 use borrow.Author.Tests.{eqb-false}
-use Rattle.tonekit_core.specs.Loop.{range_to, to_again, to_stop}
+use Rattle.tonekit_core.specs.Loop.{range_to}
+use Rattle.tonekit_core.proofs.LoopLaws.{to_again, to_stop}
 use Rattle.tonekit_bytes.specs.Fields.{byte_at}
 use Rattle.tonekit_core.proofs.Split.{split}
 use Rattle.tonekit_expect.specs.Source.{Carried, Source}

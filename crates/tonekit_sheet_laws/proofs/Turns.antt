@@ -1,7 +1,8 @@
 -- The reader goes on from one place to the next, record by record. Assumes nothing.
 use Rattle.std.proofs.Common.{ℕ, ◌+◌, ◌-◌, ◌≤◌, ◌<◌, ◌≡◌, refl, sym, ◌∙◌, subst, Bool, true, false, List, arith, length, ne_eqb, le-ltb, Ok}
 use borrow.Author.Tests.{lt-leb}
-use Rattle.tonekit_core.specs.Loop.{loop_to, loop_again, loop_stop}
+use Rattle.tonekit_core.specs.Loop.{loop_to, loop_stop}
+use Rattle.tonekit_core.proofs.LoopLaws.{loop_again}
 use Rattle.tonekit_bytes.specs.Fields.{byte_at}
 use Rattle.tonekit_pack.specs.Pack.{in_turn}
 use Rattle.tonekit_sheet.specs.Reader.{Sst, Out, size_of, due_next, body_verdict, record_verdict, added, finished, record_turn}

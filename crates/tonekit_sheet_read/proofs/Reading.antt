@@ -1,6 +1,7 @@
 -- What the reader's loop keeps: from here it gives what it gives of the whole, and its place is the one that the counts give. Assumes nothing.
 use Rattle.std.proofs.Common.{ℕ, ◌+◌, ◌-◌, ◌*◌, ◌≤◌, ◌<◌, ◌≡◌, refl, List, arith, length, Result, length-append, leb, ltb, ne_eqb, leb-true, leb-false, Ok, Err}
-use Rattle.tonekit_core.specs.Loop.{loop_again, loop_stop}
+use Rattle.tonekit_core.specs.Loop.{loop_stop}
+use Rattle.tonekit_core.proofs.LoopLaws.{loop_again}
 use Rattle.tonekit_core.specs.declared.Refusal.TheVariants.{CutShort}
 use Rattle.tonekit_bytes.specs.Fields.{byte_at}
 use Rattle.tonekit_core.proofs.Split.{split}
