@@ -3,3 +3,4 @@ pub mod LoopLaws
 pub mod Issues
 pub mod Calls
 pub mod Entries
+pub mod Lists

@@ -21,7 +21,7 @@ use Rattle.tonekit_judge.specs.declared.Slot.{Slot}
 use Rattle.tonekit_core.specs.declared.Name.{Name}
 use Rattle.tonekit_judge.proofs.Winner.{winner_among, winner_named}
 use Rattle.tonekit_inventory.specs.Gather.{f32, named_of, slot_of, given_of, listings}
-use Rattle.tonekit_inventory.proofs.Going.{map_at}
+use Rattle.std.proofs.lemmas.List.{get_or-map}
 use Rattle.tonekit_inventory.proofs.Listed.{Entered, components_at, listings_enter, listed_tones}
 use Rattle.tonekit_inventory.proofs.Alike.{Alike, named_count, pack_alike}
 use Rattle.tonekit_sheet_inventory.proofs.Few.{tones_few}
@@ -49,11 +49,8 @@ module _ (src : Source) (few : length src.tones ≤ 8) (alike : (c : Context) (c
     entered : (t : ℕ) → t < length src.tones → Entered no_carried (cs t) t (listings src c)
     entered = listings_enter no_carried src c few (λ t h. (here t).few)
 
-    tones_are : length (listings src c).inventory.items ≡ length src.tones
-    tones_are = listed_tones src c
-
     placed : (g : Targets) → Placed (length src.tones) g → Placed (length (listings src c).inventory.items) g
-    placed g p = rw tones_are p
+    placed g p = rw (listed_tones src c) p
 
   pub source_names : NamesWinner src
   unfolding part_of nearest_at
@@ -63,7 +60,7 @@ module _ (src : Source) (few : length src.tones ≤ 8) (alike : (c : Context) (c
       let a = winner_among l.inventory s (component_at x s l.inventory l.slots) g (placed c g p) ll d2 slot e in
       let n = winner_named x settings t l g issues ok ll d2 slot e in
       let given = cs c a.tone in
-      let listed : a.tone < length src.tones = rw (tones_are c) at a.listed in
+      let listed : a.tone < length src.tones = rw (listed_tones src c) at a.listed in
       let en = entered c a.tone listed in
       let many : count_in (entry_at l.inventory a.tone).listing ≡ length given = ap count_in en.listing ∙ named_count given in
       let has : a.component < length given = omega (arith, a.has, many) in
@@ -88,7 +85,7 @@ module _ (src : Source) (few : length src.tones ≤ 8) (alike : (c : Context) (c
           has = has;
           is = refl;
           weight = ap (λ (y : Slot). y.weight) its_slot;
-          points = λ i h. ap (λ (y : Slot). get_or y.points i nan) its_slot ∙ map_at f32 won.points i 0 nan (omega (arith, u.ten));
+          points = λ i h. ap (λ (y : Slot). get_or y.points i nan) its_slot ∙ get_or-map f32 won.points i 0 nan (omega (arith, u.ten));
         },
         record { nearest = nearest; is = is; owner = ap (λ (n : Name). n.owner) named ∙ sym u.owner; form = ap (λ (n : Name). n.form) named ∙ sym u.form; label = ap (λ (n : Name). n.label) named ∙ sym u.label; part = part },
       )

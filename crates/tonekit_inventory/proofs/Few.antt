@@ -13,7 +13,7 @@ use Rattle.tonekit_expect.specs.declared.Context.{Context}
 use Rattle.tonekit_expect.specs.declared.Listing.{Listing}
 use Rattle.tonekit_expect.specs.Lookup.{Found, Look, to_rule, find_rule, rule_listing, citation, listed, look_at, look_up}
 use Rattle.tonekit_expect.proofs.Walk.{index_found, winner_is}
-use Rattle.tonekit_expect.proofs.Curves.{listed_fine}
+use Rattle.tonekit_expect.proofs.Curves.{listed_fine, rule_fine}
 use Rattle.tonekit_inventory.specs.OfPack.{pack_in, Looked}
 
 pub record Few (l : Listing) : Type 0 where
@@ -26,11 +26,7 @@ module _ (s : List ℕ) (st : Pst) (e : ℕ) (l : Loads s st e) (c : Context) wh
   Parted r = 1 ≤ parts_from 4 s (r + 7)
 
   parted : (i k : ℕ) → k < to_rule st i → Parted (get_or st.rules k 0)
-  parted i k h =
-      (l.kept.rules k
-      (split (ltb (i + 1) (length st.accents))
-      (λ t. let b = firsts_bound s st e l (i + 1) (ltb-true (i + 1) (length st.accents) t) in let g = rw t at h in omega (arith, b, g))
-      (λ t. rw t at h))).some_parts
+  parted i k h = (rule_fine s st e l i k h).some_parts
 
   of_winner : (m : Listing) (i o : ℕ) → i < length st.accents → (w : Option Winner) → find_rule s st c i ≡ w → listed s st c o w ≡ Some m → Few m
   of_winner m i o h (Some w) q g =

@@ -9,6 +9,7 @@ use Rattle.tonekit_pack.specs.Ranges.{above_zero, a_share, weight_fine, knots_fi
 use Rattle.tonekit_bytes.specs.Places.{number_at}
 use Rattle.tonekit_pack.specs.Pack.{Pst, Out, loaded, refused, size_of, holds, zero_or_held, single, settings_verdict, body_verdict, added, start, parts_from, read_pack}
 use Rattle.tonekit_core.proofs.Split.{split, either, neither, both}
+use Rattle.tonekit_core.proofs.Lists.{last_snoc}
 use Rattle.tonekit_pack.proofs.Numbers.{zero_or_before, none_before}
 use Rattle.tonekit_pack.proofs.Each.{Each, each_snoc}
 use Rattle.tonekit_pack.proofs.Records.{Due, settings, tone, accent, rule, part, finish, passed, tone_passed, accent_passed, rule_passed, part_passed, tone_room, accent_room, rule_room, part_room}
@@ -145,10 +146,10 @@ parts_here : (n : ℕ) (s : List ℕ) (o : ℕ) → byte_at s o ≡ 5 → parts_
 unfolding parts_from
 parts_here n s o e = rw (eq-eqb (byte_at s o) 5 e)
 
-parts_over : (n : ℕ) (s : List ℕ) (o : ℕ) → (byte_at s o ≡ 5 → ⊥) → parts_from n s o ≡ 0
+pub parts_miss : (n : ℕ) (s : List ℕ) (o : ℕ) → (byte_at s o ≡ 5 → ⊥) → parts_from n s o ≡ 0
 unfolding parts_from
-parts_over zero s o e = refl
-parts_over (suc n) s o e = rw (ne_eqb (byte_at s o) 5 e)
+parts_miss zero s o e = refl
+parts_miss (suc n) s o e = rw (ne_eqb (byte_at s o) 5 e)
 
 pub parts_few : (n : ℕ) (s : List ℕ) (o : ℕ) → parts_from n s o ≤ n
 unfolding parts_from
@@ -200,7 +201,7 @@ parts_fine (suc n) (suc f) one s at st fin e i l u g h q r =
       unit = λ x y. part_unit s at st body (i ∙ x);
     }))
     (λ b. let k : byte_at s at ≡ 5 → ⊥ = eqb-false (byte_at s at) 5 b in
-    rw (parts_over (suc n) s at k)
+    rw (parts_miss (suc n) s at k)
     (record {
       some = omega (arith, ended_some st.last st.parts l u g k a.passes.due);
       each = λ j y. absurd (omega arith);
@@ -209,11 +210,6 @@ parts_fine (suc n) (suc f) one s at st fin e i l u g h q r =
     }))
 
 -- ---- the rule, with its parts
-
-last_snoc : (os : List ℕ) (o : ℕ) → get_or (os ++ (o ∷ [])) (length (os ++ (o ∷ [])) - 1) 0 ≡ o
-last_snoc os o =
-    let q : length (os ++ (o ∷ [])) - 1 ≡ length os = simp length-append (omega arith) in
-    rw q (get_or-append_seam os o [] 0)
 
 behind : (f : ℕ) (s : List ℕ) (at : ℕ) (st fin : Pst) (e : ℕ) → reads s f (at + size_of 4) (added 4 at st) ≡ loaded fin e
     → PartsFine (eqb (byte_at s (at + 6)) 2) s (at + 7) (parts_from 4 s (at + 7)) 0

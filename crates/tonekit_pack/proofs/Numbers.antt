@@ -5,11 +5,7 @@ use borrow.Author.Tests.{eqb-false}
 use Rattle.tonekit_bytes.specs.Places.{number_at, index_of}
 use Rattle.tonekit_bytes.proofs.Searched.{pick, searched}
 use Rattle.tonekit_pack.specs.Pack.{holds, zero_or_held}
-use Rattle.tonekit_core.proofs.Split.{absurd_bool, either, neither}
-
-or_cond : (b c : Bool) → (b || c) ≡ cond b true c
-or_cond true c = refl
-or_cond false c = refl
+use Rattle.tonekit_core.proofs.Split.{absurd_bool, either, neither, or_cond}
 
 found : (os : List ℕ) (f : Option ℕ) → pick (λ o. true) false os f ≡ is_some f
 found os (Some i) = refl

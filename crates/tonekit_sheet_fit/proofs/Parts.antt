@@ -10,8 +10,8 @@ use Rattle.tonekit_pack.specs.Pack.{Pst, loaded, refused, size_of, body_verdict,
 use Rattle.tonekit_core.proofs.Split.{split}
 use Rattle.tonekit_pack.proofs.Records.{Due, settings, tone, accent, rule, part, finish, part_room}
 use Rattle.tonekit_pack.proofs.Turns.{run, accepted, no_turns}
-use Rattle.tonekit_pack.proofs.Loads.{loads}
-use Rattle.tonekit_expect.proofs.Parts.{parts_hit, parts_miss}
+use Rattle.tonekit_pack.proofs.Loads.{loads, parts_miss}
+use Rattle.tonekit_expect.proofs.Parts.{parts_hit}
 use Rattle.tonekit_sheet_fit.proofs.Budget.{sum_to, sum_same}
 
 -- the parts of rule k, and of all rules

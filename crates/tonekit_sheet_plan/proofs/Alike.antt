@@ -7,6 +7,7 @@ use Rattle.tonekit_expect.specs.declared.Listing.{Listing}
 use Rattle.tonekit_expect.specs.Knots.{first_points}
 use Rattle.tonekit_expect.specs.Lookup.{component_of}
 use Rattle.tonekit_expect.specs.Source.{Carried, carried, components}
+use Rattle.tonekit_expect.proofs.Bound.{length_points}
 use Rattle.tonekit_expect.proofs.Carried.{named, part_number, components_length}
 use Rattle.tonekit_sheet.specs.Number.{same_numbers, same_carried, same}
 
@@ -125,14 +126,9 @@ module _ (s : List ℕ) (a : Listing) (r : List ℕ) (b : Listing) where
       sym (ap same_first (sym q) ∙ still (m - suc n) (suc n) (first_more n ∙ rw e (and_false (same_first n))))
 
 -- ---- every component has ten points
-points_length : (knots : List Float) (n : ℕ) → length (first_points knots n) ≡ n
-unfolding first_points
-points_length knots zero = refl
-points_length knots (suc n) = simp (length-append, points_length knots n, add-one)
-
 ten_points : (s : List ℕ) (l : Listing) (j : ℕ) → length (component_of s l j).points ≡ 10
 unfolding component_of
-ten_points s l j = split (eqb l.name.form 1) (λ t. rw t (points_length _ 10)) (λ t. rw t (points_length _ 10))
+ten_points s l j = split (eqb l.name.form 1) (λ t. rw t (length_points _ 10)) (λ t. rw t (length_points _ 10))
 
 -- ---- two components that were read, under one name
 module _ (s : List ℕ) (a : Listing) (r : List ℕ) (b : Listing) (j : ℕ) {x y : Component} (ex : x ≡ component_of s a j) (ey : y ≡ component_of r b j) (n : false ≡ not (same_name s a r b j)) where
