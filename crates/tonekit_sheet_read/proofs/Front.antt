@@ -226,7 +226,3 @@ front_alone s n l =
     let a = taken_agrees n s in
     rw (read_agrees n (take n s) s a l)
     (single_agrees n (take n s) s a (read_sheet s) (λ st e h. omega (arith, end_near s st e h)))
-
-pub check_front_alone : (s : List ℕ) (n : ℕ) → 13400 ≤ n → check_sheet (take n s) ≡ check_sheet s
-unfolding check_sheet
-check_front_alone s n l = ap said (front_alone s n l)
