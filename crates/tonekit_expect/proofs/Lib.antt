@@ -1,3 +1,4 @@
+pub mod Chain
 pub mod Bound
 pub mod InOrder
 pub mod Parts

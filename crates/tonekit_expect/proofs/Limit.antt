@@ -10,7 +10,7 @@ use Rattle.tonekit_pack.specs.Pack.{Pst, loaded, read_pack}
 use Rattle.std.specs.Prelude.{Some, None}
 use Rattle.tonekit_expect.specs.declared.Context.{Context}
 use Rattle.tonekit_expect.specs.Lookup.{Found, Walked, best_rule, parent_of, climb_turn, find_rule}
-use Rattle.tonekit_expect.specs.Chain.{Earlier, Ends, top, up}
+use Rattle.tonekit_expect.proofs.Chain.{Earlier, Ends, top, up}
 use Rattle.tonekit_core.proofs.Split.{split}
 use Rattle.tonekit_pack.proofs.Loads.{loads, parent_before}
 use Rattle.tonekit_expect.proofs.Walk.{index_found, climb_hit, climb_top, climb_on}

@@ -1,5 +1,4 @@
 pub mod Knots
 pub mod Lookup
 pub mod Source
-pub mod Chain
 pub mod Bench

@@ -7,7 +7,7 @@ use Rattle.tonekit_bytes.specs.Places.{number_at}
 use Rattle.tonekit_core.proofs.Split.{split}
 use Rattle.tonekit_pack.proofs.Numbers.{none_before}
 use Rattle.tonekit_sheet.specs.Reader.{Sst, loaded, refused, rows_due, size_of, added, row_at, start, read_sheet, load_sheet}
-use Rattle.tonekit_sheet_inverse.specs.Place.{list_place, lists_from}
+use Rattle.tonekit_sheet_inverse.proofs.Place.{list_place, lists_from}
 use Rattle.tonekit_sheet.proofs.Every.{Every}
 use Rattle.tonekit_sheet.proofs.Records.{Complete, rows_done, list_done, closes}
 use Rattle.tonekit_sheet.proofs.Turns.{run, accepted, no_turns, Finished, finished_is, loads_alone}

@@ -6,7 +6,7 @@ use Rattle.tonekit_sheet.specs.Reader.{Sst, loaded, load_sheet}
 use Rattle.tonekit_sheet.specs.FromSheet.{source_of_sheet}
 use Rattle.tonekit_sheet.specs.Agree.{Bytes, Agree}
 use Rattle.tonekit_sheet.specs.Fit.{Fit}
-use Rattle.tonekit_sheet_laws.specs.Place.{st_of}
+use Rattle.tonekit_sheet_laws.proofs.Place.{st_of}
 use Rattle.tonekit_sheet_laws.proofs.Round.{round}
 use Rattle.tonekit_sheet_laws.proofs.Exactly.{agree_same, loaded_same}
 use Rattle.tonekit_sheet_laws.proofs.Back.{read_back, settings_back, tones_back, accents_back, lookups_back}

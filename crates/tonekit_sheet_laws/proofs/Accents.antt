@@ -8,7 +8,7 @@ use Rattle.tonekit_expect.specs.Source.{Accent, Source}
 use Rattle.tonekit_sheet.specs.Sheet.{View, no_accent, lists_of}
 use Rattle.tonekit_sheet.specs.Reader.{Sst, Out, size_of, due_next, accent_fine, accent_verdict, body_verdict, added}
 use Rattle.tonekit_sheet.specs.Fit.{AccentFit}
-use Rattle.tonekit_sheet_laws.specs.Place.{up_to, accent_at, read_to, last_of}
+use Rattle.tonekit_sheet_laws.proofs.Place.{up_to, accent_at, read_to, last_of}
 use Rattle.tonekit_sheet_laws.proofs.Placed.{up_to_length, holds_none}
 use Rattle.tonekit_sheet_laws.proofs.Records.{AccentThere, accent_there}
 use Rattle.tonekit_sheet_laws.proofs.Laid.{Laid}

@@ -12,7 +12,7 @@ use Rattle.tonekit_sheet.specs.FromSheet.{tone_at as tone_is_read, accent_at as 
 use Rattle.tonekit_sheet.specs.Agree.{Held}
 use Rattle.tonekit_sheet.specs.Fit.{Fit, components_in}
 use Rattle.tonekit_core.specs.declared.Refusal.TheVariants.{CutShort}
-use Rattle.tonekit_sheet_laws.specs.Place.{up_to, tone_at, accent_at, read_to, last_of, st_of_view, st_of}
+use Rattle.tonekit_sheet_laws.proofs.Place.{up_to, tone_at, accent_at, read_to, last_of, st_of_view, st_of}
 use Rattle.tonekit_sheet_laws.proofs.Placed.{up_to_length, up_to_get}
 use Rattle.tonekit_sheet_laws.proofs.Ascending.{accent_at_lem}
 use Rattle.tonekit_sheet.proofs.RowPlaces.{place, accent_back, tone_back, prev_back}

@@ -9,7 +9,7 @@ use Rattle.tonekit_sheet.specs.Sheet.{View, no_carried, lists_of}
 use Rattle.tonekit_sheet.specs.Reader.{Out}
 use Rattle.tonekit_sheet.specs.FromSheet.{bits_at, carried_at, carried_from}
 use Rattle.tonekit_sheet.specs.Fit.{CarriedFit}
-use Rattle.tonekit_sheet_laws.specs.Place.{list_at}
+use Rattle.tonekit_sheet_laws.proofs.Place.{list_at}
 use Rattle.tonekit_sheet_laws.proofs.Records.{HeadThere, ComponentThere}
 use Rattle.tonekit_sheet_laws.proofs.Laid.{Laid}
 use Rattle.tonekit_sheet_laws.proofs.Fitting.{ViewFit}

@@ -10,7 +10,7 @@ use Rattle.tonekit_sheet.specs.Reader.{Sst, loaded, load_sheet}
 use Rattle.tonekit_sheet.specs.FromSheet.{source_of_sheet}
 use Rattle.tonekit_sheet.specs.Agree.{Held, Agree}
 use Rattle.tonekit_sheet.specs.Fit.{Fit}
-use Rattle.tonekit_sheet_laws.specs.Place.{st_of}
+use Rattle.tonekit_sheet_laws.proofs.Place.{st_of}
 use Rattle.tonekit_core.proofs.LoopLaws.{range_same}
 use Rattle.tonekit_sheet_laws.proofs.Bytes.{gather_same}
 use Rattle.tonekit_sheet.proofs.RowPlaces.{some_tone}

@@ -11,7 +11,7 @@ use Rattle.tonekit_sheet.specs.Sheet.{View, no_tone, no_accent, accent_place, to
 use Rattle.tonekit_sheet.specs.Reader.{Sst, Out, loaded, loose_turn, loose_row, accent_turn, accent_down, prev_due, row_due, row_names, row_turn, row_wrong, named, list_size, same_lists, repeated, list_turn, list_wrong, finished}
 use Rattle.tonekit_sheet.specs.Reader.{row_at as row_in}
 use Rattle.tonekit_sheet.specs.FromSheet.{carried_from}
-use Rattle.tonekit_sheet_laws.specs.Place.{up_to, tone_at, accent_at, row_at, list_at, read_to}
+use Rattle.tonekit_sheet_laws.proofs.Place.{up_to, tone_at, accent_at, row_at, list_at, read_to}
 use Rattle.tonekit_sheet_laws.proofs.Loops.{range_each, range_any, range_none, to_through}
 use Rattle.tonekit_sheet_laws.proofs.FirstUse.{so_far, half, so_none, row_numbers, lists_once, list_used, used_number, listed_first, listed_final}
 use Rattle.tonekit_sheet_laws.proofs.Placed.{up_to_length, up_to_get, zero_or_one, zero_or_zero}

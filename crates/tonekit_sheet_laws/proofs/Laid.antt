@@ -3,7 +3,7 @@ use Rattle.std.proofs.Common.{ℕ, zero, suc, ◌+◌, ◌-◌, ◌*◌, ◌≤�
 use Rattle.tonekit_expect.specs.Source.{Carried}
 use Rattle.tonekit_sheet.specs.Gather.{gather, gather_done, gather_length}
 use Rattle.tonekit_sheet.specs.Sheet.{View, rows_of, settings_bytes, tone_piece, accent_piece, row_piece, list_piece, bytes_with}
-use Rattle.tonekit_sheet_laws.specs.Place.{components_before, tone_at, accent_at, row_at, list_at}
+use Rattle.tonekit_sheet_laws.proofs.Place.{components_before, tone_at, accent_at, row_at, list_at}
 use Rattle.tonekit_bytes.proofs.Stands.{Stands, stands_at, stands_whole, stands_first, stands_then}
 use Rattle.tonekit_sheet_laws.proofs.Bytes.{piece_stands, even_stands, gather_next}
 use Rattle.tonekit_sheet_laws.proofs.Placed.{before_none}

@@ -10,7 +10,7 @@ use Rattle.tonekit_expect.specs.Source.{Carried, Source}
 use Rattle.tonekit_sheet.specs.Sheet.{View, no_carried, rows_of, lists_of}
 use Rattle.tonekit_sheet.specs.Reader.{Sst, Out, size_of, complete, due_next, list_crowded, list_fine, list_verdict, point_fine, points_fine, last_list, component_fine, component_verdict, body_verdict, added}
 use Rattle.tonekit_sheet.specs.Fit.{Bits, f32, ListFit}
-use Rattle.tonekit_sheet_laws.specs.Place.{up_to, components_before, accent_at, list_at, read_to, last_of}
+use Rattle.tonekit_sheet_laws.proofs.Place.{up_to, components_before, accent_at, list_at, read_to, last_of}
 use Rattle.tonekit_sheet_laws.proofs.Loops.{range_all}
 use Rattle.tonekit_sheet_laws.proofs.Placed.{up_to_length, up_to_get, holds_one, before_next, before_below}
 use Rattle.tonekit_sheet_laws.proofs.Records.{Ten, HeadThere, head_there, head_stands, ComponentThere, component_there, behind_head}

@@ -8,7 +8,7 @@ use Rattle.tonekit_expect.specs.Source.{Tone, Source}
 use Rattle.tonekit_sheet.specs.Sheet.{View, no_tone, lists_of}
 use Rattle.tonekit_sheet.specs.Reader.{Sst, Out, size_of, due_next, tone_fine, tone_verdict, body_verdict, added, start}
 use Rattle.tonekit_sheet.specs.Fit.{ToneFit, region_fits}
-use Rattle.tonekit_sheet_laws.specs.Place.{up_to, tone_at, read_to, last_of}
+use Rattle.tonekit_sheet_laws.proofs.Place.{up_to, tone_at, read_to, last_of}
 use Rattle.tonekit_sheet_laws.proofs.Placed.{up_to_length, holds_none}
 use Rattle.tonekit_sheet_laws.proofs.Records.{SettingsThere, settings_there, ToneThere, tone_there}
 use Rattle.tonekit_sheet_laws.proofs.Laid.{Laid}
