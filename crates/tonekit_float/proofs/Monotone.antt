@@ -9,7 +9,7 @@ use lib.Ieee.Order.{round_mono}
 use lib.Ieee.Positive.{den, den_pos, positive}
 use lib.Ieee.Scale.{finite, round_same}
 use Rattle.tonekit_float.specs.Narrow.{narrowed}
-use Rattle.tonekit_float.specs.Bounds.{plus, minus}
+use Rattle.tonekit_float.proofs.Fraction.{plus, minus}
 use Rattle.tonekit_float.proofs.Order.{Cross, le→under, le_trans_float, neg_finite, neg_le}
 
 -- ---- `neg` of a rounded fraction

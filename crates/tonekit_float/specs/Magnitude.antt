@@ -7,12 +7,6 @@ use Rattle.std.specs.Float.Ieee.{le}
 abbrev pub magnitude : Float → Float
 magnitude = float_with_sign false
 
--- a value whose sign is clear, or the NaN
-abbrev pub clear : Float → Bool
-clear nan = true
-clear (inf s) = not s
-clear (fin s m e) = not s
-
 -- `a.total_cmp(&b)` is not `Greater`, for a and b whose sign bit is clear: there a NaN is above infinity, and the order of the rest is that of numbers
 unfoldable pub total_le : Float → Float → Bool
 total_le a b = is_nan b || (not (is_nan a) && le a b)

@@ -4,7 +4,7 @@ use Rattle.tonekit_bytes.specs.Fields.{byte_at}
 use Rattle.tonekit_pack.specs.Pack.{Pst, Out, loaded, refused, read_pack, parts_from}
 use Rattle.tonekit_bytes.specs.Places.{number_at, index_of}
 use Rattle.tonekit_pack.specs.declared.Pack.{Pack}
-use Rattle.tonekit_pack.specs.Held.{shown, ReadFrom}
+use Rattle.tonekit_pack.specs.Held.{shown}
 use Rattle.tonekit_core.proofs.Split.{split}
 use Rattle.tonekit_pack.proofs.Loads.{Loads, loads, firsts_bound, parts_few}
 use Rattle.std.specs.Prelude.{Option, Some, None}
@@ -14,7 +14,7 @@ use Rattle.tonekit_expect.specs.declared.Listing.{Listing}
 use Rattle.tonekit_expect.specs.Lookup.{Found, Look, to_rule, find_rule, rule_listing, citation, listed, look_at, look_up}
 use Rattle.tonekit_expect.proofs.Walk.{index_found, winner_is}
 use Rattle.tonekit_expect.proofs.Curves.{listed_fine, rule_fine}
-use Rattle.tonekit_inventory.specs.OfPack.{pack_in, Looked}
+use Rattle.tonekit_inventory.specs.OfPack.{pack_in, Short}
 
 pub record Few (l : Listing) : Type 0 where
   pub some : 1 ≤ l.count
@@ -50,10 +50,19 @@ pub look_few : (s : List ℕ) (st : Pst) (e : ℕ) → read_pack s ≡ loaded st
 unfolding look_up
 look_few s st e p c l q = of_places s st e (loads s st e p) c l (index_of s st.accents c.accent) (index_of s st.tones c.tone) refl q
 
+-- a pack as its reader handed it back for these bytes, which load
+record ReadFrom (s : List ℕ) (p : Pack) : Type 0 where
+  end : ℕ
+  reads : read_pack s ≡ loaded (shown p) end
+
 -- a pack that is held was read from its bytes
 read_from : (s : List ℕ) (p : Pack) (o : Out) → read_pack s ≡ o → pack_in o ≡ Some (shown p) → ReadFrom s p
 read_from s p (loaded st e) q h = let is : st ≡ shown p = cc in record { end = e; reads = q ∙ ap (λ (x : Pst). loaded x e) is }
 read_from s p (refused r place) q h = let n : ◌≡◌ {A = ℕ} 0 1 = cc in absurd (omega arith)
+
+-- what a lookup in a pack that loads finds
+abbrev pub Looked : List ℕ → Look → Type 0
+Looked s k = (l : Listing) → k ≡ Some l → Short s l
 
 pub looked : (s : List ℕ) (p : Pack) → pack_in (read_pack s) ≡ Some (shown p) → (c : Context) (k : Look) → k ≡ look_up s (shown p) c → Looked s k
 looked s p h c k e l q =

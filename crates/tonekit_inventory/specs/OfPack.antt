@@ -31,7 +31,3 @@ pub record Short (s : List ℕ) (l : Listing) : Type 0 where
   pub some : 1 ≤ l.count
   pub few : l.count ≤ 4
   pub each : (j : ℕ) → j < l.count → lookup.Listed s l j
-
--- what a lookup in a pack that loads finds
-abbrev pub Looked : List ℕ → Look → Type 0
-Looked s k = (l : Listing) → k ≡ Some l → Short s l

@@ -7,7 +7,8 @@ use lib.Ieee.Exact.{HasValue, round_exact}
 use lib.Ieee.Fits.{and_l, and_r, down_pos, round-fits}
 use lib.Ieee.Positive.{den, den_pos, positive}
 use lib.Ieee.Scale.{finite}
-use Rattle.tonekit_float.specs.Bounds.{In, Within, plus, minus}
+use Rattle.tonekit_float.specs.Bounds.{In}
+use Rattle.tonekit_float.proofs.Fraction.{Within, plus, minus}
 use Rattle.tonekit_float.proofs.Size.{within_lit, within_whole, within_neg, within_more, within_mul}
 use Rattle.tonekit_float.proofs.Order.{yes, lt→le, le→under, under→le, neg_finite, flipped, le_trans_float}
 use Rattle.tonekit_float.proofs.Monotone.{Rounds, zero_f, add_rounds, mul_rounds, mul_comm_float}

@@ -66,11 +66,6 @@ abbrev pub IsPartsOf : Float → Result Parts Float → Type 0
 IsPartsOf x (Ok p) = (f : Parts → Float) → log_by f x ≡ f p
 IsPartsOf x (Err v) = (f : Parts → Float) → log_by f x ≡ v
 
--- the k for which 2 ^ k is an f64, subnormal or not: from -1074 to 1023
-abbrev pub Exponent : ℤ → Type 0
-Exponent (pos k) = k ≤ 1023
-Exponent (negsuc k) = suc k ≤ 1074
-
 -- ---- how the code finds m and e
 -- a normal number's: the digits with 1's exponent, and the exponent's field less its bias
 unfoldable pub fields : Float → Parts

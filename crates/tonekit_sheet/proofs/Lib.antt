@@ -5,3 +5,4 @@ pub mod RowPlaces
 pub mod Every
 pub mod ByKind
 pub mod Components
+pub mod Gather

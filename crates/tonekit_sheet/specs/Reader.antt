@@ -162,10 +162,7 @@ added k o count st =
     (record { last = k; tones = st.tones; accents = st.accents; rows = st.rows; lists = st.lists; due = st.due - 1; total = st.total + 1 })
     (record { last = k; tones = st.tones; accents = st.accents; rows = st.rows; lists = st.lists; due = st.due; total = st.total })))))
 
--- where the rows begin, behind the accents, and row r
-abbrev pub rows_from : Sst → ℕ
-rows_from st = sheet_accent_at (length st.tones) (length st.accents)
-
+-- where row r stands
 abbrev pub row_at : Sst → ℕ → ℕ
 row_at st r = sheet_row_at (length st.tones) (length st.accents) r
 

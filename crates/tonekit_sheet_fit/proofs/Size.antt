@@ -9,7 +9,8 @@ use Rattle.tonekit_pack.proofs.Loads.{loads}
 use Rattle.tonekit_expect.specs.declared.Listing.{Listing}
 use Rattle.tonekit_expect.specs.Lookup.{component_of}
 use Rattle.tonekit_expect.specs.Source.{Accent, Carried, accent_in, carried, components, tone_at, accent_at, source_of_pack}
-use Rattle.tonekit_sheet.specs.Gather.{pieces, gather, gather_length}
+use Rattle.tonekit_sheet.specs.Gather.{pieces, gather}
+use Rattle.tonekit_sheet.proofs.Gather.{gather_length}
 use Rattle.tonekit_sheet.specs.Sheet.{or_skip, asc_from, ascending, View, rows_of, view_of, lists_of, bits_bytes, component_bytes, components_bytes, tone_piece, accent_piece, row_piece, list_piece, bytes_with, bytes_of, sheet}
 use Rattle.tonekit_sheet.proofs.Components.{component_length, components_snoc}
 use Rattle.tonekit_sheet_fit.specs.Room.{Suffices}

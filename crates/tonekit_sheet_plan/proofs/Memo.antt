@@ -13,7 +13,14 @@ use Rattle.tonekit_sheet_plan.specs.declared.Entry.{Entry}
 use Rattle.tonekit_sheet_plan.specs.declared.Known.{Known}
 use Rattle.tonekit_sheet_plan.specs.Listings.{carried_by, record_of, Kept}
 use Rattle.tonekit_sheet_plan.specs.Marks.{mark_of}
-use Rattle.tonekit_sheet_plan.specs.Entries.{entry_of, known_of, entry_listing, known_listing, no_entry, no_known, list_at, planned, Marked, Right, Sane, FirstPlace, Noted}
+use Rattle.tonekit_sheet_plan.specs.Entries.{entry_listing, known_listing, no_entry, no_known, list_at, planned, Marked, Right, Sane, FirstPlace, Noted}
+
+-- the list of a listing, under a mark, and what the memo says of a listing whose list has this number
+abbrev pub entry_of : Listing → ℕ → Entry
+entry_of l mark = record { at = record_of l; owner = l.name.owner; mark = mark }
+
+abbrev pub known_of : Listing → ℕ → Known
+known_of l number = record { at = record_of l; owner = l.name.owner; number = number }
 
 -- one more entry: what holds of the entries before it, and of it, holds of all
 entries_more : {A : Type 0} (d : A) (P : A → Type 0) (xs : List A) (x : A) → ((i : ℕ) → i < length xs → P (get_or xs i d)) → P x

@@ -25,21 +25,6 @@ abbrev pub answered : Result (Loaded Sheet) Rejection → Out
 answered (Ok l) = loaded (shown l.held) l.end
 answered (Err e) = refused e.why e.place
 
--- what every Sheet keeps: the format's limits, and the length of its array
-pub record Roomy (p : Sheet) : Type 0 where
-  pub few_tones : p.tones ≤ 8
-  pub few_accents : p.accents ≤ 8
-  pub few_rows : p.rows ≤ 576
-  pub few_lists : p.lists.count ≤ 128
-  pub few_due : p.due ≤ 4
-  pub few_in_all : p.total ≤ 192
-  pub list_slots : length p.lists.at ≡ 128
-
--- a sheet as its reader handed it back for these bytes, which load
-pub record ReadFrom (s : List ℕ) (p : Sheet) : Type 0 where
-  pub end : ℕ
-  pub reads : read_sheet s ≡ loaded (shown p) end
-
 -- the record of kind k at o, a list of so many components, may follow what was read: it stands where it is shown to, and there is room for it
 pub record Follows (k o count : ℕ) (p : Sheet) : Type 0 where
   pub tone : k ≡ sheet_tone_kind → (o ≡ sheet_tone_at p.tones) × (p.tones < 8) × (p.accents ≡ 0)

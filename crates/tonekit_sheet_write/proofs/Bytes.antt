@@ -15,7 +15,8 @@ use Rattle.tonekit_expect.specs.declared.Component.{Component}
 use Rattle.tonekit_expect.specs.declared.Context.{Context}
 use Rattle.tonekit_expect.specs.declared.Listing.{Listing}
 use Rattle.tonekit_expect.proofs.Carried.{named, components_length, components_at}
-use Rattle.tonekit_sheet.specs.Gather.{pieces, gather, gather_length, Wrote}
+use Rattle.tonekit_sheet.specs.Gather.{pieces, gather, Wrote}
+use Rattle.tonekit_sheet.proofs.Gather.{gather_length}
 use Rattle.tonekit_sheet.specs.Number.{number_in}
 use Rattle.tonekit_sheet.specs.Sheet.{no_carried, row_bytes, row_context, bits_bytes, component_bytes, components_bytes, list_bytes, row_piece}
 use Rattle.tonekit_sheet.proofs.Components.{bits_length, components_snoc}

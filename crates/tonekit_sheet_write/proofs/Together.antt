@@ -5,7 +5,8 @@ use Rattle.tonekit_bytes.proofs.InOrder.{order_length}
 use Rattle.tonekit_pack.specs.Held.{shown}
 use Rattle.tonekit_pack.specs.declared.Pack.{Pack}
 use Rattle.tonekit_expect.specs.Source.{Carried, tone_at, accent_at, settings_at, source_of_pack}
-use Rattle.tonekit_sheet.specs.Gather.{gather, gather_length, gather_more, gather_none, Wrote, joined, room_first, room_then}
+use Rattle.tonekit_sheet.specs.Gather.{gather, Wrote}
+use Rattle.tonekit_sheet.proofs.Gather.{gather_length, gather_more, gather_none, joined, room_first, room_then}
 use Rattle.tonekit_sheet.specs.Sheet.{view_of, no_tone, no_accent, settings_bytes, tone_bytes, accent_bytes, row_piece, row_count, rows_of, lists_of, bytes_with, bytes_of, sheet}
 use Rattle.tonekit_sheet_plan.specs.Rows.{pack_view, Ordered}
 use Rattle.tonekit_sheet_plan.proofs.Views.{view_tones, view_sorted, view_rows}
