@@ -1,5 +1,6 @@
 -- A test taken apart, with the equation kept. Assumes nothing.
-use Rattle.std.proofs.Common.{◌≡◌, refl, Bool, true, false, cond, ◌&&◌, ◌||◌}
+use Rattle.std.proofs.Common.{ℕ, ◌≤◌, ◌≡◌, refl, Bool, true, false, cond, not, ◌&&◌, ◌||◌, eqb, arith}
+use borrow.Author.Tests.{eqb-false, not-true}
 use mathlib.Core.Bool.{false≢true}
 
 pub split {ℓ} : {P : Type ℓ} (b : Bool) → (b ≡ true → P) → (b ≡ false → P) → P
@@ -24,3 +25,6 @@ neither false b h = (refl, h)
 pub both : (a b : Bool) → (a && b) ≡ true → (a ≡ true) × (b ≡ true)
 both true b h = (refl, h)
 both false b h = absurd_bool h
+
+pub not_zero : (n : ℕ) → not (eqb n 0) ≡ true → 1 ≤ n
+not_zero n h = omega (arith, eqb-false n 0 (not-true (eqb n 0) h))

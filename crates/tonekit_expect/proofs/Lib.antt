@@ -6,3 +6,4 @@ pub mod Walk
 pub mod Limit
 pub mod Curves
 pub mod Carried
+pub mod Held

@@ -7,7 +7,3 @@ pub parts_hit : (n : ℕ) (s : List ℕ) (o : ℕ) → 0 < n → byte_at s o ≡
 unfolding parts_from
 parts_hit zero s o l h = absurd (omega arith)
 parts_hit (suc n) s o l h = rw (sub-one, eq-eqb (byte_at s o) 5 h)
-
-pub parts_none : (s : List ℕ) (o : ℕ) → parts_from 0 s o ≡ 0
-unfolding parts_from
-parts_none s o = refl

@@ -1,6 +1,6 @@
 -- The Rust's `abs`, and its `total_cmp` among what `abs` gives.
-use Rattle.std.specs.Prelude.{Bool, true, false, not, ◌&&◌, ◌||◌, is_nan, Float}
-use Rattle.std.specs.Float.{nan, inf, fin, float_with_sign}
+use Rattle.std.specs.Prelude.{Bool, false, not, ◌&&◌, ◌||◌, is_nan, Float}
+use Rattle.std.specs.Float.{float_with_sign}
 use Rattle.std.specs.Float.Ieee.{le}
 
 -- `x.abs()`: the sign cleared, that of a zero too

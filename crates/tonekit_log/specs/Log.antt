@@ -1,5 +1,5 @@
 -- ln and log2 as document 01's Arithmetic section writes them: f64 operations, each rounded once, in its order.
-use Rattle.std.specs.Prelude.{ℕ, zero, suc, ◌+◌, ◌-◌, ◌*◌, ◌/◌, ◌%◌, ◌^◌, ◌≤◌, true, false, cond, ℤ, pos, negsuc, from_bits, to_bits, Float, ◌≡◌, Result, Ok, Err}
+use Rattle.std.specs.Prelude.{ℕ, zero, suc, ◌+◌, ◌-◌, ◌*◌, ◌/◌, ◌%◌, ◌^◌, true, false, cond, from_bits, to_bits, Float, ◌≡◌, Result, Ok, Err}
 use Rattle.std.specs.Float.{nan, inf, fin, binary64}
 use Rattle.std.specs.Float.Ieee.{add, sub, mul, div, lt, of_int, up, down, size, round, minus}
 use Rattle.tonekit_log.specs.Constants.{LN2, LOG2E, ROOT2, half, one, two, scale, least, num}

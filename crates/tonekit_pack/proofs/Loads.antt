@@ -8,7 +8,7 @@ use Rattle.tonekit_bytes.specs.Fields.{byte_at, u32_at, f32_at}
 use Rattle.tonekit_pack.specs.Ranges.{above_zero, a_share, weight_fine, knots_fine, region_fine, tolerances_fine}
 use Rattle.tonekit_bytes.specs.Places.{number_at}
 use Rattle.tonekit_pack.specs.Pack.{Pst, Out, loaded, refused, size_of, holds, zero_or_held, single, settings_verdict, body_verdict, added, start, parts_from, read_pack}
-use Rattle.tonekit_core.proofs.Split.{split, either, neither, both}
+use Rattle.tonekit_core.proofs.Split.{split, either, neither, both, not_zero}
 use Rattle.tonekit_core.proofs.Lists.{last_snoc}
 use Rattle.tonekit_pack.proofs.Numbers.{zero_or_before, none_before}
 use Rattle.tonekit_pack.proofs.Each.{Each, each_snoc}
@@ -61,9 +61,6 @@ pub record RuleFine (s tones : List ℕ) (o : ℕ) : Type 0 where
   pub parts : (j : ℕ) → j < parts_from 4 s (o + 7) → PartFine s (o + 7 + 46 * j)
   pub lone : byte_at s (o + 6) ≡ 2 → parts_from 4 s (o + 7) ≡ 1
   pub unit : byte_at s (o + 6) ≡ 2 → u32_at s (o + 7 + 1) ≡ 0x3f80_0000
-
-not_zero : (n : ℕ) → not (eqb n 0) ≡ true → 1 ≤ n
-not_zero n h = omega (arith, eqb-false n 0 (not-true (eqb n 0) h))
 
 module _ (s : List ℕ) (at : ℕ) (st : Pst) where
   tone_is : byte_at s at ≡ 2 → at + 56 ≤ length s → body_verdict 2 s at st ≡ Ok tt → ToneFine s st.tones at
@@ -156,7 +153,7 @@ unfolding parts_from
 parts_few zero s o = omega arith
 parts_few (suc n) s o = split (eqb (byte_at s o) 5) (λ e. rw e (omega (arith, parts_few n s (o + 46)))) (λ e. rw e (omega arith))
 
-parts_none : (s : List ℕ) (o : ℕ) → parts_from 0 s o ≡ 0
+pub parts_none : (s : List ℕ) (o : ℕ) → parts_from 0 s o ≡ 0
 unfolding parts_from
 parts_none s o = refl
 

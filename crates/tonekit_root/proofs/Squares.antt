@@ -1,5 +1,5 @@
 -- Squares, and the state of the loop that takes the digits of a root one by one. Assumes nothing.
-use Rattle.std.proofs.Common.{ℕ, suc, zero, ◌+◌, ◌-◌, ◌*◌, ◌^◌, ◌≤◌, ◌<◌, ◌≡◌, sym, ◌∙◌, ap, subst, le_trans, mul-le-mul, mul-le-mul_left, lt_irrefl, add-mul, mul-add, mul_assoc, pow-suc, add-one, arith, pow_mono}
+use Rattle.std.proofs.Common.{ℕ, suc, zero, ◌+◌, ◌-◌, ◌*◌, ◌^◌, ◌≤◌, ◌<◌, ◌≡◌, sym, ◌∙◌, ap, subst, lt_irrefl, add-mul, mul-add, mul_assoc, pow-suc, add-one, arith}
 use native.Mathlib.Nat.{mul-mul-mul_comm}
 use Rattle.tonekit_root.specs.Root.{Near}
 

@@ -12,7 +12,7 @@ use Rattle.std.specs.Prelude.{Ok}
 use Rattle.tonekit_bytes.specs.Fields.{byte_at}
 use Rattle.tonekit_bytes.specs.Places.{number_at}
 use Rattle.tonekit_pack.specs.Pack.{holds}
-use Rattle.tonekit_core.proofs.Split.{split, either, neither, both}
+use Rattle.tonekit_core.proofs.Split.{split, either, neither, both, not_zero}
 use Rattle.tonekit_pack.proofs.Records.{not_fine, Passed, passed}
 use Rattle.tonekit_sheet.specs.Reader.{Sst, rows_due, complete, due_next, size_of, tone_fine, tone_verdict, accent_fine, accent_verdict, list_crowded, list_fine, list_verdict, component_fine, component_verdict, body_verdict, record_verdict}
 
@@ -79,9 +79,6 @@ size_pos k =
     split (eqb k 17) (λ a. rw a (omega arith)) (λ a. split (eqb k 18) (λ b. rw (a, b) (omega arith)) (λ b. split (eqb k 19) (λ d. rw (a, b, d) (omega arith))
     (λ d. split (eqb k 20) (λ e. rw (a, b, d, e) (omega arith)) (λ e. split (eqb k 21) (λ f. rw (a, b, d, e, f) (omega arith))
     (λ f. split (eqb k 22) (λ g. rw (a, b, d, e, f, g) (omega arith)) (λ g. rw (a, b, d, e, f, g) (omega arith)))))))
-
-not_zero : (n : ℕ) → not (eqb n 0) ≡ true → 1 ≤ n
-not_zero n h = omega (arith, eqb-false n 0 (not-true (eqb n 0) h))
 
 module _ (s : List ℕ) (at : ℕ) (st : Sst) where
   pub record Sound : Type 0 where

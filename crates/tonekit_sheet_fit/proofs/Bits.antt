@@ -13,7 +13,7 @@ use Rattle.tonekit_expect.specs.declared.Listing.{Listing}
 use Rattle.tonekit_expect.specs.Knots.{Point, knots_at, on_line, segment, fraction, point_at, first_points}
 use Rattle.tonekit_expect.specs.Lookup.{component_of}
 use Rattle.tonekit_expect.specs.Source.{carried}
-use Rattle.tonekit_expect.proofs.Bound.{length_points}
+use Rattle.tonekit_expect.proofs.Carried.{component_ten}
 use Rattle.tonekit_sheet.specs.Reader.{point_fine}
 use Rattle.tonekit_sheet.specs.Fit.{Bits, f32}
 
@@ -74,20 +74,9 @@ module _ (s : List ℕ) (l : Listing) (j : ℕ) where
       (λ t. rw t (points_held (knots_at s (l.at + 7) (byte_at s (l.at + 6))) (knots_held s (l.at + 7) (byte_at s (l.at + 6))) 10 k))
       (λ t. rw t (points_held (knots_at s (l.at + 46 * j + 6) (byte_at s (l.at + 46 * j + 5))) (knots_held s (l.at + 46 * j + 6) (byte_at s (l.at + 46 * j + 5))) 10 k))
 
-  component_ten : length (component_of s l j).points ≡ 10
-  unfolding component_of
-  component_ten =
-      split (eqb l.name.form 1)
-      (λ t. rw t (length_points (knots_at s (l.at + 7) (byte_at s (l.at + 6))) 10))
-      (λ t. rw t (length_points (knots_at s (l.at + 46 * j + 6) (byte_at s (l.at + 46 * j + 5))) 10))
-
-  pub carried_ten : length (carried (component_of s l j)).points ≡ 10
-  unfolding carried
-  carried_ten = length-map (component_of s l j).points (to_bits binary32) ∙ component_ten
-
   carried_point : (k : ℕ) → k < 10 → get_or (carried (component_of s l j)).points k 0 ≡ to_bits binary32 (get_or (component_of s l j).points k nan)
   unfolding carried
-  carried_point k h = get_or-map (to_bits binary32) (component_of s l j).points k nan 0 (omega (arith, component_ten))
+  carried_point k h = get_or-map (to_bits binary32) (component_of s l j).points k nan 0 (omega (arith, component_ten s l j))
 
   pub carried_bits : (k : ℕ) → k < 10 → Bits (get_or (carried (component_of s l j)).points k 0)
   carried_bits k h = rw (carried_point k h) (to_bits-lt binary32 (get_or (component_of s l j).points k nan) (component_held k))

@@ -13,11 +13,11 @@ use Rattle.tonekit_expect.specs.declared.Listing.{Listing}
 use Rattle.tonekit_expect.specs.Lookup.{Look, rule_listing, citation, look_up, component_of}
 use Rattle.tonekit_expect.specs.Source.{Accent, Carried, carried, given, accent_at, accent_in, source_of_pack}
 use Rattle.tonekit_expect.proofs.Curves.{points_fine_lem}
-use Rattle.tonekit_expect.proofs.Carried.{named, part_number, citation_weight, components_length, components_at}
+use Rattle.tonekit_expect.proofs.Carried.{named, part_number, citation_weight, components_length, components_at, carried_ten}
 use Rattle.tonekit_sheet.specs.Agree.{Bytes}
 use Rattle.tonekit_sheet.specs.Sheet.{no_carried}
 use Rattle.tonekit_sheet.specs.Fit.{CarriedFit, ListFit}
-use Rattle.tonekit_sheet_fit.proofs.Bits.{weight_again, carried_ten, carried_bits, carried_fine}
+use Rattle.tonekit_sheet_fit.proofs.Bits.{weight_again, carried_bits, carried_fine}
 use Rattle.tonekit_sheet_fit.proofs.Drawn.{Drawn, ruled, cited, accent_of, list_of, drawn}
 use Rattle.tonekit_sheet_fit.proofs.Held.{accent_there}
 

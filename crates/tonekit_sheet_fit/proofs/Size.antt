@@ -15,7 +15,7 @@ use Rattle.tonekit_sheet.specs.Sheet.{or_skip, asc_from, ascending, View, rows_o
 use Rattle.tonekit_sheet.proofs.Components.{component_length, components_snoc}
 use Rattle.tonekit_sheet_fit.specs.Room.{Suffices}
 use Rattle.tonekit_sheet_fit.proofs.Budget.{sum_scaled, weigh}
-use Rattle.tonekit_sheet_fit.proofs.Bits.{carried_ten}
+use Rattle.tonekit_expect.proofs.Carried.{carried_ten}
 use Rattle.tonekit_sheet_fit.proofs.Drawn.{rule_of, citation_of}
 use Rattle.tonekit_sheet_fit.proofs.Parts.{parts_of, few_parts}
 use Rattle.tonekit_sheet_fit.proofs.Fits.{rule_list, citation_list, within}

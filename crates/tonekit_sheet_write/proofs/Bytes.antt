@@ -14,7 +14,7 @@ use Rattle.tonekit_expect.specs.Source.{Tone, Accent, Carried, carried, componen
 use Rattle.tonekit_expect.specs.declared.Component.{Component}
 use Rattle.tonekit_expect.specs.declared.Context.{Context}
 use Rattle.tonekit_expect.specs.declared.Listing.{Listing}
-use Rattle.tonekit_expect.proofs.Carried.{named, components_length, components_at}
+use Rattle.tonekit_expect.proofs.Carried.{named, components_length, components_at, carried_ten}
 use Rattle.tonekit_sheet.specs.Gather.{pieces, gather, Wrote}
 use Rattle.tonekit_sheet.proofs.Gather.{gather_length}
 use Rattle.tonekit_sheet.specs.Number.{number_in}
@@ -60,12 +60,8 @@ bits_floats [] = refl
 bits_floats (x ∷ xs) = ap (λ (r : List ℕ). f32_bytes x ++ r) (bits_floats xs)
 
 module _ (s : List ℕ) (l : Listing) where
-  ten : (j : ℕ) → length (carried (component_of s l j)).points ≡ 10
-  unfolding carried
-  ten j = length-map (component_of s l j).points (to_bits binary32) ∙ points_ten s l j refl
-
   pub component_length : (j : ℕ) → length (component_piece s l j) ≡ sheet_component_size
-  component_length j = omega (arith, bits_length (carried (component_of s l j)).points, ten j)
+  component_length j = omega (arith, bits_length (carried (component_of s l j)).points, carried_ten s l j)
 
   -- of a component that was read
   pub component_is : {c : Component} (j : ℕ) → c ≡ component_of s l j → component_bytes (carried c) ≡ component_piece s l j
