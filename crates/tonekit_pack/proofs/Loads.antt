@@ -1,6 +1,5 @@
 -- What a pack that loads has: how many of each record, every record fine, numbers once, parents earlier, parts behind their rule. Assumes nothing.
-use Rattle.std.proofs.Common.{ℕ, zero, suc, ◌+◌, ◌-◌, ◌*◌, ◌≤◌, ◌<◌, ◌≡◌, refl, ap, ◌∙◌, ◌⊎◌, Bool, true, false, not, ◌&&◌, ◌||◌, List, [], ◌∷◌, ◌++◌, arith, length, get_or, length-append, get_or-take, length-take-le, eqb, leb, ltb, eq-eqb, ne_eqb, eqb-true, leb-true, ltb-false}
-use lib.Seq.{get_or-append_seam}
+use Rattle.std.proofs.Common.{ℕ, zero, suc, ◌+◌, ◌*◌, ◌≤◌, ◌<◌, ◌≡◌, refl, ap, ◌∙◌, ◌⊎◌, Bool, true, false, not, ◌&&◌, ◌||◌, List, [], ◌∷◌, ◌++◌, arith, length, get_or, length-append, get_or-take, length-take-le, eqb, leb, ltb, eq-eqb, ne_eqb, eqb-true, leb-true, ltb-false}
 use borrow.Author.Tests.{eqb-false, not-true}
 use Rattle.tonekit_core.specs.declared.Refusal.TheVariants.{CutShort}
 use Rattle.std.specs.Prelude.{Ok}

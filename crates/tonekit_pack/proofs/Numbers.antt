@@ -1,6 +1,6 @@
 -- Whether a number is held, looked for from the front of the list of offsets. Assumes nothing.
 use Rattle.std.specs.Prelude.{Option, Some, None}
-use Rattle.std.proofs.Common.{Bool, cond, is_some, refl, ◌||◌, ◌∙◌, ℕ, zero, suc, ◌≤◌, ◌<◌, ◌≡◌, ◌⊎◌, inl, inr, ⊎_elim, true, false, List, [], ◌∷◌, arith, eqb-true, eqb, length, get_or, take, length-take-le, get_or-take}
+use Rattle.std.proofs.Common.{is_some, refl, ◌∙◌, ℕ, zero, suc, ◌≤◌, ◌<◌, ◌≡◌, ◌⊎◌, inl, inr, ⊎_elim, true, false, List, [], ◌∷◌, arith, eqb-true, eqb, length, get_or, take, length-take-le, get_or-take}
 use borrow.Author.Tests.{eqb-false}
 use Rattle.tonekit_bytes.specs.Places.{number_at, index_of}
 use Rattle.tonekit_bytes.proofs.Searched.{pick, searched}

@@ -1,11 +1,11 @@
 -- What the reader's struct and answer stand for.
-use Rattle.std.specs.Prelude.{ℕ, ◌≤◌, ◌≡◌, List, length, get_or, Result, Ok, Err}
+use Rattle.std.specs.Prelude.{Result, Ok, Err}
 use Rattle.tonekit_core.specs.declared.Rejection.{Rejection}
 use Rattle.tonekit_pack.specs.declared.Pack.{Pack}
 use Rattle.tonekit_pack.specs.declared.Loaded.{Loaded}
 use Rattle.tonekit_bytes.specs.Places.{in_order}
 use Rattle.tonekit_pack.specs.Kinds.{last_of}
-use Rattle.tonekit_pack.specs.Pack.{Pst, Out, loaded, refused, read_pack}
+use Rattle.tonekit_pack.specs.Pack.{Pst, Out, loaded, refused}
 
 -- of each array as many entries as were read
 abbrev pub shown : Pack → Pst

@@ -1,6 +1,5 @@
 -- The f64s near a number: from 2 ^ (52 + s) units of 2 ^ -1074 on, every f64 is a multiple of 2 ^ s units. Assumes nothing.
-use Rattle.std.proofs.Common.{ℕ, suc, ◌+◌, ◌-◌, ◌*◌, ◌/◌, ◌^◌, ◌≤◌, ◌<◌, ◌≡◌, sym, ◌∙◌, ap, le_trans, le_of_eq, lt_of_lt_of_le, lt_of_le_of_lt, lt_of_not-le, not-le_of_lt, le_of_suc-le-suc, mul-one, mul_assoc, mul-div_cancel, div-one, mul-lt-mul_of_pos_right, arith, T, pos, negsuc, pow-add, pow_pos, pow_mono, Float}
-use lib.Pow.{pow-lt}
+use Rattle.std.proofs.Common.{ℕ, suc, ◌+◌, ◌-◌, ◌*◌, ◌/◌, ◌^◌, ◌≤◌, ◌<◌, ◌≡◌, sym, ◌∙◌, ap, le_trans, le_of_eq, lt_of_lt_of_le, lt_of_le_of_lt, lt_of_not-le, not-le_of_lt, mul-one, mul_assoc, mul-div_cancel, div-one, mul-lt-mul_of_pos_right, arith, T, pos, negsuc, pow-add, pow_pos, pow_mono, Float}
 use lib.Ieee.{nan, inf, fin, binary64, fits}
 use lib.Ieee.Scale.{finite}
 use Rattle.tonekit_float.proofs.Exact.{held}
