@@ -3,6 +3,7 @@ pub mod ByKind
 pub mod Roomy
 pub mod Each
 pub mod Records
+pub mod Anew
 pub mod Reading
 pub mod Single
 pub mod Turns

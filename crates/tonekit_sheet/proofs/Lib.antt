@@ -1,5 +1,6 @@
 pub mod Same
 pub mod Records
+pub mod Anew
 pub mod Turns
 pub mod RowPlaces
 pub mod Every
