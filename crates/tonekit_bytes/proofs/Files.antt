@@ -8,7 +8,7 @@ use Rattle.tonekit_core.specs.declared.Refusal.TheVariants.{Misplaced, CutShort,
 use Rattle.std.specs.Prelude.{Result, Ok, Err}
 use Rattle.tonekit_core.proofs.Split.{split}
 use Rattle.tonekit_bytes.specs.Fields.{byte_at}
-use Rattle.tonekit_bytes.specs.Files.{judged, Out, loaded, refused, Reader, record_turn, read, singly}
+use Rattle.tonekit_bytes.specs.Files.{judged, Out, loaded, refused, Reader, record_turn, read, singly, Onward}
 
 pub not_fine : {P : Type 0} (r : Refusal) → ◌≡◌ {A = Result Unit Refusal} (Err r) (Ok tt) → P
 not_fine r h = absurd (cc)
@@ -85,6 +85,22 @@ pub limit_idle : {S : Type 0} (f : Reader S) → Steady f → f.start.at ≡ 0 �
     → run f s d n 0 f.start.st ≡ read f s
 limit_idle f w z s d n h = limits_agree f w s d (refused CutShort (length s)) n (length s + 1) 0 f.start.st (omega arith) (omega arith) (omega arith) ∙ rw z refl
 
+-- a reading that gives what it gives of the whole, from its first place to the next and to its end
+pub begins : {S : Type 0} (f : Reader S) → f.start.at ≡ 0 → (s : List ℕ) (st : S) → st ≡ f.start.st → Onward f s 0 st
+begins f z s st e = record { inside = omega arith; fuel = length s + 1; enough = omega arith; same = rw (e, ← z) refl }
+
+module _ {S : Type 0} (f : Reader S) (s : List ℕ) (at : ℕ) (st : S) (g : Onward f s at st) (v : f.verdict s at st ≡ Ok tt) where
+  pub ends : byte_at s at ≡ f.end → f.finish s at st ≡ read f s
+  ends e = sym (run_end f s (refused CutShort (length s)) g.fuel at st (omega (arith, g.inside, g.enough)) v e) ∙ g.same
+
+  pub goes : Steady f → (byte_at s at ≡ f.end → ⊥) → Onward f s (at + f.size (byte_at s at)) (f.added s at st)
+  goes w n = record {
+    inside = w.whole s at st v;
+    fuel = g.fuel - 1;
+    enough = omega (arith, w.some (byte_at s at), g.inside, g.enough);
+    same = sym (run_on f s (refused CutShort (length s)) g.fuel at st (omega (arith, g.inside, g.enough)) v n) ∙ g.same;
+  }
+
 -- where the reading goes on to a file's end, the record here is fine
 pub record Accepted {S : Type 0} (f : Reader S) (s : List ℕ) (d : Out S) (n at : ℕ) (st fin : S) (e : ℕ) : Type 0 where
   pub passes : f.verdict s at st ≡ Ok tt
@@ -104,6 +120,24 @@ accepted f s d n at st fin e h =
 
 pub no_turns : {P S : Type 0} (f : Reader S) (s : List ℕ) (at : ℕ) (st fin : S) (r : Refusal) (place e : ℕ) → run f s (refused r place) 0 at st ≡ loaded fin e → P
 no_turns f s at st fin r place e h = not_loaded r place e fin (sym (no_turn f s (refused r place) at st) ∙ h)
+
+-- of a file that is read: what P keeps from record to record, where the rest of the reading goes on to the file's end, gives Q at its End
+module _ {S Q : Type 0} (f : Reader S) (s : List ℕ) (fin : S) (e : ℕ) (P : ℕ → S → Type 0)
+    (keep : (n at : ℕ) (st : S) → P at st → f.verdict s at st ≡ Ok tt → (byte_at s at ≡ f.end → ⊥)
+    → run f s (refused CutShort (length s)) n (at + f.size (byte_at s at)) (f.added s at st) ≡ loaded fin e → P (at + f.size (byte_at s at)) (f.added s at st))
+    (close : (at : ℕ) (st : S) → P at st → f.verdict s at st ≡ Ok tt → byte_at s at ≡ f.end → f.finish s at st ≡ loaded fin e → Q) where
+  keeps : (n at : ℕ) (st : S) → run f s (refused CutShort (length s)) n at st ≡ loaded fin e → P at st → Q
+  keeps zero at st h p = no_turns f s at st fin CutShort (length s) e h
+  keeps (suc n) at st h p =
+      let a = accepted f s (refused CutShort (length s)) n at st fin e h in
+      split (eqb (byte_at s at) f.end)
+      (λ b. let k = eqb-true (byte_at s at) f.end b in close at st p a.passes k (a.ended k))
+      (λ b. let k : byte_at s at ≡ f.end → ⊥ = eqb-false (byte_at s at) f.end b in
+      let g = a.goes k in
+      keeps n (at + f.size (byte_at s at)) (f.added s at st) g (keep n at st p a.passes k g))
+
+  pub read_keeps : read f s ≡ loaded fin e → P f.start.at f.start.st → Q
+  read_keeps h p = keeps (length s + 1) f.start.at f.start.st h p
 
 -- two inputs in which each record that is reached says the same, where P holds of each place that is
 pub record Alike {S : Type 0} (f : Reader S) (t s : List ℕ) (P : ℕ → S → Type 0) : Type 0 where
@@ -138,14 +172,13 @@ module _ {S : Type 0} (f : Reader S) (t s : List ℕ) (P : ℕ → S → Type 0)
 
 -- ---- a single file
 -- an input that loads as one is a file at its front, and nothing behind it
-pub by_single : {P S : Type 0} (s : List ℕ) (o : Out S) (st : S) (e : ℕ) → singly s o ≡ loaded st e → (o ≡ loaded st e → length s ≤ e → P) → P
-by_single s (loaded fin at) st e h g =
+pub single : {S : Type 0} (s : List ℕ) (o : Out S) (st : S) (e : ℕ) → singly s o ≡ loaded st e → (o ≡ loaded st e) × (length s ≤ e)
+single s (loaded fin at) st e h =
     split (ltb at (length s))
     (λ b. not_loaded Overrun at e st (rw b at h))
     (λ b. let q : loaded fin at ≡ loaded st e = rw b at h in
-    let r : at ≡ e = (same_loaded fin st at e q).1 in
-    g q (omega (arith, ltb-false at (length s) b)))
-by_single s (refused r place) st e h g = not_loaded r place e st h
+    (q, omega (arith, ltb-false at (length s) b, (same_loaded fin st at e q).1)))
+single s (refused r place) st e h = not_loaded r place e st h
 
 -- inputs that both go on behind a file, or both end with it
 pub single_same : {S : Type 0} (t s : List ℕ) (o : Out S) → ((st : S) (e : ℕ) → o ≡ loaded st e → ltb e (length t) ≡ ltb e (length s)) → singly t o ≡ singly s o

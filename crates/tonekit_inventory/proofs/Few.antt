@@ -1,7 +1,8 @@
 -- What a lookup in a pack that loads lists: one to four components that can be read. Assumes nothing.
 use Rattle.std.proofs.Common.{ℕ, ◌+◌, ◌≤◌, ◌<◌, ◌≡◌, refl, sym, ap, ◌∙◌, subst, List, arith, eqb, ltb, length, get_or, ltb-true}
 use Rattle.tonekit_bytes.specs.Fields.{byte_at}
-use Rattle.tonekit_pack.specs.Pack.{Pst, Out, loaded, refused, read_pack, parts_from}
+use Rattle.tonekit_bytes.specs.Files.{loaded, refused}
+use Rattle.tonekit_pack.specs.Pack.{Pst, Out, read_pack, parts_from}
 use Rattle.tonekit_bytes.specs.Places.{number_at, index_of}
 use Rattle.tonekit_pack.specs.declared.Pack.{Pack}
 use Rattle.tonekit_pack.specs.Held.{shown, ReadFrom}

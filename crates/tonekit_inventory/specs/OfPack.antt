@@ -1,7 +1,8 @@
 -- A pack, as what a station holds: the source that it stands for, and what a lookup in it lists.
 use Rattle.std.specs.Prelude.{ℕ, ◌≤◌, ◌<◌, ◌≡◌, List, Option, Some, None, Result, Ok, Err}
 use Rattle.tonekit_core.specs.declared.Rejection.{Rejection}
-use Rattle.tonekit_pack.specs.Pack.{Pst, Out, loaded, refused, load_pack}
+use Rattle.tonekit_bytes.specs.Files.{loaded, refused}
+use Rattle.tonekit_pack.specs.Pack.{Pst, Out, load_pack}
 use Rattle.tonekit_pack.specs.Held.{shown}
 use Rattle.tonekit_pack.specs.declared.Pack.{Pack}
 use Rattle.tonekit_expect.specs.Lookup as lookup

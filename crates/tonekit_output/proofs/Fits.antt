@@ -11,7 +11,8 @@ use Rattle.tonekit_query.specs.declared.Query.{Query}
 use Rattle.tonekit_shape.specs.Extract.{extent_of, list_of, shape_of}
 use Rattle.tonekit_shape.specs.Record.{fit_bytes, measure_bytes, shape_bytes, shaped_from, shape_outcome}
 use Rattle.tonekit_shape.specs.declared.Extent.{Extent}
-use Rattle.tonekit_pack.specs.Pack.{Out, loaded, refused, load_pack}
+use Rattle.tonekit_bytes.specs.Files.{loaded, refused}
+use Rattle.tonekit_pack.specs.Pack.{Out, load_pack}
 use Rattle.tonekit_pack.proofs.Single.{loads_alone}
 use Rattle.tonekit_sheet_fit.proofs.Size.{suffices}
 use Rattle.tonekit_sheet_write.specs.Outcome.{sheet_of, sheet_outcome}

@@ -1,11 +1,13 @@
 -- What the reader's struct and answer stand for.
-use Rattle.std.specs.Prelude.{ℕ, ◌≤◌, ◌≡◌, List, length, get_or, Result, Ok, Err}
+use Rattle.std.specs.Prelude.{ℕ, ◌≤◌, ◌≡◌, List, length, get_or, Result}
 use Rattle.tonekit_core.specs.declared.Rejection.{Rejection}
 use Rattle.tonekit_pack.specs.declared.Pack.{Pack}
 use Rattle.tonekit_pack.specs.declared.Loaded.{Loaded}
 use Rattle.tonekit_bytes.specs.Places.{in_order}
 use Rattle.tonekit_pack.specs.Kinds.{last_of}
-use Rattle.tonekit_pack.specs.Pack.{Pst, Out, loaded, refused, read_pack}
+use Rattle.tonekit_pack.specs.Format.{answer}
+use Rattle.tonekit_bytes.specs.Files.{loaded}
+use Rattle.tonekit_pack.specs.Pack.{Pst, Out, read_pack}
 
 -- of each array as many entries as were read
 abbrev pub shown : Pack → Pst
@@ -21,8 +23,7 @@ shown p = record {
 
 -- what the reader answers
 abbrev pub answered : Result (Loaded Pack) Rejection → Out
-answered (Ok l) = loaded (shown l.held) l.end
-answered (Err e) = refused e.why e.place
+answered = answer shown
 
 -- the counts keep document 01's limits, the arrays have the length of theirs, and no accent has more rules before it than there can be
 pub record Roomy (p : Pack) : Type 0 where

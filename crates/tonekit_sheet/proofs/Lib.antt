@@ -1,6 +1,5 @@
 pub mod Same
 pub mod Records
-pub mod Anew
 pub mod Turns
 pub mod RowPlaces
 pub mod Every

@@ -5,7 +5,8 @@ use Rattle.tonekit_core.specs.Loop.{range, turns, range_to, turns_to, loop_to, l
 use Rattle.tonekit_core.specs.declared.Refusal.TheVariants.{Misplaced, Overrun, Crowded, OffScale, Doubled, Loose, Unordered}
 use Rattle.tonekit_pack.specs.Ranges.{above_zero, a_share, weight_fine, region_fine, tolerances_fine}
 use Rattle.tonekit_pack.specs.Pack.{holds, zero_or_held, settings_verdict}
-use Rattle.tonekit_sheet.specs.Reader.{Out, Sst, loaded, refused, complete, due_next, size_of, tone_verdict, accent_verdict, row_verdict, list_verdict, point_fine, points_fine, component_verdict, body_verdict, record_verdict, added, loose_row, accent_down, row_due, row_names, row_wrong, named, same_lists, repeated, list_wrong, finished, read_sheet, load_sheet}
+use Rattle.tonekit_bytes.specs.Files.{loaded, refused}
+use Rattle.tonekit_sheet.specs.Reader.{Out, Sst, complete, due_next, size_of, tone_verdict, accent_verdict, row_verdict, list_verdict, point_fine, points_fine, component_verdict, body_verdict, record_verdict, added, loose_row, accent_down, row_due, row_names, row_wrong, named, same_lists, repeated, list_wrong, finished, read_sheet, load_sheet}
 
 -- what an input is, as a single sheet; opened, it computes
 unfoldable read : List ℕ → Out

@@ -8,7 +8,8 @@ use Rattle.tonekit_expect.specs.declared.Context.{Context}
 use Rattle.tonekit_expect.specs.Lookup.{Found}
 use Rattle.std.specs.Prelude.{Some, None}
 use Rattle.tonekit_expect.proofs.Walk.{index_found}
-use Rattle.tonekit_sheet.specs.Reader.{Sst, Out, loaded, refused, row_at, read_sheet}
+use Rattle.tonekit_bytes.specs.Files.{loaded, refused}
+use Rattle.tonekit_sheet.specs.Reader.{Sst, Out, row_at, read_sheet}
 use Rattle.tonekit_sheet.specs.FromSheet.{list_numbered, row_place, final_place, prev_found, look_sheet}
 use Rattle.tonekit_sheet_read.specs.declared.Sheet.{Sheet}
 use Rattle.tonekit_sheet_read.specs.Held.{shown, ReadFrom}

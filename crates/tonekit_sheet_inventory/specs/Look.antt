@@ -9,7 +9,8 @@ use Rattle.tonekit_expect.specs.Source.{Carried, Source}
 use Rattle.tonekit_expect.specs.declared.Context.{Context}
 use Rattle.tonekit_expect.specs.Lookup.{Found}
 use Rattle.tonekit_judge.specs.declared.Listed.{Listed}
-use Rattle.tonekit_sheet.specs.Reader.{Sst, Out, loaded, refused, load_sheet}
+use Rattle.tonekit_bytes.specs.Files.{loaded, refused}
+use Rattle.tonekit_sheet.specs.Reader.{Sst, Out, load_sheet}
 use Rattle.tonekit_sheet.specs.FromSheet.{carried_from, look_sheet, source_of_sheet}
 use Rattle.tonekit_sheet_read.specs.Held.{shown}
 use Rattle.tonekit_sheet_read.specs.declared.Sheet.{Sheet}

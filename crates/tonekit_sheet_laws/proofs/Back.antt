@@ -7,7 +7,8 @@ use Rattle.tonekit_expect.specs.Source.{Accent, Source, settings_at, accent_in, 
 use Rattle.tonekit_bytes.specs.Places.{index_of}
 use Rattle.tonekit_expect.specs.declared.Context.{Context}
 use Rattle.tonekit_sheet.specs.Sheet.{View, no_tone, no_accent, prev_number, row_context, ascending, view_of, rows_of, lists_of, sheet}
-use Rattle.tonekit_sheet.specs.Reader.{Sst, Out, refused}
+use Rattle.tonekit_bytes.specs.Files.{refused}
+use Rattle.tonekit_sheet.specs.Reader.{Sst, Out}
 use Rattle.tonekit_sheet.specs.FromSheet.{tone_at as tone_is_read, accent_at as accent_is_read, prev_found, look_sheet, source_of_sheet}
 use Rattle.tonekit_sheet.specs.Agree.{Held}
 use Rattle.tonekit_sheet.specs.Fit.{Fit, components_in}

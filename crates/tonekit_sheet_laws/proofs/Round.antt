@@ -3,7 +3,8 @@ use Rattle.std.proofs.Common.{ℕ, ◌+◌, ◌*◌, ◌≤◌, ◌≡◌, refl,
 use Rattle.tonekit_core.specs.declared.Refusal.TheVariants.{CutShort}
 use Rattle.tonekit_expect.specs.Source.{Carried, Source}
 use Rattle.tonekit_sheet.specs.Sheet.{View, view_of, rows_of, lists_of, bytes_of, sheet}
-use Rattle.tonekit_sheet.specs.Reader.{Sst, Out, loaded, refused, size_of, due_next, body_verdict, start, read_sheet, load_sheet, check_sheet}
+use Rattle.tonekit_bytes.specs.Files.{loaded, refused}
+use Rattle.tonekit_sheet.specs.Reader.{Sst, Out, size_of, due_next, body_verdict, start, read_sheet, load_sheet, check_sheet}
 use Rattle.tonekit_sheet.specs.Fit.{Fit}
 use Rattle.tonekit_sheet_laws.specs.Place.{components_before, tone_at, accent_at, row_at, list_at, read_to, last_of, st_of_view, st_of}
 use Rattle.tonekit_bytes.proofs.Stands.{kind}

@@ -2,7 +2,8 @@
 use Rattle.std.specs.Prelude.{List, ℕ}
 use Rattle.tonekit_core.specs.Calls.{Outcome, written}
 use Rattle.tonekit_core.specs.Calls as calls
-use Rattle.tonekit_pack.specs.Pack.{Out, loaded, refused, load_pack}
+use Rattle.tonekit_bytes.specs.Files.{loaded, refused}
+use Rattle.tonekit_pack.specs.Pack.{Out, load_pack}
 use Rattle.tonekit_expect.specs.Source.{source_of_pack}
 use Rattle.tonekit_sheet.specs.Sheet.{sheet}
 
