@@ -3,4 +3,3 @@ pub mod Pitch
 pub mod Steps
 pub mod Laws
 pub mod Enough
-pub mod Anew
