@@ -8,7 +8,8 @@ use Rattle.tonekit_core.specs.declared.Refusal.TheVariants.{Misplaced, CutShort,
 use Rattle.std.specs.Prelude.{Result, Ok, Err}
 use Rattle.tonekit_core.proofs.Split.{split}
 use Rattle.tonekit_bytes.specs.Fields.{byte_at}
-use Rattle.tonekit_bytes.specs.Files.{judged, Out, loaded, refused, Reader, record_turn, read, singly, Onward}
+use Rattle.tonekit_bytes.specs.Files.{judged, Out, loaded, refused, Reader, record_turn, read, singly}
+use Rattle.tonekit_bytes.specs.Onward.{Onward}
 
 pub not_fine : {P : Type 0} (r : Refusal) → ◌≡◌ {A = Result Unit Refusal} (Err r) (Ok tt) → P
 not_fine r h = absurd (cc)

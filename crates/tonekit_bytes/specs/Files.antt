@@ -1,7 +1,6 @@
 -- Files of records up to an End: the tests of a record in their order, the reader of such files, and an input that is one file and nothing more.
-use Rattle.std.specs.Prelude.{ℕ, ◌+◌, ◌≤◌, ◌<◌, ◌≡◌, Bool, cond, not, List, eqb, leb, ltb, length, Result, Ok, Err}
-use Rattle.std.proofs.Common.{arith}
-use Rattle.tonekit_core.specs.Loop.{Turn, next, stop, loop_to, loop_stop}
+use Rattle.std.specs.Prelude.{ℕ, ◌+◌, Bool, cond, not, List, eqb, leb, ltb, length, Result, Ok, Err}
+use Rattle.tonekit_core.specs.Loop.{Turn, next, stop, loop_to}
 use Rattle.tonekit_core.specs.declared.Refusal.{Refusal}
 use Rattle.tonekit_core.specs.declared.Refusal.TheVariants.{Misplaced, CutShort, Overrun}
 use Rattle.tonekit_core.specs.declared.Rejection.{Rejection}
@@ -58,14 +57,3 @@ singly s (refused r place) = refused r place
 abbrev pub said : {S : Type 0} → Out S → Result Unit Rejection
 said (loaded st e) = Ok tt
 said (refused r place) = Err (record { why = r; place = place })
-
--- from this place on reading gives what it gives of the whole
-pub record Onward {S : Type 0} (f : Reader S) (s : List ℕ) (at : ℕ) (st : S) : Type 0 where
-  pub inside : at ≤ length s
-  pub fuel : ℕ
-  pub enough : length s < fuel + at
-  pub same : loop_to (record_turn f s) (refused CutShort (length s)) fuel (record { at = at; st = st }) ≡ read f s
-
--- a record that is refused ends it
-pub refuses : {S : Type 0} (f : Reader S) (s : List ℕ) (at : ℕ) (st : S) → Onward f s at st → (r : Refusal) → f.verdict s at st ≡ Err r → refused r at ≡ read f s
-refuses f s at st g r v = loop_stop (record_turn f s) (refused CutShort (length s)) g.same (omega arith) (rw v)

@@ -6,8 +6,8 @@ use Rattle.std.specs.Prelude.{Ok}
 use Rattle.tonekit_bytes.specs.Fields.{byte_at, u32_at, f32_at}
 use Rattle.tonekit_pack.specs.Ranges.{above_zero, a_share, weight_fine, knots_fine, region_fine, tolerances_fine}
 use Rattle.tonekit_bytes.specs.Places.{number_at}
-use Rattle.tonekit_bytes.specs.Files.{loaded, refused}
-use Rattle.tonekit_pack.specs.Pack.{Pst, Out, size_of, holds, zero_or_held, single, settings_verdict, body_verdict, added, pack_reader, parts_from, read_pack}
+use Rattle.tonekit_bytes.specs.Files.{Out, loaded, refused}
+use Rattle.tonekit_pack.specs.Pack.{Pst, size_of, holds, zero_or_held, single, settings_verdict, body_verdict, added, pack_reader, parts_from, read_pack}
 use Rattle.tonekit_core.proofs.Split.{split, either, neither, both}
 use Rattle.tonekit_pack.proofs.Numbers.{zero_or_before, none_before}
 use Rattle.tonekit_pack.proofs.Each.{Each, each_snoc, last_snoc}
@@ -118,7 +118,7 @@ module _ (s : List ℕ) (at : ℕ) (st : Pst) where
 -- ---- the parts behind a rule
 
 -- the rest of the reading, from a place on
-abbrev reads : List ℕ → ℕ → ℕ → Pst → Out
+abbrev reads : List ℕ → ℕ → ℕ → Pst → Out Pst
 reads s f at st = run pack_reader s (refused CutShort (length s)) f at st
 
 -- n parts from o on, after p of the same rule

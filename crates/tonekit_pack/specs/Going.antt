@@ -3,8 +3,9 @@ use Rattle.std.specs.Prelude.{ℕ, ◌+◌, ◌*◌, ◌≤◌, ◌≡◌, List,
 use Rattle.std.proofs.Common.{refl}
 use Rattle.tonekit_core.specs.declared.Refusal.{Refusal}
 use Rattle.tonekit_pack.specs.declared.Pack.{Pack}
-use Rattle.tonekit_bytes.specs.Files.{judged, refused, Onward}
-use Rattle.tonekit_bytes.specs.Files as files
+use Rattle.tonekit_bytes.specs.Files.{judged, refused}
+use Rattle.tonekit_bytes.specs.Onward as onward
+use Rattle.tonekit_bytes.specs.Onward.{Onward}
 use Rattle.tonekit_pack.specs.Pack.{Pst, due_after, size_of, body_verdict, record_verdict, pack_reader, read_pack}
 use Rattle.tonekit_pack.specs.Held.{shown}
 
@@ -27,4 +28,4 @@ judges s o st = refl
 -- a record that is refused ends the reading
 pub refuses : (s : List ℕ) (st : Pack) (at : ℕ) → Going s st at → (r : Refusal) → record_verdict s at (shown st) ≡ Err r → refused r at ≡ read_pack s
 unfolding read_pack
-refuses s st at g r v = files.refuses pack_reader s at (shown st) g.onward r v
+refuses s st at g r v = onward.refuses pack_reader s at (shown st) g.onward r v

@@ -6,8 +6,8 @@ use Rattle.tonekit_pack.specs.declared.Loaded.{Loaded}
 use Rattle.tonekit_bytes.specs.Places.{in_order}
 use Rattle.tonekit_pack.specs.Kinds.{last_of}
 use Rattle.tonekit_pack.specs.Format.{answer}
-use Rattle.tonekit_bytes.specs.Files.{loaded}
-use Rattle.tonekit_pack.specs.Pack.{Pst, Out, read_pack}
+use Rattle.tonekit_bytes.specs.Files.{Out, loaded}
+use Rattle.tonekit_pack.specs.Pack.{Pst, read_pack}
 
 -- of each array as many entries as were read
 abbrev pub shown : Pack → Pst
@@ -22,7 +22,7 @@ shown p = record {
 }
 
 -- what the reader answers
-abbrev pub answered : Result (Loaded Pack) Rejection → Out
+abbrev pub answered : Result (Loaded Pack) Rejection → Out Pst
 answered = answer shown
 
 -- the counts keep document 01's limits, the arrays have the length of theirs, and no accent has more rules before it than there can be

@@ -10,8 +10,7 @@ use Rattle.tonekit_core.specs.declared.Refusal.TheVariants.{Crowded, OffScale, D
 use Rattle.tonekit_core.specs.declared.Rejection.{Rejection}
 use Rattle.tonekit_bytes.specs.Fields.{byte_at, u32_at, f32_at}
 use Rattle.tonekit_bytes.specs.Places.{number_at}
-use Rattle.tonekit_bytes.specs.Files as files
-use Rattle.tonekit_bytes.specs.Files.{judged, loaded, Here, Reader, read, singly, said}
+use Rattle.tonekit_bytes.specs.Files.{judged, Out, loaded, Here, Reader, read, singly, said}
 use Rattle.tonekit_pack.specs.Ranges.{above_zero, a_share, weight_fine, knots_fine, region_fine, tolerances_fine}
 
 -- what has been read: the last kind; the offsets of tones, accents and rules, in order; for each accent how many rules stood before it;
@@ -24,10 +23,6 @@ pub record Pst : Type 0 where
   pub rules : List ℕ
   pub parts : ℕ
   pub total : ℕ
-
--- a pack, and where it ends; or the refusal and its place
-abbrev pub Out : Type 0
-Out = files.Out Pst
 
 -- "Order: Settings, Tones, then each Accent with its Rules, each Rule with its Parts, End": 1 to 8 tones, 1 to 8 accents, 1 to 4 parts a rule
 unfoldable pub due_after : ℕ → ℕ → Bool
@@ -55,7 +50,6 @@ holds s (o ∷ os) n = eqb (number_at s o) n || holds s os n
 
 -- "Zero means no parent, any tone, any prev": 0, or the number of one of these records
 unfoldable pub zero_or_held : List ℕ → List ℕ → ℕ → Bool
-unfolding holds
 zero_or_held s os n = eqb n 0 || holds s os n
 
 -- the verdict of one test after another: crowded, off scale, doubled, loose
@@ -80,7 +74,6 @@ tone_fine s o =
     && (a_share (f32_at s (o + tone_prior)) && (knots_fine s (o + tone_knots) (byte_at s (o + tone_knot_count)) && region_fine s (o + tone_region)))
 
 unfoldable pub tone_verdict : List ℕ → ℕ → Pst → Result Unit Refusal
-unfolding holds
 tone_verdict s o st = in_turn (tone_crowded s o st) (tone_fine s o) (not (holds s st.tones (number_at s o))) true
 
 -- number, parent ("A parent stands earlier in the file"), tolerances
@@ -88,7 +81,6 @@ abbrev pub accent_fine : List ℕ → ℕ → Bool
 accent_fine s o = not (eqb (number_at s o) 0) && tolerances_fine s (o + accent_contour)
 
 unfoldable pub accent_verdict : List ℕ → ℕ → Pst → Result Unit Refusal
-unfolding holds zero_or_held
 accent_verdict s o st =
     in_turn
     (leb 8 (length st.accents))
@@ -106,7 +98,6 @@ rule_held s o st =
     zero_or_held s st.tones (byte_at s (o + rule_tone)) && zero_or_held s st.tones (byte_at s (o + rule_prev))
 
 unfoldable pub rule_verdict : List ℕ → ℕ → Pst → Result Unit Refusal
-unfolding zero_or_held
 rule_verdict s o st = in_turn (leb 64 (length st.rules)) (rule_fine s o) true (rule_held s o st)
 
 -- the offset of the last rule
@@ -132,7 +123,6 @@ unfoldable pub part_verdict : List ℕ → ℕ → Pst → Result Unit Refusal
 part_verdict s o st = in_turn (part_crowded s o st) (part_fine (single s st) s o) true true
 
 unfoldable pub body_verdict : ℕ → List ℕ → ℕ → Pst → Result Unit Refusal
-unfolding settings_verdict tone_verdict accent_verdict rule_verdict part_verdict
 body_verdict k s o st =
     cond (eqb k settings_kind) (settings_verdict s o)
     (cond (eqb k tone_kind) (tone_verdict s o st)
@@ -141,7 +131,6 @@ body_verdict k s o st =
     (cond (eqb k part_kind) (part_verdict s o st) (Ok tt)))))
 
 unfoldable pub record_verdict : List ℕ → ℕ → Pst → Result Unit Refusal
-unfolding due_after size_of body_verdict
 record_verdict s o st = judged (due_after st.last) size_of (λ k. body_verdict k s o st) s o
 
 -- what has been read once the record of kind k at o is fine
@@ -177,10 +166,10 @@ pack_reader = record {
 }
 
 -- a pack at the front of a longer input; a single pack; and a check of the pack alone
-unfoldable pub read_pack : List ℕ → Out
+unfoldable pub read_pack : List ℕ → Out Pst
 read_pack s = read pack_reader s
 
-unfoldable pub load_pack : List ℕ → Out
+unfoldable pub load_pack : List ℕ → Out Pst
 load_pack s = singly s (read_pack s)
 
 unfoldable pub check_pack : List ℕ → Result Unit Rejection

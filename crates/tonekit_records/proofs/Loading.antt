@@ -7,8 +7,8 @@ use Rattle.tonekit_core.specs.declared.Refusal.{Refusal}
 use Rattle.tonekit_core.specs.declared.Refusal.TheVariants.{Misplaced, CutShort}
 use Rattle.std.specs.Prelude.{Ok}
 use Rattle.tonekit_bytes.specs.Fields.{byte_at}
-use Rattle.tonekit_bytes.specs.Files.{loaded, refused}
-use Rattle.tonekit_pack.specs.Pack.{Pst, Out, due_after, size_of, record_verdict, added, start, pack_reader, read_pack}
+use Rattle.tonekit_bytes.specs.Files.{Out, loaded, refused}
+use Rattle.tonekit_pack.specs.Pack.{Pst, due_after, size_of, record_verdict, added, start, pack_reader, read_pack}
 use Rattle.tonekit_core.proofs.Split.{split}
 use Rattle.tonekit_bytes.proofs.Files.{not_fine, by_verdict, run, run_refused, run_end, run_on, not_loaded, no_turns}
 use Rattle.tonekit_pack.proofs.Records.{sound, size_pos}
@@ -38,7 +38,7 @@ pub drop_behind : (s : List ℕ) (at : ℕ) (r tail : List ℕ) → drop at s �
 drop_behind s at r tail e = sym (drop-drop (length r) at s) ∙ ap (drop (length r)) e ∙ drop-append_seam r tail
 
 -- ---- from records to the reader's answer
-module _ (s : List ℕ) (d : Out) (tail : List ℕ) where
+module _ (s : List ℕ) (d : Out Pst) (tail : List ℕ) where
   run_reads : {t u : Tally} {rs : List (List ℕ)} → ReadsOn t rs u → (f at : ℕ) (st : Pst) → TallyOf s st t
       → drop at s ≡ records_bytes rs ++ (6 ∷ tail) → at ≤ length s → length rs < f → due_after u.last 6 ≡ true
       → run pack_reader s d f at st ≡ loaded (added_all st at rs) (at + length (records_bytes rs) + 1)

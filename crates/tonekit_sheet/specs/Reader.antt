@@ -14,8 +14,7 @@ use Rattle.tonekit_core.specs.declared.Rejection.{Rejection}
 use Rattle.tonekit_bytes.specs.Fields.{byte_at, u16_at, u32_at, f32_at}
 use Rattle.tonekit_pack.specs.Ranges.{a_share, weight_fine, region_fine, tolerances_fine}
 use Rattle.tonekit_bytes.specs.Places.{number_at}
-use Rattle.tonekit_bytes.specs.Files as files
-use Rattle.tonekit_bytes.specs.Files.{judged, loaded, refused, Here, Reader, read, singly, said}
+use Rattle.tonekit_bytes.specs.Files.{judged, Out, loaded, refused, Here, Reader, read, singly, said}
 use Rattle.tonekit_pack.specs.Pack.{holds, zero_or_held, in_turn, settings_verdict}
 use Rattle.tonekit_sheet.specs.Sheet.{row_count, accent_place, tone_place, prev_place}
 
@@ -28,10 +27,6 @@ pub record Sst : Type 0 where
   pub lists : List ℕ
   pub due : ℕ
   pub total : ℕ
-
--- a sheet, and where it ends; or the refusal and its place
-abbrev pub Out : Type 0
-Out = files.Out Sst
 
 -- "As many rows are due as" there are accents, tones, and tones and none before them
 abbrev pub rows_due : Sst → ℕ
@@ -253,11 +248,11 @@ abbrev pub or_else : Option ℕ → Option ℕ → Option ℕ
 or_else (Some o) b = Some o
 or_else None b = b
 
-abbrev pub refused_at : Refusal → Option ℕ → Out → Out
+abbrev pub refused_at : Refusal → Option ℕ → Out Sst → Out Sst
 refused_at r (Some o) out = refused r o
 refused_at r None out = out
 
-unfoldable pub finished : List ℕ → Sst → ℕ → Out
+unfoldable pub finished : List ℕ → Sst → ℕ → Out Sst
 finished s st e =
     refused_at Loose (loose_row s st)
     (refused_at Unordered (or_else (accent_down s st) (or_else (row_wrong s st) (list_wrong s st))) (loaded st e))
@@ -277,10 +272,10 @@ sheet_reader = record {
 }
 
 -- a sheet at the front of a longer input; a single sheet ("3 follows"); and a check of the sheet alone
-unfoldable pub read_sheet : List ℕ → Out
+unfoldable pub read_sheet : List ℕ → Out Sst
 read_sheet s = read sheet_reader s
 
-unfoldable pub load_sheet : List ℕ → Out
+unfoldable pub load_sheet : List ℕ → Out Sst
 load_sheet s = singly s (read_sheet s)
 
 unfoldable pub check_sheet : List ℕ → Result (Unit {0}) Rejection

@@ -2,8 +2,9 @@
 use Rattle.std.specs.Prelude.{ℕ, ◌+◌, ◌*◌, ◌≤◌, ◌≡◌, List, length, Err}
 use Rattle.std.proofs.Common.{refl}
 use Rattle.tonekit_core.specs.declared.Refusal.{Refusal}
-use Rattle.tonekit_bytes.specs.Files.{judged, refused, Onward}
-use Rattle.tonekit_bytes.specs.Files as files
+use Rattle.tonekit_bytes.specs.Files.{judged, refused}
+use Rattle.tonekit_bytes.specs.Onward as onward
+use Rattle.tonekit_bytes.specs.Onward.{Onward}
 use Rattle.tonekit_sheet.specs.Reader.{Sst, rows_due, due_next, size_of, body_verdict, record_verdict, sheet_reader, read_sheet}
 use Rattle.tonekit_sheet_read.specs.declared.Sheet.{Sheet}
 use Rattle.tonekit_sheet_read.specs.Held.{shown}
@@ -36,4 +37,4 @@ judges s o st = refl
 -- a record that is refused ends the reading
 pub refuses : (s : List ℕ) (st : Sheet) (at : ℕ) → Going s st at → (r : Refusal) → record_verdict s at (shown st) ≡ Err r → refused r at ≡ read_sheet s
 unfolding read_sheet
-refuses s st at g r v = files.refuses sheet_reader s at (shown st) g.onward r v
+refuses s st at g r v = onward.refuses sheet_reader s at (shown st) g.onward r v

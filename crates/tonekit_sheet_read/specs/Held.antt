@@ -8,8 +8,8 @@ use Rattle.tonekit_pack.specs.declared.Loaded.{Loaded}
 use Rattle.tonekit_pack.specs.Format.{answer}
 use Rattle.tonekit_sheet_read.specs.declared.Sheet.{Sheet}
 use Rattle.tonekit_sheet.specs.Kinds.{last_of}
-use Rattle.tonekit_bytes.specs.Files.{loaded}
-use Rattle.tonekit_sheet.specs.Reader.{Sst, Out, read_sheet}
+use Rattle.tonekit_bytes.specs.Files.{Out, loaded}
+use Rattle.tonekit_sheet.specs.Reader.{Sst, read_sheet}
 
 -- tones and accents stand one behind the other, after the settings
 abbrev pub shown : Sheet → Sst
@@ -23,7 +23,7 @@ shown p = record {
   total = p.total;
 }
 
-abbrev pub answered : Result (Loaded Sheet) Rejection → Out
+abbrev pub answered : Result (Loaded Sheet) Rejection → Out Sst
 answered = answer shown
 
 -- what every Sheet keeps: the format's limits, and the length of its array

@@ -73,7 +73,7 @@ query_bad src s r e = rw e
 
 -- what a pack or a sheet holds is judged as its call says
 module _ (p s : List ℕ) where
-  by_pack : (o : pack.Out) → on_held (of-pack.source_or p o) s ≡ on_pack p s o
+  by_pack : (o : files.Out pack.Pst) → on_held (of-pack.source_or p o) s ≡ on_pack p s o
   by_pack (files.refused r place) = refl
   by_pack (files.loaded st e) = refl
 
@@ -81,7 +81,7 @@ module _ (p s : List ℕ) where
   unfolding judge_outcome
   pack_held = by_pack (load_pack p)
 
-  by_sheet : (o : sheet.Out) → on_held (of-sheet.source_or p o) s ≡ on_sheet p s o
+  by_sheet : (o : files.Out sheet.Sst) → on_held (of-sheet.source_or p o) s ≡ on_sheet p s o
   by_sheet (files.refused r place) = refl
   by_sheet (files.loaded st e) = refl
 
