@@ -1,2 +1,4 @@
 pub mod Fields
 pub mod Places
+pub mod Files
+pub mod Onward

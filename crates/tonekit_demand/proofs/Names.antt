@@ -3,6 +3,7 @@ use Rattle.std.proofs.Common.{ℕ, ◌/◌, ◌%◌, ◌≤◌, ◌<◌, ◌≡�
 use mathlib.Core.Option.{Option, none, some}
 use lib.ListN.{length-map}
 use lib.Ieee.{nan}
+use Rattle.tonekit_bytes.specs.Files as files
 use Rattle.tonekit_pack.specs.Pack as pack
 use Rattle.tonekit_pack.proofs.Single as pack-single
 use Rattle.tonekit_pack.proofs.Loads.{loads}
@@ -91,11 +92,11 @@ module _ (src : Source) (few : length src.tones ≤ 8) (alike : (c : Context) (c
       )
 
 -- a pack that loads, and a sheet
-pack_few : (p : List ℕ) (st : pack.Pst) (e : ℕ) → pack.read_pack p ≡ pack.loaded st e → length (source_of_pack p st).tones ≤ 8
+pack_few : (p : List ℕ) (st : pack.Pst) (e : ℕ) → pack.read_pack p ≡ files.loaded st e → length (source_of_pack p st).tones ≤ 8
 unfolding source_of_pack
 pack_few p st e r = omega (arith, length-map st.tones (source.tone_at p), (loads p st e r).kept.few_tones)
 
-sheet_few : (p : List ℕ) (st : sheet.Sst) (e : ℕ) → sheet.read_sheet p ≡ sheet.loaded st e → length (source_of_sheet p st).tones ≤ 8
+sheet_few : (p : List ℕ) (st : sheet.Sst) (e : ℕ) → sheet.read_sheet p ≡ files.loaded st e → length (source_of_sheet p st).tones ≤ 8
 unfolding source_of_sheet
 sheet_few p st e r = omega (arith, length-map st.tones (from_sheet.tone_at p), tones_few p st e r)
 

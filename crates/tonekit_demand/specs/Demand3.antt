@@ -3,7 +3,8 @@
 -- proofs/Demand3.antt proves them.
 use Rattle.std.specs.Prelude.{ℕ, ◌≡◌, ◌↔◌, List, length}
 use Rattle.tonekit_core.specs.Calls.{written, answer_in, buffer_after}
-use Rattle.tonekit_pack.specs.Pack.{Pst, loaded, load_pack}
+use Rattle.tonekit_bytes.specs.Files.{loaded}
+use Rattle.tonekit_pack.specs.Pack.{Pst, load_pack}
 use Rattle.tonekit_expect.specs.Source.{Source, source_of_pack}
 use Rattle.tonekit_sheet.specs.Agree.{Bytes, Agree}
 use Rattle.tonekit_sheet_write.specs.Outcome.{sheet_outcome}

@@ -11,7 +11,8 @@ use Rattle.tonekit_float.proofs.Order.{yes}
 use Rattle.tonekit_bytes.specs.Fields.{byte_at, f32_at}
 use Rattle.tonekit_bytes.specs.Places.{index_of, number_at}
 use Rattle.tonekit_pack.specs.Ranges.{knot_fine, slot_fine, slot_turn, knots_fine}
-use Rattle.tonekit_pack.specs.Pack.{Pst, loaded, read_pack, parts_from}
+use Rattle.tonekit_bytes.specs.Files.{loaded}
+use Rattle.tonekit_pack.specs.Pack.{Pst, read_pack, parts_from}
 use Rattle.std.specs.Prelude.{Some, None}
 use Rattle.tonekit_expect.specs.declared.Context.{Context}
 use Rattle.tonekit_expect.specs.declared.Listing.{Listing}

@@ -6,7 +6,8 @@ use Rattle.tonekit_core.specs.Loop.{range_to, loop_to, loop_stop}
 use Rattle.tonekit_core.proofs.LoopLaws.{to_again, to_stop, loop_again}
 use Rattle.tonekit_bytes.specs.Fields.{byte_at}
 use Rattle.tonekit_bytes.specs.Places.{index_turn, index_of, number_at}
-use Rattle.tonekit_pack.specs.Pack.{Pst, loaded, read_pack}
+use Rattle.tonekit_bytes.specs.Files.{loaded}
+use Rattle.tonekit_pack.specs.Pack.{Pst, read_pack}
 use Rattle.std.specs.Prelude.{Some, None}
 use Rattle.tonekit_expect.specs.declared.Context.{Context}
 use Rattle.tonekit_expect.specs.Lookup.{Found, Walked, best_rule, parent_of, climb_turn, find_rule}

@@ -3,7 +3,8 @@ use Rattle.std.proofs.Common.{ℕ, ◌≤◌, ◌<◌, ◌≡◌, refl, ◌∙�
 use mathlib.Core.Option.{some}
 use Rattle.std.specs.Prelude.{Some, None}
 use lib.ListN.{length-map}
-use Rattle.tonekit_pack.specs.Pack.{Pst, loaded, read_pack}
+use Rattle.tonekit_bytes.specs.Files.{loaded}
+use Rattle.tonekit_pack.specs.Pack.{Pst, read_pack}
 use Rattle.tonekit_expect.specs.Lookup.{Look, look_up, component_of}
 use Rattle.tonekit_expect.specs.Source.{Carried, carried, components, given, source_of_pack}
 use Rattle.tonekit_expect.specs.declared.Context.{Context}

@@ -1,7 +1,8 @@
 -- What a lookup in a pack that loads lists: one to four components that can be read. Assumes nothing.
 use Rattle.std.proofs.Common.{ℕ, ◌+◌, ◌≤◌, ◌<◌, ◌≡◌, refl, sym, ap, ◌∙◌, subst, List, arith, eqb, ltb, length, get_or, ltb-true}
 use Rattle.tonekit_bytes.specs.Fields.{byte_at}
-use Rattle.tonekit_pack.specs.Pack.{Pst, Out, loaded, refused, read_pack, parts_from}
+use Rattle.tonekit_bytes.specs.Files.{Out, loaded, refused}
+use Rattle.tonekit_pack.specs.Pack.{Pst, read_pack, parts_from}
 use Rattle.tonekit_bytes.specs.Places.{number_at, index_of}
 use Rattle.tonekit_pack.specs.declared.Pack.{Pack}
 use Rattle.tonekit_pack.specs.Held.{shown}
@@ -56,7 +57,7 @@ record ReadFrom (s : List ℕ) (p : Pack) : Type 0 where
   reads : read_pack s ≡ loaded (shown p) end
 
 -- a pack that is held was read from its bytes
-read_from : (s : List ℕ) (p : Pack) (o : Out) → read_pack s ≡ o → pack_in o ≡ Some (shown p) → ReadFrom s p
+read_from : (s : List ℕ) (p : Pack) (o : Out Pst) → read_pack s ≡ o → pack_in o ≡ Some (shown p) → ReadFrom s p
 read_from s p (loaded st e) q h = let is : st ≡ shown p = cc in record { end = e; reads = q ∙ ap (λ (x : Pst). loaded x e) is }
 read_from s p (refused r place) q h = let n : ◌≡◌ {A = ℕ} 0 1 = cc in absurd (omega arith)
 

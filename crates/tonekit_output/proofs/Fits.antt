@@ -11,7 +11,8 @@ use Rattle.tonekit_query.specs.declared.Query.{Query}
 use Rattle.tonekit_shape.specs.Extract.{extent_of, list_of, shape_of}
 use Rattle.tonekit_shape.specs.Record.{fit_bytes, measure_bytes, shape_bytes, shaped_from, shape_outcome}
 use Rattle.tonekit_shape.specs.declared.Extent.{Extent}
-use Rattle.tonekit_pack.specs.Pack.{Out, loaded, refused, load_pack}
+use Rattle.tonekit_bytes.specs.Files.{Out, loaded, refused}
+use Rattle.tonekit_pack.specs.Pack.{Pst, load_pack}
 use Rattle.tonekit_pack.proofs.Single.{loads_alone}
 use Rattle.tonekit_sheet_fit.proofs.Size.{suffices}
 use Rattle.tonekit_sheet_write.specs.Outcome.{sheet_of, sheet_outcome}
@@ -39,7 +40,7 @@ unfolding shape_outcome
 shape_fits s = of_query s (load_query s)
 
 -- ---- the sheet
-of_pack : (s : List ℕ) (o : Out) → load_pack s ≡ o → Fits sheet_most (sheet_of s o)
+of_pack : (s : List ℕ) (o : Out Pst) → load_pack s ≡ o → Fits sheet_most (sheet_of s o)
 of_pack s (refused r place) e = tt
 of_pack s (loaded st end) e = suffices.enough s st end (loads_alone s st end e).0
 

@@ -1,11 +1,13 @@
 -- What the reader's struct and answer stand for.
-use Rattle.std.specs.Prelude.{Result, Ok, Err}
+use Rattle.std.specs.Prelude.{Result}
 use Rattle.tonekit_core.specs.declared.Rejection.{Rejection}
 use Rattle.tonekit_pack.specs.declared.Pack.{Pack}
 use Rattle.tonekit_pack.specs.declared.Loaded.{Loaded}
 use Rattle.tonekit_bytes.specs.Places.{in_order}
 use Rattle.tonekit_pack.specs.Kinds.{last_of}
-use Rattle.tonekit_pack.specs.Pack.{Pst, Out, loaded, refused}
+use Rattle.tonekit_pack.specs.Pack.{Pst}
+use Rattle.tonekit_pack.specs.Format.{answer}
+use Rattle.tonekit_bytes.specs.Files.{Out, loaded}
 
 -- of each array as many entries as were read
 abbrev pub shown : Pack → Pst
@@ -20,6 +22,5 @@ shown p = record {
 }
 
 -- what the reader answers
-abbrev pub answered : Result (Loaded Pack) Rejection → Out
-answered (Ok l) = loaded (shown l.held) l.end
-answered (Err e) = refused e.why e.place
+abbrev pub answered : Result (Loaded Pack) Rejection → Out Pst
+answered = answer shown

@@ -4,10 +4,11 @@ use Rattle.tonekit_core.specs.Loop.{Turn, next, stop, range, range_to}
 use Rattle.tonekit_core.specs.Layout.{query_kind, query_size, query_accent, query_tone, query_prev, query_final, query_start, query_end}
 use Rattle.tonekit_core.specs.Layout.{query_floor, query_ceil, query_issues, query_variant_count, variant_tones, variant_weights}
 use Rattle.tonekit_core.specs.Layout.{variant_size, query_frame_count, frame_kind, frame_size, frame_voiced}
-use Rattle.tonekit_core.specs.declared.Refusal.TheVariants.{Misplaced, CutShort, Overrun, Crowded, BadQuery}
+use Rattle.tonekit_core.specs.declared.Refusal.TheVariants.{Overrun, Crowded, BadQuery}
 use Rattle.tonekit_core.specs.declared.Refusal.{Refusal}
 use Rattle.tonekit_core.specs.declared.Rejection.{Rejection}
 use Rattle.tonekit_bytes.specs.Fields.{byte_at, u16_at, u32_at, f32_at}
+use Rattle.tonekit_bytes.specs.Files.{judged}
 use Rattle.tonekit_query.specs.declared.Query.{Query}
 
 -- "variant count u8 (at most 4), 4 times (tone u8, weight f32), unused ones zero": five zero bytes
@@ -22,22 +23,17 @@ variant_turn s i ok = ok && variant_fine s i
 unfoldable pub variants_fine : List ℕ → Bool
 variants_fine s = range (variant_turn s) 0 4 true
 
--- the fixed record: "in each 1, 2, 4, (10 in a query)"; counts past their limits are 4; final is 0 or 1; "bits 10 to 15 are clear"
+-- the fixed record: counts past their limits are 4; final is 0 or 1; "bits 10 to 15 are clear"
 unfoldable pub record_verdict : List ℕ → Result Unit Refusal
 record_verdict s =
-    cond (eqb (length s) 0) (Err CutShort)
-    (cond (not (eqb (byte_at s 0) query_kind)) (Err Misplaced)
-    (cond (ltb (length s) query_size) (Err CutShort)
-    (cond (ltb 4 (byte_at s query_variant_count) || ltb 1024 (u16_at s query_frame_count)) (Err Crowded)
-    (cond (leb (byte_at s query_final) 1 && (ltb (u16_at s query_issues) 1024 && variants_fine s)) (Ok tt) (Err BadQuery)))))
+    judged (λ k. eqb k query_kind) (λ k. query_size)
+    (λ k. cond (ltb 4 (byte_at s query_variant_count) || ltb 1024 (u16_at s query_frame_count)) (Err Crowded)
+    (cond (leb (byte_at s query_final) 1 && (ltb (u16_at s query_issues) 1024 && variants_fine s)) (Ok tt) (Err BadQuery))) s 0
 
 -- the frame record at an offset; the voiced flag is 0 or 1, all else may be any bits
 unfoldable pub frame_verdict : List ℕ → ℕ → Result Unit Refusal
 frame_verdict s at =
-    cond (leb (length s) at) (Err CutShort)
-    (cond (not (eqb (byte_at s at) frame_kind)) (Err Misplaced)
-    (cond (ltb (length s) (at + frame_size)) (Err CutShort)
-    (cond (leb (byte_at s (at + frame_voiced)) 1) (Ok tt) (Err BadQuery))))
+    judged (λ k. eqb k frame_kind) (λ k. frame_size) (λ k. cond (leb (byte_at s (at + frame_voiced)) 1) (Ok tt) (Err BadQuery)) s at
 
 -- what the fixed record says; the variants stay in the bytes
 unfoldable pub fields_of : List ℕ → Query

@@ -3,7 +3,8 @@ use Rattle.std.proofs.Common.{ℕ, zero, suc, ◌+◌, ◌-◌, ◌*◌, ◌/◌
 use mathlib.Core.Option.{Option, none, some}
 use lib.ListN.{length-map}
 use Rattle.tonekit_core.specs.Layout.{sheet_most}
-use Rattle.tonekit_pack.specs.Pack.{Pst, loaded, read_pack}
+use Rattle.tonekit_bytes.specs.Files.{loaded}
+use Rattle.tonekit_pack.specs.Pack.{Pst, read_pack}
 use Rattle.tonekit_core.proofs.Split.{split}
 use Rattle.tonekit_pack.proofs.Loads.{loads}
 use Rattle.tonekit_expect.specs.declared.Listing.{Listing}

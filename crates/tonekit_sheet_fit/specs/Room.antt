@@ -1,6 +1,7 @@
 -- "13,266 bytes always suffice."
 use Rattle.std.specs.Prelude.{ℕ, ◌≤◌, ◌≡◌, List, length}
-use Rattle.tonekit_pack.specs.Pack.{Pst, loaded, read_pack}
+use Rattle.tonekit_bytes.specs.Files.{loaded}
+use Rattle.tonekit_pack.specs.Pack.{Pst, read_pack}
 use Rattle.tonekit_expect.specs.Source.{source_of_pack}
 use Rattle.tonekit_sheet.specs.Sheet.{sheet}
 

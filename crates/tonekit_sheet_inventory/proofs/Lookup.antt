@@ -8,7 +8,8 @@ use Rattle.tonekit_expect.specs.declared.Context.{Context}
 use Rattle.tonekit_expect.specs.Lookup.{Found}
 use Rattle.std.specs.Prelude.{Some, None}
 use Rattle.tonekit_expect.proofs.Walk.{index_found}
-use Rattle.tonekit_sheet.specs.Reader.{Sst, Out, loaded, refused, row_at, read_sheet}
+use Rattle.tonekit_bytes.specs.Files.{Out, loaded, refused}
+use Rattle.tonekit_sheet.specs.Reader.{Sst, row_at, read_sheet}
 use Rattle.tonekit_sheet.specs.FromSheet.{list_numbered, row_place, final_place, prev_found, look_sheet}
 use Rattle.tonekit_sheet_read.specs.declared.Sheet.{Sheet}
 use Rattle.tonekit_sheet_read.specs.Held.{shown}
@@ -52,7 +53,7 @@ pub record ReadFrom (s : List ℕ) (p : Sheet) : Type 0 where
   pub end : ℕ
   pub reads : read_sheet s ≡ loaded (shown p) end
 
-pub read_from : (s : List ℕ) (p : Sheet) (o : Out) → read_sheet s ≡ o → sheet_in o ≡ Some (shown p) → ReadFrom s p
+pub read_from : (s : List ℕ) (p : Sheet) (o : Out Sst) → read_sheet s ≡ o → sheet_in o ≡ Some (shown p) → ReadFrom s p
 read_from s p (loaded st e) q h = let is : st ≡ shown p = cc in record { end = e; reads = q ∙ ap (λ (x : Sst). loaded x e) is }
 read_from s p (refused r place) q h = let n : ◌≡◌ {A = ℕ} 0 1 = cc in absurd (omega arith)
 

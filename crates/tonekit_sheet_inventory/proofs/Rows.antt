@@ -4,7 +4,8 @@ use Rattle.tonekit_bytes.specs.Fields.{byte_at}
 use Rattle.tonekit_core.proofs.Split.{split}
 use Rattle.tonekit_expect.specs.declared.Context.{Context}
 use Rattle.tonekit_sheet.specs.Sheet.{row_count}
-use Rattle.tonekit_sheet.specs.Reader.{Sst, loaded, row_at, read_sheet}
+use Rattle.tonekit_bytes.specs.Files.{loaded}
+use Rattle.tonekit_sheet.specs.Reader.{Sst, row_at, read_sheet}
 use Rattle.tonekit_sheet.specs.FromSheet.{row_place, final_place}
 use Rattle.tonekit_sheet.proofs.RowPlaces.{rows_few}
 use Rattle.tonekit_sheet_inverse.proofs.Loads.{reads}

@@ -9,7 +9,8 @@ use Rattle.tonekit_sheet.specs.Agree.{Bytes}
 use Rattle.tonekit_sheet.specs.Gather.{gather}
 use Rattle.tonekit_sheet.specs.Number.{number_in}
 use Rattle.tonekit_sheet.specs.Sheet.{ascending, no_tone, no_accent, row_context, View, view_of, rows_of, lists_of, tone_bytes, accent_bytes, list_bytes, tone_piece, accent_piece, row_piece, list_piece, bytes_with, bytes_of, sheet}
-use Rattle.tonekit_sheet.specs.Reader.{Sst, loaded, row_at, list_size, load_sheet}
+use Rattle.tonekit_sheet.specs.Reader.{Sst, row_at, list_size, load_sheet}
+use Rattle.tonekit_bytes.specs.Files.{loaded}
 use Rattle.tonekit_sheet.specs.FromSheet.{tone_at, accent_at, look_sheet, source_of_sheet}
 use Rattle.tonekit_sheet_inverse.proofs.Place.{rows_from, list_place, lists_from}
 use Rattle.tonekit_sheet_inverse.proofs.Spans.{Spans, one_spans, joined, gather_spans, spans_all}

@@ -2,7 +2,8 @@
 use Rattle.std.proofs.Common.{ℕ, ◌≡◌, refl, sym, ap, ◌∙◌, ◌↔◌, List}
 use Rattle.tonekit_expect.specs.Source.{Source}
 use Rattle.tonekit_sheet.specs.Sheet.{sheet}
-use Rattle.tonekit_sheet.specs.Reader.{Sst, loaded, load_sheet}
+use Rattle.tonekit_bytes.specs.Files.{loaded}
+use Rattle.tonekit_sheet.specs.Reader.{Sst, load_sheet}
 use Rattle.tonekit_sheet.specs.FromSheet.{source_of_sheet}
 use Rattle.tonekit_sheet.specs.Agree.{Bytes, Agree}
 use Rattle.tonekit_sheet.specs.Fit.{Fit}

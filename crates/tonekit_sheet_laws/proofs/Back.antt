@@ -7,7 +7,8 @@ use Rattle.tonekit_expect.specs.Source.{Accent, Source, settings_at, accent_in, 
 use Rattle.tonekit_bytes.specs.Places.{index_of}
 use Rattle.tonekit_expect.specs.declared.Context.{Context}
 use Rattle.tonekit_sheet.specs.Sheet.{View, no_tone, no_accent, prev_number, row_context, ascending, view_of, rows_of, lists_of, sheet}
-use Rattle.tonekit_sheet.specs.Reader.{Sst, Out, refused}
+use Rattle.tonekit_bytes.specs.Files.{Out, refused}
+use Rattle.tonekit_sheet.specs.Reader.{Sst}
 use Rattle.tonekit_sheet.specs.FromSheet.{tone_at as tone_is_read, accent_at as accent_is_read, prev_found, look_sheet, source_of_sheet}
 use Rattle.tonekit_sheet.specs.Agree.{Held}
 use Rattle.tonekit_sheet.specs.Fit.{Fit, components_in}
@@ -32,7 +33,7 @@ all_read f g l d h =
     (λ i b. let c : i < length l = omega (arith, n) in
     get_or-map f (up_to g (length l)) i 0 d (rw (up_to_length g (length l)) c) ∙ ap f (up_to_get g (length l) i c) ∙ h i c)
 
-module _ (s : List ℕ) (d : Out) (src : Source) (v : View) (fit : ViewFit src v) (laid : Laid s v (lists_of v)) where
+module _ (s : List ℕ) (d : Out Sst) (src : Source) (v : View) (fit : ViewFit src v) (laid : Laid s v (lists_of v)) where
   settings_same : settings_at s 0 ≡ v.settings
   settings_same =
       let w = settings_read s d src v fit laid in
@@ -82,7 +83,7 @@ abbrev pub read_back : Source → Source
 read_back src = source_of_sheet (sheet src) (st_of src)
 
 module _ (src : Source) (fit : Fit src) where
-  abbrev d : Out
+  abbrev d : Out Sst
   d = refused CutShort 0
 
   pub settings_back : (read_back src).settings ≡ src.settings

@@ -6,7 +6,8 @@ use Rattle.tonekit_bytes.specs.Fields.{byte_at, u32_at}
 use Rattle.tonekit_core.proofs.Split.{split}
 use Rattle.tonekit_expect.specs.Source.{Carried, Source}
 use Rattle.tonekit_sheet.specs.Sheet.{View, no_carried, lists_of}
-use Rattle.tonekit_sheet.specs.Reader.{Out}
+use Rattle.tonekit_bytes.specs.Files.{Out}
+use Rattle.tonekit_sheet.specs.Reader.{Sst}
 use Rattle.tonekit_sheet.specs.FromSheet.{bits_at, carried_at, carried_from}
 use Rattle.tonekit_sheet.specs.Fit.{CarriedFit}
 use Rattle.tonekit_sheet_laws.proofs.Place.{list_at}
@@ -58,7 +59,7 @@ component_back s o n first many j c h w f =
       points = points i;
     }
 
-module _ (s : List ℕ) (d : Out) (src : Source) (v : View) (fit : ViewFit src v) (laid : Laid s v (lists_of v)) where
+module _ (s : List ℕ) (d : Out Sst) (src : Source) (v : View) (fit : ViewFit src v) (laid : Laid s v (lists_of v)) where
   pub list_back : (i : ℕ) → i < length (lists_of v) → carried_from s (list_at v (lists_of v) i) (byte_at s (list_at v (lists_of v) i + 6)) ≡ get_or (lists_of v) i []
   list_back i h =
       let o = list_at v (lists_of v) i in

@@ -6,7 +6,8 @@ use Rattle.tonekit_expect.specs.declared.Context.{Context}
 use Rattle.tonekit_sheet.specs.Number.{noted, number_in}
 use Rattle.tonekit_sheet.specs.Gather.{gather}
 use Rattle.tonekit_sheet.specs.Sheet.{or_skip, asc_from, ascending, View, row_context, row_bytes, view_of, rows_of, note_turn, lists_of, row_piece, bytes_with, bytes_of, sheet}
-use Rattle.tonekit_sheet.specs.Reader.{Sst, loaded, load_sheet}
+use Rattle.tonekit_bytes.specs.Files.{loaded}
+use Rattle.tonekit_sheet.specs.Reader.{Sst, load_sheet}
 use Rattle.tonekit_sheet.specs.FromSheet.{source_of_sheet}
 use Rattle.tonekit_sheet.specs.Agree.{Held, Agree}
 use Rattle.tonekit_sheet.specs.Fit.{Fit}

@@ -8,7 +8,8 @@ use Rattle.tonekit_core.proofs.Split.{split}
 use Rattle.tonekit_expect.specs.Source.{Carried, Source}
 use Rattle.tonekit_sheet.specs.Number.{number_in}
 use Rattle.tonekit_sheet.specs.Sheet.{View, no_tone, no_accent, accent_place, tone_place, prev_place, prev_number, rows_of, lists_of}
-use Rattle.tonekit_sheet.specs.Reader.{Sst, Out, loaded, loose_turn, loose_row, accent_turn, accent_down, prev_due, row_due, row_names, row_turn, row_wrong, named, list_size, same_lists, repeated, list_turn, list_wrong, finished}
+use Rattle.tonekit_bytes.specs.Files.{Out, loaded}
+use Rattle.tonekit_sheet.specs.Reader.{Sst, loose_turn, loose_row, accent_turn, accent_down, prev_due, row_due, row_names, row_turn, row_wrong, named, list_size, same_lists, repeated, list_turn, list_wrong, finished}
 use Rattle.tonekit_sheet.specs.Reader.{row_at as row_in}
 use Rattle.tonekit_sheet.specs.FromSheet.{carried_from}
 use Rattle.tonekit_sheet_laws.proofs.Place.{up_to, tone_at, accent_at, row_at, list_at, read_to}
@@ -30,7 +31,7 @@ or_right false b h = h
 or_left : (a b : Bool) → a ≡ true → (a || b) ≡ true
 or_left a b h = rw h
 
-module _ (s : List ℕ) (d : Out) (src : Source) (v : View) (fit : ViewFit src v) (laid : Laid s v (lists_of v)) (last total : ℕ) where
+module _ (s : List ℕ) (d : Out Sst) (src : Source) (v : View) (fit : ViewFit src v) (laid : Laid s v (lists_of v)) (last total : ℕ) where
   abbrev lists : List (List Carried)
   lists = lists_of v
 

@@ -12,7 +12,8 @@ use Rattle.tonekit_expect.proofs.Walk.{index_found}
 use Rattle.tonekit_expect.specs.declared.Context.{Context}
 use Rattle.tonekit_sheet.specs.Number.{place_in, number_in}
 use Rattle.tonekit_sheet.specs.Sheet.{View, no_tone, no_accent, prev_number, rows_of, lists_of}
-use Rattle.tonekit_sheet.specs.Reader.{Sst, Out}
+use Rattle.tonekit_bytes.specs.Files.{Out}
+use Rattle.tonekit_sheet.specs.Reader.{Sst}
 use Rattle.tonekit_sheet.specs.Reader.{row_at as row_in}
 use Rattle.tonekit_sheet.specs.FromSheet.{list_numbered, row_place, final_place, prev_found, look_placed}
 use Rattle.tonekit_sheet_laws.proofs.Place.{up_to, tone_at, accent_at, list_at, read_to}
@@ -52,7 +53,7 @@ pub record FoundAt (f : Found ℕ) (count : ℕ) (number : ℕ → ℕ) (n : ℕ
   pub there : at < count
   pub same : number at ≡ n
 
-module _ (s : List ℕ) (d : Out) (src : Source) (v : View) (fit : ViewFit src v) (laid : Laid s v (lists_of v)) (last total : ℕ) where
+module _ (s : List ℕ) (d : Out Sst) (src : Source) (v : View) (fit : ViewFit src v) (laid : Laid s v (lists_of v)) (last total : ℕ) where
   abbrev lists : List (List Carried)
   lists = lists_of v
 

@@ -3,7 +3,8 @@ use Rattle.std.proofs.Common.{ℕ, ◌+◌, ◌-◌, ◌≤◌, ◌<◌, ◌≡�
 use Rattle.tonekit_core.specs.Layout.{tone_knot_count, rule_kind, rule_size, rule_form}
 use Rattle.tonekit_bytes.specs.Fields.{byte_at}
 use Rattle.tonekit_bytes.specs.Places.{index_of, number_at}
-use Rattle.tonekit_pack.specs.Pack.{Pst, loaded, read_pack}
+use Rattle.tonekit_bytes.specs.Files.{loaded}
+use Rattle.tonekit_pack.specs.Pack.{Pst, read_pack}
 use Rattle.tonekit_core.proofs.Split.{split}
 use Rattle.tonekit_pack.proofs.Loads.{RuleFine, Loads, loads, firsts_bound}
 use Rattle.std.specs.Prelude.{Some, None}

@@ -1,10 +1,10 @@
 -- What the reader keeps at every turn: every record read stands where the counts put it, and each list has as many components as it says. Assumes nothing.
-use Rattle.std.proofs.Common.{ℕ, ◌+◌, ◌-◌, ◌*◌, ◌≤◌, ◌<◌, ◌≡◌, refl, List, [], ◌∷◌, ◌++◌, arith, length, get_or, length-append, ltb, ltb-true, ltb-false, Ok}
+use Rattle.std.proofs.Common.{ℕ, ◌+◌, ◌-◌, ◌*◌, ◌≤◌, ◌<◌, ◌≡◌, refl, List, [], ◌∷◌, arith, length, get_or, length-append, ltb, ltb-true, ltb-false, Ok}
 use lib.ListN.{get_or-append}
-use lib.Seq.{get_or-append_seam}
 use Rattle.tonekit_bytes.specs.Fields.{byte_at}
 use Rattle.tonekit_core.proofs.Split.{split}
 use Rattle.tonekit_core.proofs.Lists.{last_snoc}
+use Rattle.tonekit_pack.proofs.Each.{last_snoc}
 use Rattle.tonekit_sheet.specs.Reader.{Sst, size_of, last_list, body_verdict, added, start}
 use Rattle.tonekit_sheet.proofs.Every.{every_snoc}
 use Rattle.tonekit_sheet.proofs.Records.{Complete, rows_done, list_done, Due, settings, tone, accent, row, list, component, finish, tone_room, accent_room, list_room, list_some, component_room}

@@ -8,7 +8,9 @@ use Rattle.tonekit_core.specs.declared.Rejection.{Rejection}
 use Rattle.tonekit_query.specs.Query.{load_query, frames_of}
 use Rattle.tonekit_query.specs.declared.Query.{Query}
 use Rattle.tonekit_input.specs.Input.{held_of, query_of}
-use Rattle.tonekit_pack.specs.Pack.{Out, load_pack}
+use Rattle.tonekit_bytes.specs.Files.{Out}
+use Rattle.tonekit_pack.specs.Pack.{Pst, load_pack}
+use Rattle.tonekit_bytes.specs.Files as files
 use Rattle.tonekit_pack.specs.Pack as pack
 use Rattle.tonekit_sheet.specs.Reader.{load_sheet}
 use Rattle.tonekit_sheet.specs.Reader as sheet
@@ -90,18 +92,18 @@ on_held (Err e) s = refused e.why e.place
 on_held (Ok src) s = judgement src s
 
 -- of a pack's bytes
-abbrev pub on_pack : List ℕ → List ℕ → Out → Outcome
-on_pack p s (pack.refused r place) = refused r place
-on_pack p s (pack.loaded st e) = judgement (source_of_pack p st) s
+abbrev pub on_pack : List ℕ → List ℕ → Out Pst → Outcome
+on_pack p s (files.refused r place) = refused r place
+on_pack p s (files.loaded st e) = judgement (source_of_pack p st) s
 
 -- the call `judge`: what a pack's and a query's bytes are turned into
 unfoldable pub judge_outcome : List ℕ → List ℕ → Outcome
 judge_outcome p s = on_pack p s (load_pack p)
 
 -- with a sheet in the pack's place
-abbrev pub on_sheet : List ℕ → List ℕ → sheet.Out → Outcome
-on_sheet p s (sheet.refused r place) = refused r place
-on_sheet p s (sheet.loaded st e) = judgement (source_of_sheet p st) s
+abbrev pub on_sheet : List ℕ → List ℕ → files.Out sheet.Sst → Outcome
+on_sheet p s (files.refused r place) = refused r place
+on_sheet p s (files.loaded st e) = judgement (source_of_sheet p st) s
 
 -- the call `judge_sheet`: what a sheet's and a query's bytes are turned into
 unfoldable pub judge_sheet_outcome : List ℕ → List ℕ → Outcome
