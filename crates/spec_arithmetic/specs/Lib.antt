@@ -1,5 +1,6 @@
 pub mod Fields
 pub mod Places
+pub mod Files
 pub mod Pick
 pub mod Narrow
 pub mod Magnitude

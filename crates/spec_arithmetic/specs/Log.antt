@@ -1,5 +1,5 @@
 -- ln and log2 as document 01's Arithmetic section writes them: f64 operations, each rounded once, in its order.
-use Rattle.std.specs.Prelude.{ℕ, zero, suc, ◌+◌, ◌-◌, ◌*◌, ◌/◌, ◌%◌, ◌^◌, ◌≤◌, true, false, cond, ℤ, pos, negsuc, from_bits, to_bits, Float, ◌≡◌, Result, Ok, Err}
+use Rattle.std.specs.Prelude.{ℕ, zero, suc, ◌+◌, ◌-◌, ◌*◌, ◌/◌, ◌%◌, ◌^◌, true, false, cond, from_bits, to_bits, Float, ◌≡◌, Result, Ok, Err}
 use Rattle.std.specs.Float.{nan, inf, fin, binary64}
 use Rattle.std.specs.Float.Ieee.{add, sub, mul, div, lt, of_int, up, down, size, round, minus}
 use Rattle.spec_arithmetic.specs.Constants.{LN2, LOG2E, ROOT2, half, one, two, scale, least, num}
@@ -65,11 +65,6 @@ log2_of x = log_by log2_at x
 abbrev pub IsPartsOf : Float → Result Parts Float → Type 0
 IsPartsOf x (Ok p) = (f : Parts → Float) → log_by f x ≡ f p
 IsPartsOf x (Err v) = (f : Parts → Float) → log_by f x ≡ v
-
--- the k for which 2 ^ k is an f64, subnormal or not: from -1074 to 1023
-abbrev pub Exponent : ℤ → Type 0
-Exponent (pos k) = k ≤ 1023
-Exponent (negsuc k) = suc k ≤ 1074
 
 -- ---- how the code finds m and e
 -- a normal number's: the digits with 1's exponent, and the exponent's field less its bias

@@ -8,7 +8,9 @@ use Rattle.tonekit_core.specs.declared.Rejection.{Rejection}
 use Rattle.spec_query.specs.Query.{load_query, frames_of}
 use Rattle.spec_query.specs.declared.Query.{Query}
 use Rattle.spec_judgement.specs.Input.{held_of, query_of}
-use Rattle.spec_pack.specs.Pack.{Out, load_pack}
+use Rattle.spec_arithmetic.specs.Files.{Out}
+use Rattle.spec_pack.specs.Pack.{Pst, load_pack}
+use Rattle.spec_arithmetic.specs.Files as files
 use Rattle.spec_pack.specs.Pack as pack
 use Rattle.spec_lookup.specs.Source.{Source, source_of_pack}
 use Rattle.spec_lookup.specs.declared.Context.{Context}
@@ -87,9 +89,9 @@ on_held (Err e) s = refused e.why e.place
 on_held (Ok src) s = judgement src s
 
 -- of a pack's bytes
-abbrev pub on_pack : List ℕ → List ℕ → Out → Outcome
-on_pack p s (pack.refused r place) = refused r place
-on_pack p s (pack.loaded st e) = judgement (source_of_pack p st) s
+abbrev pub on_pack : List ℕ → List ℕ → Out Pst → Outcome
+on_pack p s (files.refused r place) = refused r place
+on_pack p s (files.loaded st e) = judgement (source_of_pack p st) s
 
 -- the call `judge`: what a pack's and a query's bytes are turned into
 unfoldable pub judge_outcome : List ℕ → List ℕ → Outcome

@@ -4,7 +4,8 @@ use Rattle.std.specs.Float.Ieee.{lt, le, of_bits}
 use Rattle.tonekit_core.specs.Loop.{range, turns, loop_to, loop_on}
 use Rattle.tonekit_core.specs.declared.Refusal.TheVariants.{Misplaced, CutShort, Overrun, Crowded, OffScale, Doubled, Loose}
 use Rattle.spec_pack.specs.Ranges.{above_zero, a_share, knot_fine, weight_fine, slot_fine, knots_fine, region_fine, tolerances_fine}
-use Rattle.spec_pack.specs.Pack.{Out, Pst, loaded, refused, due_after, size_of, holds, zero_or_held, settings_verdict, tone_verdict, accent_verdict, rule_verdict, part_verdict, body_verdict, record_verdict, added, read_pack, load_pack}
+use Rattle.spec_arithmetic.specs.Files.{Out, loaded, refused}
+use Rattle.spec_pack.specs.Pack.{Pst, due_after, size_of, holds, zero_or_held, settings_verdict, tone_verdict, accent_verdict, rule_verdict, part_verdict, body_verdict, record_verdict, added, read_pack, load_pack}
 
 abbrev one : List ℕ
 one = 0 ∷ 0 ∷ 128 ∷ 63 ∷ []
@@ -123,7 +124,7 @@ unfolding load_pack read_pack record_verdict due_after size_of body_verdict sett
 light = refl
 
 -- ---- ranges and limits: what an input is, as a single pack; opened, it computes
-unfoldable read : List ℕ → Out
+unfoldable read : List ℕ → Out Pst
 unfolding load_pack read_pack record_verdict due_after size_of body_verdict settings_verdict tone_verdict accent_verdict rule_verdict part_verdict holds zero_or_held added above_zero a_share knot_fine weight_fine slot_fine knots_fine region_fine tolerances_fine range turns loop_to loop_on lt le of_bits
 read s = load_pack s
 
@@ -177,7 +178,7 @@ abbrev between : List ℕ → List ℕ → List ℕ
 between from to = 1 ∷ (from ++ to)
 
 -- such a pack, read
-abbrev fine : Out
+abbrev fine : Out Pst
 fine = loaded (record { last = 5; tones = 9 ∷ []; accents = 65 ∷ []; firsts = 0 ∷ []; rules = 84 ∷ []; parts = 1; total = 1 }) 138
 
 -- every field at the least, and at the greatest, that it may be

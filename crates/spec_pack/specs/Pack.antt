@@ -1,16 +1,16 @@
 -- Document 01's section Pack: which bytes are a pack, and the refusal and place of those that are not. A record is held by its offset.
 use Rattle.std.specs.Prelude.{ℕ, zero, suc, ◌+◌, ◌-◌, Bool, true, false, cond, not, ◌&&◌, ◌||◌, List, [], ◌∷◌, ◌++◌, eqb, leb, ltb, length, get_or, Result, Ok, Err}
-use Rattle.tonekit_core.specs.Loop.{Turn, next, stop, loop_to}
 use Rattle.tonekit_core.specs.declared.layout.TheConstants.{SETTINGS_KIND, SETTINGS_SIZE, SETTINGS_TEMPERATURE, SETTINGS_THRESHOLD}
 use Rattle.tonekit_core.specs.declared.layout.TheConstants.{TONE_KIND, TONE_SIZE, TONE_PRIOR, TONE_KNOT_COUNT, TONE_KNOTS, TONE_REGION}
 use Rattle.tonekit_core.specs.declared.layout.TheConstants.{ACCENT_KIND, ACCENT_SIZE, ACCENT_PARENT, ACCENT_CONTOUR}
 use Rattle.tonekit_core.specs.declared.layout.TheConstants.{RULE_KIND, RULE_SIZE, RULE_TONE, RULE_PREV, RULE_FINAL, RULE_FORM}
 use Rattle.tonekit_core.specs.declared.layout.TheConstants.{PART_KIND, PART_SIZE, PART_WEIGHT, PART_KNOT_COUNT, PART_KNOTS, END_KIND, END_SIZE}
 use Rattle.tonekit_core.specs.declared.Refusal.{Refusal}
-use Rattle.tonekit_core.specs.declared.Refusal.TheVariants.{Misplaced, CutShort, Overrun, Crowded, OffScale, Doubled, Loose}
+use Rattle.tonekit_core.specs.declared.Refusal.TheVariants.{Crowded, OffScale, Doubled, Loose}
 use Rattle.tonekit_core.specs.declared.Rejection.{Rejection}
 use Rattle.spec_arithmetic.specs.Fields.{byte_at, u32_at, f32_at}
 use Rattle.spec_arithmetic.specs.Places.{number_at}
+use Rattle.spec_arithmetic.specs.Files.{judged, Out, loaded, Here, Reader, read, singly, said}
 use Rattle.spec_pack.specs.Ranges.{above_zero, a_share, weight_fine, knots_fine, region_fine, tolerances_fine}
 
 -- what has been read: the last kind; the offsets of tones, accents and rules, in order; for each accent how many rules stood before it;
@@ -23,11 +23,6 @@ pub record Pst : Type 0 where
   pub rules : List ℕ
   pub parts : ℕ
   pub total : ℕ
-
--- a pack, and where it ends; or the refusal and its place
-pub data Out : Type 0 where
-  loaded : Pst → ℕ → Out
-  refused : Refusal → ℕ → Out
 
 -- "Order: Settings, Tones, then each Accent with its Rules, each Rule with its Parts, End": 1 to 8 tones, 1 to 8 accents, 1 to 4 parts a rule
 unfoldable pub due_after : ℕ → ℕ → Bool
@@ -55,7 +50,6 @@ holds s (o ∷ os) n = eqb (number_at s o) n || holds s os n
 
 -- "Zero means no parent, any tone, any prev": 0, or the number of one of these records
 unfoldable pub zero_or_held : List ℕ → List ℕ → ℕ → Bool
-unfolding holds
 zero_or_held s os n = eqb n 0 || holds s os n
 
 -- the verdict of one test after another: crowded, off scale, doubled, loose
@@ -80,7 +74,6 @@ tone_fine s o =
     && (a_share (f32_at s (o + TONE_PRIOR)) && (knots_fine s (o + TONE_KNOTS) (byte_at s (o + TONE_KNOT_COUNT)) && region_fine s (o + TONE_REGION)))
 
 unfoldable pub tone_verdict : List ℕ → ℕ → Pst → Result Unit Refusal
-unfolding holds
 tone_verdict s o st = in_turn (tone_crowded s o st) (tone_fine s o) (not (holds s st.tones (number_at s o))) true
 
 -- number, parent ("A parent stands earlier in the file"), tolerances
@@ -88,7 +81,6 @@ abbrev pub accent_fine : List ℕ → ℕ → Bool
 accent_fine s o = not (eqb (number_at s o) 0) && tolerances_fine s (o + ACCENT_CONTOUR)
 
 unfoldable pub accent_verdict : List ℕ → ℕ → Pst → Result Unit Refusal
-unfolding holds zero_or_held
 accent_verdict s o st =
     in_turn
     (leb 8 (length st.accents))
@@ -106,7 +98,6 @@ rule_held s o st =
     zero_or_held s st.tones (byte_at s (o + RULE_TONE)) && zero_or_held s st.tones (byte_at s (o + RULE_PREV))
 
 unfoldable pub rule_verdict : List ℕ → ℕ → Pst → Result Unit Refusal
-unfolding zero_or_held
 rule_verdict s o st = in_turn (leb 64 (length st.rules)) (rule_fine s o) true (rule_held s o st)
 
 -- the offset of the last rule
@@ -132,7 +123,6 @@ unfoldable pub part_verdict : List ℕ → ℕ → Pst → Result Unit Refusal
 part_verdict s o st = in_turn (part_crowded s o st) (part_fine (single s st) s o) true true
 
 unfoldable pub body_verdict : ℕ → List ℕ → ℕ → Pst → Result Unit Refusal
-unfolding settings_verdict tone_verdict accent_verdict rule_verdict part_verdict
 body_verdict k s o st =
     cond (eqb k SETTINGS_KIND) (settings_verdict s o)
     (cond (eqb k TONE_KIND) (tone_verdict s o st)
@@ -140,14 +130,8 @@ body_verdict k s o st =
     (cond (eqb k RULE_KIND) (rule_verdict s o st)
     (cond (eqb k PART_KIND) (part_verdict s o st) (Ok tt)))))
 
--- "in each 1, 2, 4, 5, 6, 7"; past the input's end a due record is missing: 2
 unfoldable pub record_verdict : List ℕ → ℕ → Pst → Result Unit Refusal
-unfolding due_after size_of body_verdict
-record_verdict s o st =
-    cond (leb (length s) o) (Err CutShort)
-    (cond (not (due_after st.last (byte_at s o))) (Err Misplaced)
-    (cond (ltb (length s) (o + size_of (byte_at s o))) (Err CutShort)
-    (body_verdict (byte_at s o) s o st)))
+record_verdict s o st = judged (due_after st.last) size_of (λ k. body_verdict k s o st) s o
 
 -- what has been read once the record of kind k at o is fine
 unfoldable pub added : ℕ → ℕ → Pst → Pst
@@ -167,43 +151,26 @@ unfoldable pub parts_from : ℕ → List ℕ → ℕ → ℕ
 parts_from zero s o = 0
 parts_from (suc n) s o = cond (eqb (byte_at s o) PART_KIND) (suc (parts_from n s (o + PART_SIZE))) 0
 
--- a place in the pack: the offset of the record due, and what stood before it
-pub record Here : Type 0 where
-  pub at : ℕ
-  pub st : Pst
-
--- a record that is refused ends the reading, and so does End; else the next record is due
-abbrev pub on_verdict : List ℕ → Here → Result Unit Refusal → Turn Here Out
-on_verdict s h (Err r) = stop (refused r h.at)
-on_verdict s h (Ok u) =
-    cond (eqb (byte_at s h.at) END_KIND) (stop (loaded h.st (h.at + END_SIZE)))
-    (next (record { at = h.at + size_of (byte_at s h.at); st = added (byte_at s h.at) h.at h.st }))
-
-abbrev pub record_turn : List ℕ → Here → Turn Here Out
-record_turn s h = on_verdict s h (record_verdict s h.at h.st)
-
-abbrev pub start : Here
+abbrev pub start : Here Pst
 start = record { at = 0; st = record { last = 0; tones = []; accents = []; firsts = []; rules = []; parts = 0; total = 0 } }
 
--- a pack at the front of a longer input. A record has at least one byte, so there are no more turns than bytes, and one for what is missing
-unfoldable pub read_pack : List ℕ → Out
-unfolding record_verdict size_of added
-read_pack s = loop_to (record_turn s) (refused CutShort (length s)) (length s + 1) start
+-- how a pack is read: its End, of one byte, is all there is to its end
+abbrev pub pack_reader : Reader Pst
+pack_reader = record {
+  start = start;
+  verdict = record_verdict;
+  size = size_of;
+  added = λ s o st. added (byte_at s o) o st;
+  end = END_KIND;
+  finish = λ s o st. loaded st (o + END_SIZE);
+}
 
--- a single pack: 3 at the first byte behind it
-abbrev pub singly : List ℕ → Out → Out
-singly s (loaded st e) = cond (ltb e (length s)) (refused Overrun e) (loaded st e)
-singly s (refused r place) = refused r place
+-- a pack at the front of a longer input; a single pack; and a check of the pack alone
+unfoldable pub read_pack : List ℕ → Out Pst
+read_pack s = read pack_reader s
 
-unfoldable pub load_pack : List ℕ → Out
-unfolding read_pack
+unfoldable pub load_pack : List ℕ → Out Pst
 load_pack s = singly s (read_pack s)
 
--- a check of the pack alone: it loads, or its refusal and place
-abbrev pub said : Out → Result Unit Rejection
-said (loaded st e) = Ok tt
-said (refused r place) = Err (record { why = r; place = place })
-
 unfoldable pub check_pack : List ℕ → Result Unit Rejection
-unfolding load_pack
 check_pack s = said (load_pack s)

@@ -4,10 +4,11 @@ use Rattle.tonekit_core.specs.Loop.{Turn, next, stop, range, range_to}
 use Rattle.tonekit_core.specs.declared.layout.TheConstants.{QUERY_KIND, QUERY_SIZE, QUERY_ACCENT, QUERY_TONE, QUERY_PREV, QUERY_FINAL, QUERY_START, QUERY_END}
 use Rattle.tonekit_core.specs.declared.layout.TheConstants.{QUERY_FLOOR, QUERY_CEIL, QUERY_ISSUES, QUERY_VARIANT_COUNT, VARIANT_TONES, VARIANT_WEIGHTS}
 use Rattle.tonekit_core.specs.declared.layout.TheConstants.{VARIANT_SIZE, QUERY_FRAME_COUNT, FRAME_KIND, FRAME_SIZE, FRAME_VOICED}
-use Rattle.tonekit_core.specs.declared.Refusal.TheVariants.{Misplaced, CutShort, Overrun, Crowded, BadQuery}
+use Rattle.tonekit_core.specs.declared.Refusal.TheVariants.{Overrun, Crowded, BadQuery}
 use Rattle.tonekit_core.specs.declared.Refusal.{Refusal}
 use Rattle.tonekit_core.specs.declared.Rejection.{Rejection}
 use Rattle.spec_arithmetic.specs.Fields.{byte_at, u16_at, u32_at, f32_at}
+use Rattle.spec_arithmetic.specs.Files.{judged}
 use Rattle.spec_query.specs.declared.Query.{Query}
 
 -- "variant count u8 (at most 4), 4 times (tone u8, weight f32), unused ones zero": five zero bytes
@@ -22,22 +23,17 @@ variant_turn s i ok = ok && variant_fine s i
 unfoldable pub variants_fine : List ℕ → Bool
 variants_fine s = range (variant_turn s) 0 4 true
 
--- the fixed record: "in each 1, 2, 4, (10 in a query)"; counts past their limits are 4; final is 0 or 1; "bits 10 to 15 are clear"
+-- the fixed record: counts past their limits are 4; final is 0 or 1; "bits 10 to 15 are clear"
 unfoldable pub record_verdict : List ℕ → Result Unit Refusal
 record_verdict s =
-    cond (eqb (length s) 0) (Err CutShort)
-    (cond (not (eqb (byte_at s 0) QUERY_KIND)) (Err Misplaced)
-    (cond (ltb (length s) QUERY_SIZE) (Err CutShort)
-    (cond (ltb 4 (byte_at s QUERY_VARIANT_COUNT) || ltb 1024 (u16_at s QUERY_FRAME_COUNT)) (Err Crowded)
-    (cond (leb (byte_at s QUERY_FINAL) 1 && (ltb (u16_at s QUERY_ISSUES) 1024 && variants_fine s)) (Ok tt) (Err BadQuery)))))
+    judged (λ k. eqb k QUERY_KIND) (λ k. QUERY_SIZE)
+    (λ k. cond (ltb 4 (byte_at s QUERY_VARIANT_COUNT) || ltb 1024 (u16_at s QUERY_FRAME_COUNT)) (Err Crowded)
+    (cond (leb (byte_at s QUERY_FINAL) 1 && (ltb (u16_at s QUERY_ISSUES) 1024 && variants_fine s)) (Ok tt) (Err BadQuery))) s 0
 
 -- the frame record at an offset; the voiced flag is 0 or 1, all else may be any bits
 unfoldable pub frame_verdict : List ℕ → ℕ → Result Unit Refusal
 frame_verdict s at =
-    cond (leb (length s) at) (Err CutShort)
-    (cond (not (eqb (byte_at s at) FRAME_KIND)) (Err Misplaced)
-    (cond (ltb (length s) (at + FRAME_SIZE)) (Err CutShort)
-    (cond (leb (byte_at s (at + FRAME_VOICED)) 1) (Ok tt) (Err BadQuery))))
+    judged (λ k. eqb k FRAME_KIND) (λ k. FRAME_SIZE) (λ k. cond (leb (byte_at s (at + FRAME_VOICED)) 1) (Ok tt) (Err BadQuery)) s at
 
 -- what the fixed record says; the variants stay in the bytes
 unfoldable pub fields_of : List ℕ → Query

@@ -5,10 +5,11 @@ use Rattle.tonekit_core.specs.Loop.{range, turns, range_to, turns_to, loop_to, l
 use Rattle.tonekit_core.specs.declared.Refusal.TheVariants.{Misplaced, Overrun, Crowded, OffScale, Doubled, Loose, Unordered}
 use Rattle.spec_pack.specs.Ranges.{above_zero, a_share, weight_fine, region_fine, tolerances_fine}
 use Rattle.spec_pack.specs.Pack.{holds, zero_or_held, settings_verdict}
-use Rattle.spec_sheet.specs.Reader.{Out, Sst, loaded, refused, complete, due_next, size_of, tone_verdict, accent_verdict, row_verdict, list_verdict, point_fine, points_fine, component_verdict, body_verdict, record_verdict, added, loose_row, accent_down, row_due, row_names, row_wrong, named, same_lists, repeated, list_wrong, finished, read_sheet, load_sheet}
+use Rattle.spec_arithmetic.specs.Files.{Out, loaded, refused}
+use Rattle.spec_sheet.specs.Reader.{Sst, complete, due_next, size_of, tone_verdict, accent_verdict, row_verdict, list_verdict, point_fine, points_fine, component_verdict, body_verdict, record_verdict, added, loose_row, accent_down, row_due, row_names, row_wrong, named, same_lists, repeated, list_wrong, finished, read_sheet, load_sheet}
 
 -- what an input is, as a single sheet; opened, it computes
-unfoldable read : List ℕ → Out
+unfoldable read : List ℕ → Out Sst
 unfolding load_sheet read_sheet finished loose_row accent_down row_due row_names row_wrong named same_lists repeated list_wrong record_verdict complete due_next size_of body_verdict settings_verdict tone_verdict accent_verdict row_verdict list_verdict component_verdict point_fine points_fine holds zero_or_held added above_zero a_share weight_fine region_fine tolerances_fine range turns range_to turns_to loop_to loop_on lt le of_bits
 read s = load_sheet s
 
@@ -221,7 +222,7 @@ points last = 22 ∷ (one ++ (replicate 36 0 ++ last))
 abbrev pointed : List ℕ → List ℕ
 pointed last = rows 1 1 1 1 ++ (head 1 1 1 0 1 ++ (points last ++ (23 ∷ [])))
 
-abbrev printed : Out
+abbrev printed : Out Sst
 printed = loaded (record { last = 22; tones = 9 ∷ []; accents = 24 ∷ []; rows = 2; lists = 54 ∷ []; due = 0; total = 1 }) 107
 
 point_128 : (read (pointed (0 ∷ 0 ∷ 0 ∷ 0x43 ∷ [])) ≡ printed) × (read (pointed (0 ∷ 0 ∷ 0 ∷ 0xc3 ∷ [])) ≡ printed)

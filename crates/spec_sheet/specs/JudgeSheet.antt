@@ -8,9 +8,9 @@ use Rattle.spec_sheet.specs.Reader as sheet
 use Rattle.spec_sheet.specs.FromSheet.{source_of_sheet}
 
 -- of a sheet's bytes
-abbrev pub on_sheet : List ℕ → List ℕ → sheet.Out → Outcome
-on_sheet p s (sheet.refused r place) = refused r place
-on_sheet p s (sheet.loaded st e) = judgement (source_of_sheet p st) s
+abbrev pub on_sheet : List ℕ → List ℕ → files.Out sheet.Sst → Outcome
+on_sheet p s (files.refused r place) = refused r place
+on_sheet p s (files.loaded st e) = judgement (source_of_sheet p st) s
 
 -- the call `judge_sheet`: what a sheet's and a query's bytes are turned into
 unfoldable pub judge_sheet_outcome : List ℕ → List ℕ → Outcome

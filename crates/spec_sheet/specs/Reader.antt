@@ -1,8 +1,8 @@
 -- Document 01's section Sheet: which bytes are a sheet, and the refusal and place of those that are not. A record is held by its offset.
-use Rattle.std.specs.Prelude.{ℕ, zero, suc, ◌+◌, ◌-◌, ◌*◌, max, Bool, true, false, cond, not, ◌&&◌, ◌||◌, List, [], ◌∷◌, ◌++◌, eqb, leb, ltb, pos, length, get_or, Float, Option, Some, None, Result, Ok, Err}
+use Rattle.std.specs.Prelude.{ℕ, zero, suc, ◌+◌, ◌-◌, ◌*◌, max, Bool, true, false, cond, not, ◌&&◌, ◌||◌, List, [], ◌∷◌, ◌++◌, eqb, leb, ltb, pos, length, get_or, Float, Option, Some, None, Result, Ok}
 use Rattle.std.specs.Float.{fin}
 use Rattle.std.specs.Float.Ieee.{le}
-use Rattle.tonekit_core.specs.Loop.{Turn, next, stop, range, range_to, loop_to}
+use Rattle.tonekit_core.specs.Loop.{Turn, next, stop, range, range_to}
 use Rattle.tonekit_core.specs.declared.layout.TheConstants.{F32_SIZE, SETTINGS_SIZE, SHEET_SETTINGS_KIND, SHEET_TONE_KIND, SHEET_TONE_SIZE, SHEET_TONE_PRIOR, SHEET_TONE_REGION}
 use Rattle.tonekit_core.specs.declared.layout.TheConstants.{SHEET_ACCENT_KIND, SHEET_ACCENT_SIZE, SHEET_ACCENT_CONTOUR, SHEET_ROW_KIND, SHEET_ROW_SIZE, SHEET_ROW_ACCENT, SHEET_ROW_TONE}
 use Rattle.tonekit_core.specs.declared.layout.TheConstants.{SHEET_ROW_PREV, SHEET_ROW_LIST, SHEET_ROW_FINAL_LIST, SHEET_LIST_KIND, SHEET_LIST_SIZE, SHEET_LIST_OWNER, SHEET_LIST_FORM}
@@ -10,11 +10,12 @@ use Rattle.tonekit_core.specs.declared.layout.TheConstants.{SHEET_LIST_LABEL, SH
 use Rattle.tonekit_core.specs.declared.layout.TheConstants.{SHEET_COMPONENT_POINTS, SHEET_END_KIND, SHEET_END_SIZE}
 use Rattle.tonekit_core.specs.Layout.{sheet_accent_at, sheet_row_at}
 use Rattle.tonekit_core.specs.declared.Refusal.{Refusal}
-use Rattle.tonekit_core.specs.declared.Refusal.TheVariants.{Misplaced, CutShort, Overrun, Loose, Unordered}
+use Rattle.tonekit_core.specs.declared.Refusal.TheVariants.{Loose, Unordered}
 use Rattle.tonekit_core.specs.declared.Rejection.{Rejection}
 use Rattle.spec_arithmetic.specs.Fields.{byte_at, u16_at, u32_at, f32_at}
 use Rattle.spec_pack.specs.Ranges.{a_share, weight_fine, region_fine, tolerances_fine}
 use Rattle.spec_arithmetic.specs.Places.{number_at}
+use Rattle.spec_arithmetic.specs.Files.{judged, Out, loaded, refused, Here, Reader, read, singly, said}
 use Rattle.spec_pack.specs.Pack.{holds, zero_or_held, in_turn, settings_verdict}
 use Rattle.spec_sheet.specs.Sheet.{row_count, accent_place, tone_place, prev_place}
 
@@ -27,11 +28,6 @@ pub record Sst : Type 0 where
   pub lists : List ℕ
   pub due : ℕ
   pub total : ℕ
-
--- a sheet, and where it ends; or the refusal and its place
-pub data Out : Type 0 where
-  loaded : Sst → ℕ → Out
-  refused : Refusal → ℕ → Out
 
 -- "As many rows are due as" there are accents, tones, and tones and none before them
 abbrev pub rows_due : Sst → ℕ
@@ -140,13 +136,8 @@ body_verdict k s o st =
     (cond (eqb k SHEET_LIST_KIND) (list_verdict s o st)
     (cond (eqb k SHEET_COMPONENT_KIND) (component_verdict s o st) (Ok tt))))))
 
--- "in each 1, 2, 4, 5, 6, 7"; past the input's end a due record is missing: 2
 unfoldable pub record_verdict : List ℕ → ℕ → Sst → Result (Unit {0}) Refusal
-record_verdict s o st =
-    cond (leb (length s) o) (Err CutShort)
-    (cond (not (due_next st (byte_at s o))) (Err Misplaced)
-    (cond (ltb (length s) (o + size_of (byte_at s o))) (Err CutShort)
-    (body_verdict (byte_at s o) s o st)))
+record_verdict s o st = judged (due_next st) size_of (λ k. body_verdict k s o st) s o
 
 -- what has been read once the record of kind k at o, a list of so many components, is fine
 unfoldable pub added : ℕ → ℕ → ℕ → Sst → Sst
@@ -163,10 +154,7 @@ added k o count st =
     (record { last = k; tones = st.tones; accents = st.accents; rows = st.rows; lists = st.lists; due = st.due - 1; total = st.total + 1 })
     (record { last = k; tones = st.tones; accents = st.accents; rows = st.rows; lists = st.lists; due = st.due; total = st.total })))))
 
--- where the rows begin, behind the accents, and row r
-abbrev pub rows_from : Sst → ℕ
-rows_from st = sheet_accent_at (length st.tones) (length st.accents)
-
+-- where row r stands
 abbrev pub row_at : Sst → ℕ → ℕ
 row_at st r = sheet_row_at (length st.tones) (length st.accents) r
 
@@ -258,52 +246,35 @@ abbrev pub or_else : Option ℕ → Option ℕ → Option ℕ
 or_else (Some o) b = Some o
 or_else None b = b
 
-abbrev pub refused_at : Refusal → Option ℕ → Out → Out
+abbrev pub refused_at : Refusal → Option ℕ → Out Sst → Out Sst
 refused_at r (Some o) out = refused r o
 refused_at r None out = out
 
-unfoldable pub finished : List ℕ → Sst → ℕ → Out
+unfoldable pub finished : List ℕ → Sst → ℕ → Out Sst
 finished s st e =
     refused_at Loose (loose_row s st)
     (refused_at Unordered (or_else (accent_down s st) (or_else (row_wrong s st) (list_wrong s st))) (loaded st e))
 
--- a place in the sheet: the offset of the record due, and what stood before it
-pub record Here : Type 0 where
-  pub at : ℕ
-  pub st : Sst
-
--- a record that is refused ends the reading, and so does the end; else the next record is due
-abbrev pub on_verdict : List ℕ → Here → Result (Unit {0}) Refusal → Turn Here Out
-on_verdict s h (Err r) = stop (refused r h.at)
-on_verdict s h (Ok u) =
-    cond (eqb (byte_at s h.at) SHEET_END_KIND) (stop (finished s h.st (h.at + SHEET_END_SIZE)))
-    (next (record {
-      at = h.at + size_of (byte_at s h.at);
-      st = added (byte_at s h.at) h.at (byte_at s (h.at + SHEET_LIST_COUNT)) h.st;
-    }))
-
-abbrev pub record_turn : List ℕ → Here → Turn Here Out
-record_turn s h = on_verdict s h (record_verdict s h.at h.st)
-
-abbrev pub start : Here
+abbrev pub start : Here Sst
 start = record { at = 0; st = record { last = 0; tones = []; accents = []; rows = 0; lists = []; due = 0; total = 0 } }
 
--- a sheet at the front of a longer input. A record has at least one byte, so there are no more turns than bytes, and one for what is missing
-unfoldable pub read_sheet : List ℕ → Out
-read_sheet s = loop_to (record_turn s) (refused CutShort (length s)) (length s + 1) start
+-- how a sheet is read
+abbrev pub sheet_reader : Reader Sst
+sheet_reader = record {
+  start = start;
+  verdict = record_verdict;
+  size = size_of;
+  added = λ s o st. added (byte_at s o) o (byte_at s (o + SHEET_LIST_COUNT)) st;
+  end = SHEET_END_KIND;
+  finish = λ s o st. finished s st (o + SHEET_END_SIZE);
+}
 
--- a single sheet: "3 follows"
-abbrev pub singly : List ℕ → Out → Out
-singly s (loaded st e) = cond (ltb e (length s)) (refused Overrun e) (loaded st e)
-singly s (refused r place) = refused r place
+-- a sheet at the front of a longer input; a single sheet ("3 follows"); and a check of the sheet alone
+unfoldable pub read_sheet : List ℕ → Out Sst
+read_sheet s = read sheet_reader s
 
-unfoldable pub load_sheet : List ℕ → Out
+unfoldable pub load_sheet : List ℕ → Out Sst
 load_sheet s = singly s (read_sheet s)
-
--- a check of the sheet alone: it loads, or its refusal and place
-abbrev pub said : Out → Result (Unit {0}) Rejection
-said (loaded st e) = Ok tt
-said (refused r place) = Err (record { why = r; place = place })
 
 unfoldable pub check_sheet : List ℕ → Result (Unit {0}) Rejection
 check_sheet s = said (load_sheet s)

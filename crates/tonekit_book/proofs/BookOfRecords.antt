@@ -1,7 +1,8 @@
 -- The book of a pack is that of its records (`book_of_records_lem`), and so, for every pack that loads, is all that its station holds (`records_source`) and
 -- its sheet (`records_sheet`). Assumes nothing.
 use Rattle.std.proofs.Common.{ℕ, ◌≡◌, refl, sym, ◌∙◌, ap, ap₂, true, List, ◌∷◌, ◌++◌, append_assoc, arith, length, drop}
-use Rattle.spec_pack.specs.Pack.{Pst, due_after, size_of, loaded, start, read_pack}
+use Rattle.spec_arithmetic.specs.Files.{loaded}
+use Rattle.spec_pack.specs.Pack.{Pst, due_after, size_of, start, read_pack}
 use Rattle.tonekit_core.proofs.Split.{absurd_bool}
 use Rattle.tonekit_pack.proofs.Records.{Due, due_is, settings, tone, accent, rule, part, finish}
 use Rattle.spec_lookup.specs.Source.{settings_at, source_of_pack}

@@ -1,4 +1,5 @@
 pub mod Fields
+pub mod Files
 pub mod Back
 pub mod Write
 pub mod Examples

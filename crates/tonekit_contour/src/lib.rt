@@ -19,7 +19,7 @@ pub fn position(k: usize, last: usize) -> f64
 }
 
 // The greatest of ten points less the least, from the infinities on.
-#[tactic(auto, using(tonekit_core::specs::Loop::again, tonekit_core::specs::Loop::ended))]
+#[tactic(auto, using(tonekit_core::proofs::LoopLaws::again, tonekit_core::proofs::LoopLaws::ended))]
 pub fn range_of<F: AnyFloat>(ten: &[F; 10]) -> F
     ensures { F.float result ≡ range_in F.format (map F.float ten.now) }
 {
@@ -33,7 +33,7 @@ pub fn range_of<F: AnyFloat>(ten: &[F; 10]) -> F
 }
 
 // The greatest of sign * v over the curve, from minus infinity.
-#[tactic(auto, using(tonekit_core::specs::Loop::again, tonekit_core::specs::Loop::ended), unfolding(spec_shape::specs::Turning::greatest))]
+#[tactic(auto, using(tonekit_core::proofs::LoopLaws::again, tonekit_core::proofs::LoopLaws::ended), unfolding(spec_shape::specs::Turning::greatest))]
 fn greatest(curve: &[f64], sign: f64) -> f64
     ensures { result ≡ greatest curve.now sign }
 {
@@ -52,7 +52,7 @@ fn near(sign: f64, best: f64, v: f64) -> bool
 }
 
 // The first frame of the plateau, or 0.
-#[tactic(auto, using(tonekit_core::specs::Loop::to_again, tonekit_core::specs::Loop::to_stop, tonekit_core::specs::Loop::to_ended), unfolding(spec_shape::specs::Turning::first_near))]
+#[tactic(auto, using(tonekit_core::proofs::LoopLaws::to_again, tonekit_core::proofs::LoopLaws::to_stop, tonekit_core::proofs::LoopLaws::to_ended), unfolding(spec_shape::specs::Turning::first_near))]
 fn first_near(curve: &[f64], sign: f64, best: f64) -> usize
     ensures { (result ≡ first_near curve.now sign best) × (result ≤ length curve.now) }
 {
@@ -65,7 +65,7 @@ fn first_near(curve: &[f64], sign: f64, best: f64) -> usize
 }
 
 // The last frame of the plateau, or d.
-#[tactic(auto, using(tonekit_core::specs::Loop::again, tonekit_core::specs::Loop::ended), unfolding(spec_shape::specs::Turning::last_near))]
+#[tactic(auto, using(tonekit_core::proofs::LoopLaws::again, tonekit_core::proofs::LoopLaws::ended), unfolding(spec_shape::specs::Turning::last_near))]
 fn last_near(curve: &[f64], sign: f64, best: f64, d: usize) -> usize
     requires { d ≤ length curve.now }
     ensures { (result ≡ last_near curve.now sign best d) × (result ≤ length curve.now) }

@@ -2,4 +2,4 @@ pub mod Split
 pub mod LoopLaws
 pub mod Issues
 pub mod Calls
-pub mod Entries
+pub mod Lists

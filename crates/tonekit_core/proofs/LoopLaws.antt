@@ -1,7 +1,91 @@
--- Laws on the loops of specs/Loop: what every turn of a `range` keeps holds at its end, loops whose turns give the same give the same, and a `while` with a
--- limit on its turns ends by its own test. Assumes nothing.
-use Rattle.std.proofs.Common.{ℕ, zero, suc, ◌+◌, ◌-◌, ◌≤◌, ◌<◌, ◌≡◌, refl, ◌∙◌, ap, subst, Bool, true, false, arith}
-use Rattle.tonekit_core.specs.Loop.{Turn, next, stop, range, turns, range_to, turns_to, while, while_if}
+-- Laws on the loops of specs/Loop: by which a proof follows one (`again`, `ended`, `to_again`, ..), what every turn of a `range` keeps
+-- holds at its end, loops whose turns give the same give the same, and a `while` with a limit on its turns ends by its own test. Assumes nothing.
+use Rattle.std.proofs.Common.{ℕ, zero, suc, ◌+◌, ◌-◌, ◌≤◌, ◌<◌, ◌≡◌, refl, sym, ◌∙◌, ap, subst, Bool, true, false, List, length, drop, get_or, drop_of_length-le, drop-cons, arith, add-one, sub-one}
+use Rattle.tonekit_core.specs.Loop.{Turn, next, stop, range, turns, fold, range_to, turns_to, while, while_if, loop_on, loop_to}
+
+module _ {S : Type 0} (f : ℕ → S → S) where
+  pub range_done : (i hi : ℕ) (s : S) → hi ≤ i → range f i hi s ≡ s
+  unfolding turns range
+  range_done i hi s h = let e : hi - i ≡ 0 = omega arith in rw e
+
+  pub range_step : (i hi : ℕ) (s : S) → i < hi → range f i hi s ≡ range f (i + 1) hi (f i s)
+  unfolding turns range
+  range_step i hi s h = let e : hi - i ≡ suc (hi - (i + 1)) = omega arith in rw e
+
+  -- a turn ends: z is what the whole loop gives
+  pub again : {i hi : ℕ} {s t z : S} → range f i hi s ≡ z → i < hi → f i s ≡ t → range f (i + 1) hi t ≡ z
+  again {i} {hi} {s} {t} {z} r h e = ap (range f (i + 1) hi) (sym e) ∙ (sym (range_step i hi s h) ∙ r)
+
+  -- the loop ends
+  pub ended : {i hi : ℕ} {s z : S} → range f i hi s ≡ z → hi ≤ i → s ≡ z
+  ended {i} {hi} {s} {z} r h = sym (range_done i hi s h) ∙ r
+
+module _ {S A : Type 0} (f : S → A → S) where
+  pub fold_step : (s : S) (l : List A) (i : ℕ) (d : A) → i < length l → fold f s (drop i l) ≡ fold f (f s (get_or l i d)) (drop (i + 1) l)
+  unfolding fold
+  fold_step s l i d h = rw (drop-cons l i d h, add-one)
+
+  pub fold_done : (s : S) (l : List A) (i : ℕ) → length l ≤ i → fold f s (drop i l) ≡ s
+  unfolding fold
+  fold_done s l i h = rw (drop_of_length-le l h)
+
+module _ {S : Type 0} (test : S → Bool) (f : S → S) where
+  turn : (n : ℕ) (s t z : S) → while test f n s ≡ z → 0 < n → test s ≡ true → f s ≡ t → while test f (n - 1) t ≡ z
+  unfolding while_if while
+  turn zero s t z r h b e = absurd (omega arith)
+  turn (suc n) s t z r h b e = rw (sub-one, ← e) (rw b at r)
+
+  halt : (n : ℕ) (s z : S) → while test f n s ≡ z → test s ≡ false → s ≡ z
+  unfolding while_if while
+  halt zero s z r b = r
+  halt (suc n) s z r b = rw b at r
+
+  out : (n : ℕ) (s z : S) → while test f n s ≡ z → n ≤ 0 → s ≡ z
+  unfolding while_if while
+  out zero s z r h = r
+  out (suc n) s z r h = absurd (omega arith)
+
+  pub while_again : {n : ℕ} {s t z : S} → while test f n s ≡ z → 0 < n → test s ≡ true → f s ≡ t → while test f (n - 1) t ≡ z
+  while_again {n} {s} {t} {z} = turn n s t z
+
+  pub while_ended : (n : ℕ) {s z : S} → while test f n s ≡ z → test s ≡ false → s ≡ z
+  while_ended n {s} {z} = halt n s z
+
+  pub while_out : {n : ℕ} {s z : S} → while test f n s ≡ z → n ≤ 0 → s ≡ z
+  while_out {n} {s} {z} = out n s z
+
+module _ {S R : Type 0} (f : ℕ → S → Turn S R) (g : S → R) where
+  stopped : (k i : ℕ) (r : R) → turns_to f g k i (stop r) ≡ r
+  unfolding turns_to
+  stopped zero i r = refl
+  stopped (suc k) i r = refl
+
+  pub to_ended : {i hi : ℕ} {s : S} {z : R} → range_to f g i hi s ≡ z → hi ≤ i → g s ≡ z
+  unfolding turns_to range_to
+  to_ended {i} {hi} {s} {z} r h = let e : hi - i ≡ 0 = omega arith in rw e at r
+
+  to_step : (i hi : ℕ) (s : S) → i < hi → range_to f g i hi s ≡ turns_to f g (hi - (i + 1)) (i + 1) (f i s)
+  unfolding turns_to range_to
+  to_step i hi s h = let k : hi - i ≡ suc (hi - (i + 1)) = omega arith in rw k
+
+  pub to_again : {i hi : ℕ} {s t : S} {z : R} → range_to f g i hi s ≡ z → i < hi → f i s ≡ next t → range_to f g (i + 1) hi t ≡ z
+  unfolding range_to
+  to_again {i} {hi} {s} {t} {z} r h e = ap (turns_to f g (hi - (i + 1)) (i + 1)) (sym e) ∙ (sym (to_step i hi s h) ∙ r)
+
+  pub to_stop : {i hi : ℕ} {s : S} {a z : R} → range_to f g i hi s ≡ z → i < hi → f i s ≡ stop a → a ≡ z
+  unfolding range_to
+  to_stop {i} {hi} {s} {a} {z} r h e =
+      sym (stopped (hi - (i + 1)) (i + 1) a) ∙ (ap (turns_to f g (hi - (i + 1)) (i + 1)) (sym e) ∙ (sym (to_step i hi s h) ∙ r))
+
+module _ {S R : Type 0} (f : S → Turn S R) (d : R) where
+  loop_step : (n : ℕ) (s : S) → 0 < n → loop_to f d n s ≡ loop_on f d (n - 1) (f s)
+  unfolding loop_on loop_to
+  loop_step zero s h = absurd (omega arith)
+  loop_step (suc n) s h = rw sub-one
+
+  pub loop_again : {n : ℕ} {s t : S} {z : R} → loop_to f d n s ≡ z → 0 < n → f s ≡ next t → loop_to f d (n - 1) t ≡ z
+  unfolding loop_to
+  loop_again {n} {s} {t} {z} r h e = ap (loop_on f d (n - 1)) (sym e) ∙ (sym (loop_step n s h) ∙ r)
 
 module _ {S : Type 0} (f : ℕ → S → S) (P : ℕ → S → Type 0) where
   keeps : (k i hi : ℕ) (s : S) → i + k ≡ hi → ((j : ℕ) (t : S) → j < hi → P j t → P (j + 1) (f j t)) → P i s → P hi (turns f k i s)

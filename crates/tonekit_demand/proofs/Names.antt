@@ -3,6 +3,7 @@ use Rattle.std.proofs.Common.{ℕ, ◌/◌, ◌%◌, ◌≤◌, ◌<◌, ◌≡�
 use mathlib.Core.Option.{Option, none, some}
 use lib.ListN.{length-map}
 use lib.Ieee.{nan}
+use Rattle.spec_arithmetic.specs.Files as files
 use Rattle.spec_pack.specs.Pack as pack
 use Rattle.tonekit_pack.proofs.Single as pack-single
 use Rattle.tonekit_pack.proofs.Loads.{loads}
@@ -21,7 +22,7 @@ use Rattle.spec_judgement.specs.declared.Slot.{Slot}
 use Rattle.tonekit_core.specs.declared.Name.{Name}
 use Rattle.tonekit_judge.proofs.Winner.{winner_among, winner_named}
 use Rattle.spec_judgement.specs.Gather.{f32, named_of, slot_of, given_of, listings}
-use Rattle.tonekit_inventory.proofs.Going.{map_at}
+use Rattle.std.proofs.lemmas.List.{get_or-map}
 use Rattle.tonekit_inventory.proofs.Listed.{Entered, components_at, listings_enter, listed_tones}
 use Rattle.tonekit_inventory.proofs.Alike.{Alike, named_count, pack_alike}
 use Rattle.tonekit_sheet_inventory.proofs.Few.{tones_few}
@@ -49,11 +50,8 @@ module _ (src : Source) (few : length src.tones ≤ 8) (alike : (c : Context) (c
     entered : (t : ℕ) → t < length src.tones → Entered no_carried (cs t) t (listings src c)
     entered = listings_enter no_carried src c few (λ t h. (here t).few)
 
-    tones_are : length (listings src c).inventory.items ≡ length src.tones
-    tones_are = listed_tones src c
-
     placed : (g : Targets) → Placed (length src.tones) g → Placed (length (listings src c).inventory.items) g
-    placed g p = rw tones_are p
+    placed g p = rw (listed_tones src c) p
 
   pub source_names : NamesWinner src
   unfolding part_of nearest_at
@@ -63,7 +61,7 @@ module _ (src : Source) (few : length src.tones ≤ 8) (alike : (c : Context) (c
       let a = winner_among l.inventory s (component_at x s l.inventory l.slots) g (placed c g p) ll d2 slot e in
       let n = winner_named x settings t l g issues ok ll d2 slot e in
       let given = cs c a.tone in
-      let listed : a.tone < length src.tones = rw (tones_are c) at a.listed in
+      let listed : a.tone < length src.tones = rw (listed_tones src c) at a.listed in
       let en = entered c a.tone listed in
       let many : count_in (entry_at l.inventory a.tone).listing ≡ length given = ap count_in en.listing ∙ named_count given in
       let has : a.component < length given = omega (arith, a.has, many) in
@@ -88,17 +86,17 @@ module _ (src : Source) (few : length src.tones ≤ 8) (alike : (c : Context) (c
           has = has;
           is = refl;
           weight = ap (λ (y : Slot). y.weight) its_slot;
-          points = λ i h. ap (λ (y : Slot). get_or y.points i nan) its_slot ∙ map_at f32 won.points i 0 nan (omega (arith, u.ten));
+          points = λ i h. ap (λ (y : Slot). get_or y.points i nan) its_slot ∙ get_or-map f32 won.points i 0 nan (omega (arith, u.ten));
         },
         record { nearest = nearest; is = is; owner = ap (λ (n : Name). n.owner) named ∙ sym u.owner; form = ap (λ (n : Name). n.form) named ∙ sym u.form; label = ap (λ (n : Name). n.label) named ∙ sym u.label; part = part },
       )
 
 -- a pack that loads, and a sheet
-pack_few : (p : List ℕ) (st : pack.Pst) (e : ℕ) → pack.read_pack p ≡ pack.loaded st e → length (source_of_pack p st).tones ≤ 8
+pack_few : (p : List ℕ) (st : pack.Pst) (e : ℕ) → pack.read_pack p ≡ files.loaded st e → length (source_of_pack p st).tones ≤ 8
 unfolding source_of_pack
 pack_few p st e r = omega (arith, length-map st.tones (source.tone_at p), (loads p st e r).kept.few_tones)
 
-sheet_few : (p : List ℕ) (st : sheet.Sst) (e : ℕ) → sheet.read_sheet p ≡ sheet.loaded st e → length (source_of_sheet p st).tones ≤ 8
+sheet_few : (p : List ℕ) (st : sheet.Sst) (e : ℕ) → sheet.read_sheet p ≡ files.loaded st e → length (source_of_sheet p st).tones ≤ 8
 unfolding source_of_sheet
 sheet_few p st e r = omega (arith, length-map st.tones (from_sheet.tone_at p), tones_few p st e r)
 

@@ -3,7 +3,8 @@
 -- proofs/Demand3.antt proves them.
 use Rattle.std.specs.Prelude.{ℕ, ◌≡◌, ◌↔◌, List, length}
 use Rattle.tonekit_core.specs.Calls.{written, answer_in, buffer_after}
-use Rattle.spec_pack.specs.Pack.{Pst, loaded, load_pack}
+use Rattle.spec_arithmetic.specs.Files.{loaded}
+use Rattle.spec_pack.specs.Pack.{Pst, load_pack}
 use Rattle.spec_lookup.specs.Source.{Source, source_of_pack}
 use Rattle.spec_sheet.specs.Agree.{Bytes, Agree}
 use Rattle.spec_sheet.specs.Outcome.{sheet_outcome}

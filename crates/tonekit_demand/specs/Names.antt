@@ -2,6 +2,7 @@
 use Rattle.std.specs.Prelude.{ℕ, ◌+◌, ◌*◌, ◌<◌, ◌≡◌, true, Some, List, length, get_or, Float}
 use Rattle.std.proofs.Math.Option.{some}
 use Rattle.std.specs.Float.{nan}
+use Rattle.spec_arithmetic.specs.Files as files
 use Rattle.spec_pack.specs.Pack as pack
 use Rattle.spec_sheet.specs.Reader as sheet
 use Rattle.spec_sheet.specs.Sheet.{no_carried}
@@ -56,7 +57,7 @@ NamesWinner src =
     → (won : Carried) × Carries src c slot won × Names won (judgement_of x settings t (listings src c) g issues)
 
 abbrev pub PacksName : Type 0
-PacksName = (p : List ℕ) (st : pack.Pst) (e : ℕ) → pack.load_pack p ≡ pack.loaded st e → NamesWinner (source_of_pack p st)
+PacksName = (p : List ℕ) (st : pack.Pst) (e : ℕ) → pack.load_pack p ≡ files.loaded st e → NamesWinner (source_of_pack p st)
 
 abbrev pub SheetsName : Type 0
-SheetsName = (p : List ℕ) (st : sheet.Sst) (e : ℕ) → sheet.load_sheet p ≡ sheet.loaded st e → NamesWinner (source_of_sheet p st)
+SheetsName = (p : List ℕ) (st : sheet.Sst) (e : ℕ) → sheet.load_sheet p ≡ files.loaded st e → NamesWinner (source_of_sheet p st)

@@ -126,7 +126,7 @@ bounded knots K i h =
     at_most_lem a b h f = let k = below a b h f in omega arith
 
 -- ---- the first n points
-length_points : (knots : List Float) (n : ℕ) → length (first_points knots n) ≡ n
+pub length_points : (knots : List Float) (n : ℕ) → length (first_points knots n) ≡ n
 unfolding first_points
 length_points knots zero = refl
 length_points knots (suc n) = simp (length-append, length_points knots n, add-one)

@@ -1,12 +1,13 @@
--- What the components of a listing carry: the listing's owner, form and label; a part number in a mixture only; a citation's weight is 1.
+-- What the components of a listing carry: the listing's owner, form and label; a part number in a mixture only; a citation's weight is 1; ten points.
 use Rattle.std.proofs.Common.{ℕ, zero, suc, ◌<◌, ◌≡◌, refl, ◌∙◌, ⊎_elim, cond, List, [], ◌∷◌, arith, add-one, le_of_suc-le-suc, eq-or-lt_of_le, eqb, length, get_or, length-append, eqb-true, eq-eqb}
-use lib.Ieee.{to_bits}
-use lib.ListN.{get_or-append}
+use lib.Ieee.{to_bits, binary32}
+use lib.ListN.{get_or-append, length-map}
 use lib.Seq.{get_or_at}
 use Rattle.spec_lookup.specs.declared.Listing.{Listing}
 use Rattle.spec_lookup.specs.Lookup.{component_of}
 use Rattle.spec_lookup.specs.Source.{Carried, carried, components}
 use Rattle.tonekit_core.proofs.Split.{split}
+use Rattle.tonekit_expect.proofs.Bound.{length_points}
 
 module _ (s : List ℕ) (l : Listing) where
   -- under the listing's name
@@ -28,6 +29,14 @@ module _ (s : List ℕ) (l : Listing) where
   pub citation_weight : (j : ℕ) → l.name.form ≡ 1 → (carried (component_of s l j)).weight ≡ 0x3f80_0000
   unfolding carried component_of to_bits
   citation_weight j e = rw (eq-eqb l.name.form 1 e)
+
+  pub component_ten : (j : ℕ) → length (component_of s l j).points ≡ 10
+  unfolding component_of
+  component_ten j = split (eqb l.name.form 1) (λ t. rw t (length_points _ 10)) (λ t. rw t (length_points _ 10))
+
+  pub carried_ten : (j : ℕ) → length (carried (component_of s l j)).points ≡ 10
+  unfolding carried
+  carried_ten j = length-map (component_of s l j).points (to_bits binary32) ∙ component_ten j
 
   pub components_length : (n : ℕ) → length (components s l n) ≡ n
   unfolding components

@@ -11,7 +11,8 @@ use Rattle.tonekit_float.proofs.Order.{yes}
 use Rattle.spec_arithmetic.specs.Fields.{byte_at, f32_at}
 use Rattle.spec_arithmetic.specs.Places.{index_of, number_at}
 use Rattle.spec_pack.specs.Ranges.{knot_fine, slot_fine, slot_turn, knots_fine}
-use Rattle.spec_pack.specs.Pack.{Pst, loaded, read_pack, parts_from}
+use Rattle.spec_arithmetic.specs.Files.{loaded}
+use Rattle.spec_pack.specs.Pack.{Pst, read_pack, parts_from}
 use Rattle.std.specs.Prelude.{Some, None}
 use Rattle.spec_lookup.specs.declared.Context.{Context}
 use Rattle.spec_lookup.specs.declared.Listing.{Listing}
@@ -61,18 +62,22 @@ slots_knots s o n some few fine =
       each = λ k h. let g : k < n = omega (arith, h, e) in subst Knot (sym (knots_at_lem s o n k g)) (knot s o n k g ((slots s o n 10 0 true (yes fine)).1 k (omega arith) (omega arith)));
     }
 
+-- ---- an accent's rules are among the pack's
+module _ (s : List ℕ) (st : Pst) (e : ℕ) (l : Loads s st e) where
+  pub rules_in : (i : ℕ) → to_rule st i ≤ length st.rules
+  rules_in i =
+      split (ltb (i + 1) (length st.accents))
+      (λ t. rw t (firsts_bound s st e l (i + 1) (ltb-true (i + 1) (length st.accents) t)))
+      (λ t. rw t (omega arith))
+
+  pub rule_fine : (i k : ℕ) → k < to_rule st i → RuleFine s st.tones (get_or st.rules k 0)
+  rule_fine i k h = l.kept.rules k (omega (arith, rules_in i))
+
 -- ---- what a lookup lists
 module _ (s : List ℕ) (st : Pst) (e : ℕ) (l : Loads s st e) (c : Context) where
   -- one of the pack's rules
   abbrev Own : ℕ → Type 0
   Own r = RuleFine s st.tones r
-
-  own : (i k : ℕ) → k < to_rule st i → Own (get_or st.rules k 0)
-  own i k h =
-      l.kept.rules k
-      (split (ltb (i + 1) (length st.accents))
-      (λ t. let b = firsts_bound s st e l (i + 1) (ltb-true (i + 1) (length st.accents) t) in let g = rw t at h in omega (arith, b, g))
-      (λ t. rw t at h))
 
   of_rule : (owner r j : ℕ) → Own r → j < parts_from 4 s (r + 7) → Listed s (rule_listing s owner r) j
   of_rule owner r j R h =
@@ -95,7 +100,7 @@ module _ (s : List ℕ) (st : Pst) (e : ℕ) (l : Loads s st e) (c : Context) wh
       let a = w.accent in
       let r = w.rule in
       let is : rule_listing s (number_at s (get_or st.accents a 0)) r ≡ m = cc in
-      let fine = (winner_is s st c Own own i a r hi q).1 in
+      let fine = (winner_is s st c Own (rule_fine s st e l) i a r hi q).1 in
       subst (λ (l : Listing). Listed s l j) is (of_rule (number_at s (get_or st.accents a 0)) r j fine (subst (λ (l : Listing). j < l.count) (sym is) h))
   of_winner m i t j hi ht None q g h =
       let o = get_or st.tones t 0 in

@@ -1,3 +1,4 @@
+pub mod Chain
 pub mod Bound
 pub mod InOrder
 pub mod Parts
@@ -5,3 +6,4 @@ pub mod Walk
 pub mod Limit
 pub mod Curves
 pub mod Carried
+pub mod Held

@@ -2,14 +2,16 @@
 -- and where parents stand earlier, every chain ends (`earlier_ends`).
 use Rattle.std.proofs.Common.{ℕ, zero, suc, ◌+◌, ◌-◌, ◌≤◌, ◌<◌, ◌≡◌, refl, sym, ◌∙◌, ap, subst, ⊎_elim, cond, List, arith, sub-one, eqb, ltb, length, get_or, eqb-true, ltb-true, ltb-false, eq-eqb}
 use borrow.Author.Tests.{eqb-false}
-use Rattle.tonekit_core.specs.Loop.{range_to, to_again, to_stop, loop_to, loop_again, loop_stop}
+use Rattle.tonekit_core.specs.Loop.{range_to, loop_to, loop_stop}
+use Rattle.tonekit_core.proofs.LoopLaws.{to_again, to_stop, loop_again}
 use Rattle.spec_arithmetic.specs.Fields.{byte_at}
 use Rattle.spec_arithmetic.specs.Places.{index_turn, index_of, number_at}
-use Rattle.spec_pack.specs.Pack.{Pst, loaded, read_pack}
+use Rattle.spec_arithmetic.specs.Files.{loaded}
+use Rattle.spec_pack.specs.Pack.{Pst, read_pack}
 use Rattle.std.specs.Prelude.{Some, None}
 use Rattle.spec_lookup.specs.declared.Context.{Context}
 use Rattle.spec_lookup.specs.Lookup.{Found, Walked, best_rule, parent_of, climb_turn, find_rule}
-use Rattle.tonekit_expect.specs.Chain.{Earlier, Ends, top, up}
+use Rattle.tonekit_expect.proofs.Chain.{Earlier, Ends, top, up}
 use Rattle.tonekit_core.proofs.Split.{split}
 use Rattle.tonekit_pack.proofs.Loads.{loads, parent_before}
 use Rattle.tonekit_expect.proofs.Walk.{index_found, climb_hit, climb_top, climb_on}

@@ -1,5 +1,5 @@
 -- The parts that follow a rule, one by one.
-use Rattle.std.proofs.Common.{ℕ, zero, suc, ◌+◌, ◌-◌, ◌<◌, ◌≡◌, refl, List, arith, sub-one, eq-eqb, ne_eqb}
+use Rattle.std.proofs.Common.{ℕ, zero, suc, ◌+◌, ◌-◌, ◌<◌, ◌≡◌, List, arith, sub-one, eq-eqb}
 use Rattle.spec_arithmetic.specs.Fields.{byte_at}
 use Rattle.spec_pack.specs.Pack.{parts_from}
 
@@ -7,12 +7,3 @@ pub parts_hit : (n : ℕ) (s : List ℕ) (o : ℕ) → 0 < n → byte_at s o ≡
 unfolding parts_from
 parts_hit zero s o l h = absurd (omega arith)
 parts_hit (suc n) s o l h = rw (sub-one, eq-eqb (byte_at s o) 5 h)
-
-pub parts_miss : (n : ℕ) (s : List ℕ) (o : ℕ) → (byte_at s o ≡ 5 → ⊥) → parts_from n s o ≡ 0
-unfolding parts_from
-parts_miss zero s o h = refl
-parts_miss (suc n) s o h = rw (ne_eqb (byte_at s o) 5 h)
-
-pub parts_none : (s : List ℕ) (o : ℕ) → parts_from 0 s o ≡ 0
-unfolding parts_from
-parts_none s o = refl

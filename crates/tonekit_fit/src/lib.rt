@@ -193,7 +193,7 @@ impl Part<'_, '_> {
 }
 
 // One point more, x from the mean.
-#[tactic(auto, using(tonekit_core::specs::Loop::again, tonekit_core::specs::Loop::ended), unfolding(spec_shape::specs::Fit::point_added))]
+#[tactic(auto, using(tonekit_core::proofs::LoopLaws::again, tonekit_core::proofs::LoopLaws::ended), unfolding(spec_shape::specs::Fit::point_added))]
 fn point_added(m: Moments, x: f64, y: f64) -> Moments
     ensures { result ≡ point_added x y m }
 {
@@ -232,7 +232,7 @@ struct Number {
 }
 
 // The row at or below col with the greatest size in that column, the later of equals.
-#[tactic(auto, using(tonekit_core::specs::Loop::again, tonekit_core::specs::Loop::ended))]
+#[tactic(auto, using(tonekit_core::proofs::LoopLaws::again, tonekit_core::proofs::LoopLaws::ended))]
 fn pivot_of(m: [[f64; 4]; 3], col: Number) -> Number
     ensures { result.at ≡ pivot_of m col.at }
 {
@@ -247,7 +247,7 @@ fn pivot_of(m: [[f64; 4]; 3], col: Number) -> Number
 }
 
 // Row `row` less the multiple of row `col` that clears its column `col`.
-#[tactic(auto, using(tonekit_core::specs::Loop::again, tonekit_core::specs::Loop::ended))]
+#[tactic(auto, using(tonekit_core::proofs::LoopLaws::again, tonekit_core::proofs::LoopLaws::ended))]
 fn row_cleared(m: [[f64; 4]; 3], col: Number, row: Number) -> [[f64; 4]; 3]
     ensures { result ≡ row_cleared col.at row.at m }
 {
@@ -261,7 +261,7 @@ fn row_cleared(m: [[f64; 4]; 3], col: Number, row: Number) -> [[f64; 4]; 3]
 }
 
 // Every row below `col` cleared in that column.
-#[tactic(auto, using(tonekit_core::specs::Loop::again, tonekit_core::specs::Loop::ended))]
+#[tactic(auto, using(tonekit_core::proofs::LoopLaws::again, tonekit_core::proofs::LoopLaws::ended))]
 fn below_cleared(m: [[f64; 4]; 3], col: Number) -> [[f64; 4]; 3]
     ensures { result ≡ below_cleared col.at m }
 {
@@ -284,7 +284,7 @@ fn first_of(m: [[f64; 4]; 3]) -> f64
 }
 
 // The first unknown of three equations; 0 where they do not determine it.
-#[tactic(auto, using(tonekit_core::specs::Loop::to_again, tonekit_core::specs::Loop::to_stop, tonekit_core::specs::Loop::to_ended, std::proofs::lemmas::List::Edits::swap_is), unfolding(spec_shape::specs::Fit::lead_of))]
+#[tactic(auto, using(tonekit_core::proofs::LoopLaws::to_again, tonekit_core::proofs::LoopLaws::to_stop, tonekit_core::proofs::LoopLaws::to_ended, std::proofs::lemmas::List::Edits::swap_is), unfolding(spec_shape::specs::Fit::lead_of))]
 pub fn lead(start: [[f64; 4]; 3]) -> f64
     ensures { result ≡ lead_of start }
 {

@@ -12,7 +12,8 @@ use Rattle.tonekit_float.proofs.Units.{pow_le_back, meet, down_le, unique, add_a
 use Rattle.tonekit_float.proofs.Order.{Cross, le→under, flipped, neg_finite, le_trans_float}
 use Rattle.tonekit_float.proofs.Monotone.{Rounds, above, under, rounds_le, whole_rounds, add_rounds, mul_rounds, mul_le_left, zero_f, no_minus, sub_times}
 use Rattle.tonekit_float.proofs.Bounds.{in_finite}
-use Rattle.spec_arithmetic.specs.Bounds.{plus, minus, In}
+use Rattle.spec_arithmetic.specs.Bounds.{In}
+use Rattle.tonekit_float.proofs.Fraction.{plus, minus}
 
 -- ---- what it takes to fit
 pub record Held (f : Format) (m : ℕ) (e : ℤ) : Type 0 where

@@ -1,10 +1,10 @@
 -- What magnitudes are, and their patterns.
-use Rattle.std.proofs.Common.{ℕ, zero, suc, ◌<◌, Bool, true, false, T, ℤ, arith, Float, to_bits}
+use Rattle.std.proofs.Common.{ℕ, zero, suc, ◌<◌, Bool, true, false, not, T, ℤ, arith, Float, to_bits}
 use lib.Ieee.{Format, nan, inf, fin, top, fits}
 use lib.Ieee.Bits.{to_bits-lt}
 use Rattle.std.specs.Float.{float_with_sign}
-use Rattle.spec_arithmetic.specs.Magnitude.{magnitude, clear}
-use Rattle.spec_arithmetic.specs.Bounds.{Within}
+use Rattle.spec_arithmetic.specs.Magnitude.{magnitude}
+use Rattle.tonekit_float.proofs.Fraction.{Within}
 use Rattle.tonekit_float.proofs.Units.{to_bits_is}
 
 -- a format holds a value with either sign
@@ -20,6 +20,12 @@ clear_lt f m e h =
     let b = to_bits_is f true m e in
     let c = to_bits_is f false m e in
     omega arith
+
+-- a value whose sign is clear, or the NaN
+abbrev pub clear : Float → Bool
+clear nan = true
+clear (inf s) = not s
+clear (fin s m e) = not s
 
 -- ---- what magnitudes are
 pub magnitude_clear : (x : Float) → T (clear (magnitude x))

@@ -9,7 +9,7 @@ use lib.Ieee.Order.{round_mono}
 use lib.Ieee.Positive.{den, den_pos, positive}
 use lib.Ieee.Scale.{finite, round_same}
 use Rattle.spec_arithmetic.specs.Narrow.{narrowed}
-use Rattle.spec_arithmetic.specs.Bounds.{plus, minus}
+use Rattle.tonekit_float.proofs.Fraction.{plus, minus}
 use Rattle.tonekit_float.proofs.Order.{Cross, le→under, le_trans_float, neg_finite, neg_le}
 
 -- ---- `neg` of a rounded fraction
@@ -238,7 +238,7 @@ mul_le_left f x y z p q r c h =
     subst (λ (w : Float). T (le w (mul f y z))) (mul_comm_float f z x) (subst (λ (w : Float). T (le (mul f z x) w)) (mul_comm_float f z y) (mul_le_right f z x y r p q c h))
 
 -- a factor that is not positive turns the order round
-no_plus : (x : Float) → T (finite x) → T (le x zero_f) → plus x ≡ 0
+pub no_plus : (x : Float) → T (finite x) → T (le x zero_f) → plus x ≡ 0
 no_plus nan p h = absurd p
 no_plus (inf s) p h = absurd p
 no_plus (fin true m e) p h = refl

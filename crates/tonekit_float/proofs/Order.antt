@@ -6,7 +6,7 @@ use lib.Ieee.{nan, inf, fin, up, down, neg, lt, le, eq}
 use lib.Ieee.Fits.{and_l, and_r, and_i, eq→eqb}
 use lib.Ieee.Positive.{den, den_pos}
 use lib.Ieee.Scale.{finite}
-use Rattle.spec_arithmetic.specs.Bounds.{plus, minus}
+use Rattle.tonekit_float.proofs.Fraction.{plus, minus}
 
 pub yes : {b : Bool} → b ≡ true → T b
 yes h = subst T (sym h) tt

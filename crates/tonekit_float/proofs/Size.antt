@@ -7,7 +7,8 @@ use lib.Ieee.Order.{round_mono}
 use lib.Ieee.Positive.{den, den_pos, positive, positive-finite}
 use lib.Ieee.Scale.{finite}
 use Rattle.spec_arithmetic.specs.Narrow.{narrowed}
-use Rattle.spec_arithmetic.specs.Bounds.{plus, minus, In, Within}
+use Rattle.spec_arithmetic.specs.Bounds.{In}
+use Rattle.tonekit_float.proofs.Fraction.{plus, minus, Within}
 use Rattle.tonekit_float.proofs.Order.{le→under, under→le, between_finite, flipped, neg_finite, le_trans_float}
 use Rattle.tonekit_float.proofs.Monotone.{Rounds, above, under, round_neg, zero_is, zero_f, no_minus, plus_pos, add_rounds, mul_rounds, div_rounds, narrow_rounds}
 use Rattle.tonekit_float.proofs.Exact.{whole, whole_worth, plus→positive}

@@ -6,7 +6,8 @@ use lib.Ieee.Fits.{down_pos}
 use lib.Ieee.Exact.{HasValue}
 use lib.Ieee.Positive.{den, den_pos}
 use lib.Ieee.Scale.{finite}
-use Rattle.spec_arithmetic.specs.Bounds.{plus, minus, In}
+use Rattle.spec_arithmetic.specs.Bounds.{In}
+use Rattle.tonekit_float.proofs.Fraction.{plus, minus}
 use Rattle.spec_arithmetic.specs.Whole.{whole_part, round_up}
 use Rattle.tonekit_float.proofs.Order.{yes, no, le→under, under→le, lt→cross, lt→le, not-lt→le, le_refl_finite}
 use Rattle.tonekit_float.proofs.Monotone.{zero_f, no_minus, sub_le}

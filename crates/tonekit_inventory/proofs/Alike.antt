@@ -3,17 +3,17 @@ use Rattle.std.proofs.Common.{ℕ, ◌≤◌, ◌<◌, ◌≡◌, refl, ◌∙�
 use mathlib.Core.Option.{some}
 use Rattle.std.specs.Prelude.{Some, None}
 use lib.ListN.{length-map}
-use Rattle.spec_pack.specs.Pack.{Pst, loaded, read_pack}
+use Rattle.spec_arithmetic.specs.Files.{loaded}
+use Rattle.spec_pack.specs.Pack.{Pst, read_pack}
 use Rattle.spec_lookup.specs.Lookup.{Look, look_up, component_of}
 use Rattle.spec_lookup.specs.Source.{Carried, carried, components, given, source_of_pack}
 use Rattle.spec_lookup.specs.declared.Context.{Context}
 use Rattle.spec_lookup.specs.declared.Listing.{Listing}
-use Rattle.tonekit_expect.proofs.Carried.{named, part_number, components_length, components_at}
+use Rattle.tonekit_expect.proofs.Carried.{named, part_number, components_length, components_at, carried_ten}
 use Rattle.tonekit_core.specs.declared.Name.{Name}
 use Rattle.spec_judgement.specs.Judge.{count_in, name_in}
 use Rattle.spec_judgement.specs.Gather.{named_of}
 use Rattle.tonekit_inventory.proofs.Few.{Few, look_few}
-use Rattle.tonekit_inventory.proofs.Floats.{points_ten}
 use Rattle.tonekit_inventory.proofs.Tones.{listing_named}
 
 -- a component under the name of its listing, at place k of it
@@ -37,15 +37,11 @@ module _ (s : List ℕ) (l : Listing) (d : Carried) (f : Few l) where
   abbrev cs : List Carried
   cs = components s l l.count
 
-  ten : (k : ℕ) → length (carried (component_of s l k)).points ≡ 10
-  unfolding carried
-  ten k = length-map (component_of s l k).points _ ∙ points_ten s l k
-
   under : (k : ℕ) → k < l.count → Under (name_in (named_of cs)) k (get_or cs k d)
   under k h =
       let n = listing_named s l f.some in
       let m = named s l k in
-      rw (components_at s l d l.count k h, n) (record { owner = m.owner; form = m.form; label = m.label; part = part_number s l k; ten = ten k })
+      rw (components_at s l d l.count k h, n) (record { owner = m.owner; form = m.form; label = m.label; part = part_number s l k; ten = carried_ten s l k })
 
   listing_alike : Alike d cs
   listing_alike = record {

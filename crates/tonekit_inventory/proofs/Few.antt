@@ -1,10 +1,11 @@
 -- What a lookup in a pack that loads lists: one to four components that can be read. Assumes nothing.
 use Rattle.std.proofs.Common.{ℕ, ◌+◌, ◌≤◌, ◌<◌, ◌≡◌, refl, sym, ap, ◌∙◌, subst, List, arith, eqb, ltb, length, get_or, ltb-true}
 use Rattle.spec_arithmetic.specs.Fields.{byte_at}
-use Rattle.spec_pack.specs.Pack.{Pst, Out, loaded, refused, read_pack, parts_from}
+use Rattle.spec_arithmetic.specs.Files.{Out, loaded, refused}
+use Rattle.spec_pack.specs.Pack.{Pst, read_pack, parts_from}
 use Rattle.spec_arithmetic.specs.Places.{number_at, index_of}
 use Rattle.tonekit_pack.specs.declared.Pack.{Pack}
-use Rattle.tonekit_pack.specs.Held.{shown, ReadFrom}
+use Rattle.tonekit_pack.specs.Held.{shown}
 use Rattle.tonekit_core.proofs.Split.{split}
 use Rattle.tonekit_pack.proofs.Loads.{Loads, loads, firsts_bound, parts_few}
 use Rattle.std.specs.Prelude.{Option, Some, None}
@@ -13,8 +14,8 @@ use Rattle.spec_lookup.specs.declared.Context.{Context}
 use Rattle.spec_lookup.specs.declared.Listing.{Listing}
 use Rattle.spec_lookup.specs.Lookup.{Found, Look, to_rule, find_rule, rule_listing, citation, listed, look_at, look_up}
 use Rattle.tonekit_expect.proofs.Walk.{index_found, winner_is}
-use Rattle.tonekit_expect.proofs.Curves.{listed_fine}
-use Rattle.tonekit_inventory.specs.OfPack.{pack_in, Looked}
+use Rattle.tonekit_expect.proofs.Curves.{listed_fine, rule_fine}
+use Rattle.tonekit_inventory.specs.OfPack.{pack_in, Short}
 
 pub record Few (l : Listing) : Type 0 where
   pub some : 1 ≤ l.count
@@ -26,11 +27,7 @@ module _ (s : List ℕ) (st : Pst) (e : ℕ) (l : Loads s st e) (c : Context) wh
   Parted r = 1 ≤ parts_from 4 s (r + 7)
 
   parted : (i k : ℕ) → k < to_rule st i → Parted (get_or st.rules k 0)
-  parted i k h =
-      (l.kept.rules k
-      (split (ltb (i + 1) (length st.accents))
-      (λ t. let b = firsts_bound s st e l (i + 1) (ltb-true (i + 1) (length st.accents) t) in let g = rw t at h in omega (arith, b, g))
-      (λ t. rw t at h))).some_parts
+  parted i k h = (rule_fine s st e l i k h).some_parts
 
   of_winner : (m : Listing) (i o : ℕ) → i < length st.accents → (w : Option Winner) → find_rule s st c i ≡ w → listed s st c o w ≡ Some m → Few m
   of_winner m i o h (Some w) q g =
@@ -54,10 +51,19 @@ pub look_few : (s : List ℕ) (st : Pst) (e : ℕ) → read_pack s ≡ loaded st
 unfolding look_up
 look_few s st e p c l q = of_places s st e (loads s st e p) c l (index_of s st.accents c.accent) (index_of s st.tones c.tone) refl q
 
+-- a pack as its reader handed it back for these bytes, which load
+record ReadFrom (s : List ℕ) (p : Pack) : Type 0 where
+  end : ℕ
+  reads : read_pack s ≡ loaded (shown p) end
+
 -- a pack that is held was read from its bytes
-read_from : (s : List ℕ) (p : Pack) (o : Out) → read_pack s ≡ o → pack_in o ≡ Some (shown p) → ReadFrom s p
+read_from : (s : List ℕ) (p : Pack) (o : Out Pst) → read_pack s ≡ o → pack_in o ≡ Some (shown p) → ReadFrom s p
 read_from s p (loaded st e) q h = let is : st ≡ shown p = cc in record { end = e; reads = q ∙ ap (λ (x : Pst). loaded x e) is }
 read_from s p (refused r place) q h = let n : ◌≡◌ {A = ℕ} 0 1 = cc in absurd (omega arith)
+
+-- what a lookup in a pack that loads finds
+abbrev pub Looked : List ℕ → Look → Type 0
+Looked s k = (l : Listing) → k ≡ Some l → Short s l
 
 pub looked : (s : List ℕ) (p : Pack) → pack_in (read_pack s) ≡ Some (shown p) → (c : Context) (k : Look) → k ≡ look_up s (shown p) c → Looked s k
 looked s p h c k e l q =

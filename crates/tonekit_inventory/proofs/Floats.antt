@@ -87,6 +87,3 @@ module _ (s : List ℕ) (l : Listing) (j : ℕ) where
   pub points_back : map f32 (carried (component_of s l j)).points ≡ (component_of s l j).points
   unfolding carried
   points_back = back (component_of s l j).points (component_held s l j).points
-
-  pub points_ten : length (component_of s l j).points ≡ 10
-  points_ten = (component_held s l j).count

@@ -1,7 +1,8 @@
 -- The loop over the tones of whatever a station holds: from each tone on the definition gives what it gives of the whole. Assumes nothing.
 use Rattle.std.specs.Prelude.{Option, Some, None}
 use Rattle.std.proofs.Common.{ℕ, zero, suc, ◌+◌, ◌≤◌, ◌<◌, ◌≡◌, refl, List, [], ◌∷◌, ◌++◌, map, length, length-append, get_or, arith, ltb, lt-ltb, true}
-use Rattle.tonekit_core.specs.Loop.{range, again, ended}
+use Rattle.tonekit_core.specs.Loop.{range}
+use Rattle.tonekit_core.proofs.LoopLaws.{again, ended}
 use Rattle.spec_lookup.specs.Source.{Carried, Source}
 use Rattle.spec_lookup.specs.declared.Context.{Context}
 use Rattle.spec_judgement.specs.declared.ToneEntry.{ToneEntry}
@@ -17,10 +18,6 @@ first_named [] d h = absurd (omega arith)
 first_named (c ∷ cs) d h = refl
 
 -- ---- an entry of a list that was made of another
-pub map_at : {A B : Type 0} (f : A → B) (l : List A) (n : ℕ) (d : A) (d' : B) → n < length l → get_or (map f l) n d' ≡ f (get_or l n d)
-map_at f [] n d d' h = absurd (omega arith)
-map_at f (x ∷ l) zero d d' h = refl
-map_at f (x ∷ l) (suc n) d d' h = map_at f l n d d' (omega arith)
 
 -- ---- the loop over n tones
 abbrev count_of : List ToneEntry → ℕ → ℕ

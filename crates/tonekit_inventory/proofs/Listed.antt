@@ -9,7 +9,7 @@ use Rattle.spec_lookup.specs.declared.Context.{Context}
 use Rattle.spec_judgement.specs.Judge.{Listings, no_entry, entry_at, no_slot, slot_at}
 use Rattle.spec_judgement.specs.declared.ToneEntry.{ToneEntry}
 use Rattle.spec_judgement.specs.Gather.{entry_of, named_of, with_tone, put_in, slot_of, slotted, no_tone, given_of, in_context, list_tone, listings, nothing_yet}
-use Rattle.tonekit_inventory.proofs.Going.{map_at}
+use Rattle.std.proofs.lemmas.List.{get_or-map}
 
 -- ---- a run of entries that was set
 module _ {A : Type 0} (d : A) where
@@ -62,7 +62,7 @@ module _ (d : Carried) (t : ℕ) (tone : Tone) (cs : List Carried) (l : Listings
       listing = ap (λ (e : ToneEntry). e.listing) its_entry;
       slot = λ k h.
           sets_at no_slot l.slots.list (4 * t) (map slot_of cs) k (omega (arith, length-map cs slot_of)) (omega (arith, length-map cs slot_of, r.slots))
-          ∙ map_at slot_of cs k d no_slot h;
+          ∙ get_or-map slot_of cs k d no_slot h;
     }
 
   -- what was entered before stays

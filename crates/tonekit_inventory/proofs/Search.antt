@@ -6,47 +6,15 @@ use Rattle.tonekit_core.specs.Loop.{Turn, next, stop, turns_to, range_to}
 use Rattle.spec_arithmetic.specs.Places.{number_at, index_turn, index_of}
 use Rattle.tonekit_pack.specs.declared.Pack.{Pack}
 use Rattle.tonekit_pack.specs.Held.{shown}
-use Rattle.tonekit_core.proofs.Split.{split}
+use Rattle.tonekit_core.proofs.Split.{or_cond}
 use Rattle.tonekit_bytes.proofs.InOrder.{order_length, order_get}
+use Rattle.tonekit_bytes.proofs.Searched.{pick, searched}
 use Rattle.spec_lookup.specs.Lookup.{Found}
 use Rattle.spec_lookup.specs.Source.{Tone, Accent, accent_at, accent_in, tone_in, source_of_pack}
 use Rattle.tonekit_expect.proofs.Walk.{index_found}
 use Rattle.spec_judgement.specs.declared.Tolerance.{Tolerance}
 use Rattle.spec_judgement.specs.Fields.{tolerance_at}
 use Rattle.spec_judgement.specs.Gather.{tolerance_of, graded_of}
-
--- what is said of the record that a search found: hit of its offset, or miss
-abbrev pick : {R : Type 0} → (ℕ → R) → R → List ℕ → Found → R
-pick hit miss os (Some i) = hit (get_or os i 0)
-pick hit miss os None = miss
-
--- what a list says of the first record with number n is what the search finds
-module _ {R : Type 0} (s : List ℕ) (n : ℕ) (hit : ℕ → R) (miss : R) (says : List ℕ → R) (ends : says [] ≡ miss) (goes : (o : ℕ) (os : List ℕ) → says (o ∷ os) ≡ cond (eqb (number_at s o) n) (hit o) (says os)) where
-  abbrev on : List ℕ → ℕ → ℕ → Turn ℕ Found → Found
-  on os = turns_to (index_turn s os n) (λ u. None)
-
-  stopped : (os : List ℕ) (k j : ℕ) (f : Found) → on os k j (stop f) ≡ f
-  unfolding turns_to
-  stopped os zero j f = refl
-  stopped os (suc k) j f = refl
-
-  from : (os : List ℕ) (k j : ℕ) → k + j ≡ length os → says (drop j os) ≡ pick hit miss os (on os k j (next 0))
-  unfolding turns_to
-  from os zero j h = let e : drop j os ≡ [] = drop_of_length-le os {i = j} (omega arith) in ap says e ∙ ends
-  from os (suc k) j h =
-      ap says (drop-cons os j 0 (omega arith))
-      ∙ (goes (get_or os j 0) (drop (suc j) os)
-      ∙ split (eqb (number_at s (get_or os j 0)) n)
-      (λ t. rw (t, stopped os k (j + 1) (Some j)))
-      (λ f. rw (f, ← add-one j) (from os k (j + 1) (omega arith))))
-
-  searched : (os : List ℕ) → says os ≡ pick hit miss os (index_of s os n)
-  unfolding index_of range_to
-  searched os = from os (length os - 0) 0 (omega arith)
-
-or_cond : (b c : Bool) → (b || c) ≡ cond b true c
-or_cond true c = refl
-or_cond false c = refl
 
 -- accents and tones that are held by their records' offsets, under the numbers there
 module _ (s os : List ℕ) (n : ℕ) (accent_of : ℕ → Accent) (number : (o : ℕ) → (accent_of o).number ≡ number_at s o) where

@@ -12,7 +12,8 @@ use Rattle.tonekit_expect.proofs.Carried.{named, components_at, components_lengt
 use Rattle.spec_judgement.specs.Fields.{region_at}
 use Rattle.tonekit_inventory.specs.OfPack.{source_in}
 use Rattle.spec_judgement.specs.Gather.{region_of, entry_of, named_of, no_tone}
-use Rattle.tonekit_inventory.proofs.Going.{first_named, map_at}
+use Rattle.std.proofs.lemmas.List.{get_or-map}
+use Rattle.tonekit_inventory.proofs.Going.{first_named}
 
 -- ---- a listing's name is that of its first component
 nothing_carried : Carried
@@ -44,7 +45,7 @@ module _ (s : List ℕ) (p : Pack) where
     tone_is : get_or (source_in s p).tones t no_tone ≡ tone_at s at
     unfolding source_of_pack
     tone_is =
-        map_at (tone_at s) (in_order p.tones.at p.tones.count) t 0 no_tone (rw order_length h)
+        get_or-map (tone_at s) (in_order p.tones.at p.tones.count) t 0 no_tone (rw order_length h)
         ∙ ap (tone_at s) (order_get p.tones.at p.tones.count t h)
 
     pub entry_is : record { number = byte_at s (at + 1); prior = f32_at s (at + 2); region = region_at s (at + 47); listing = None }

@@ -1,7 +1,8 @@
 -- A pack, as what a station holds: the source that it stands for, and what a lookup in it lists.
 use Rattle.std.specs.Prelude.{ℕ, ◌≤◌, ◌<◌, ◌≡◌, List, Option, Some, None, Result, Ok, Err}
 use Rattle.tonekit_core.specs.declared.Rejection.{Rejection}
-use Rattle.spec_pack.specs.Pack.{Pst, Out, loaded, refused, load_pack}
+use Rattle.spec_arithmetic.specs.Files.{Out, loaded, refused}
+use Rattle.spec_pack.specs.Pack.{Pst, load_pack}
 use Rattle.tonekit_pack.specs.Held.{shown}
 use Rattle.tonekit_pack.specs.declared.Pack.{Pack}
 use Rattle.spec_lookup.specs.Lookup as lookup
@@ -14,7 +15,7 @@ abbrev pub source_in : List ℕ → Pack → Source
 source_in s p = source_of_pack s (shown p)
 
 -- what the bytes of a pack hold, or why they are none
-abbrev pub source_or : List ℕ → Out → Result Source Rejection
+abbrev pub source_or : List ℕ → Out Pst → Result Source Rejection
 source_or s (loaded st end) = Ok (source_of_pack s st)
 source_or s (refused r place) = Err (record { why = r; place = place })
 
@@ -22,7 +23,7 @@ abbrev pub load_source : List ℕ → Result Source Rejection
 load_source s = source_or s (load_pack s)
 
 -- the pack that was read, if one was
-abbrev pub pack_in : Out → Option Pst
+abbrev pub pack_in : Out Pst → Option Pst
 pack_in (loaded st end) = Some st
 pack_in (refused r place) = None
 
@@ -31,7 +32,3 @@ pub record Short (s : List ℕ) (l : Listing) : Type 0 where
   pub some : 1 ≤ l.count
   pub few : l.count ≤ 4
   pub each : (j : ℕ) → j < l.count → lookup.Listed s l j
-
--- what a lookup in a pack that loads finds
-abbrev pub Looked : List ℕ → Look → Type 0
-Looked s k = (l : Listing) → k ≡ Some l → Short s l

@@ -7,10 +7,11 @@ use lib.Ieee.Exact.{HasValue, round_exact}
 use lib.Ieee.Fits.{and_l, and_r, down_pos, round-fits}
 use lib.Ieee.Positive.{den, den_pos, positive}
 use lib.Ieee.Scale.{finite}
-use Rattle.spec_arithmetic.specs.Bounds.{In, Within, plus, minus}
+use Rattle.spec_arithmetic.specs.Bounds.{In}
+use Rattle.tonekit_float.proofs.Fraction.{Within, plus, minus}
 use Rattle.tonekit_float.proofs.Size.{within_lit, within_whole, within_neg, within_more, within_mul}
 use Rattle.tonekit_float.proofs.Order.{yes, lt→le, le→under, under→le, neg_finite, flipped, le_trans_float}
-use Rattle.tonekit_float.proofs.Monotone.{Rounds, zero_f, add_rounds, mul_rounds, mul_comm_float}
+use Rattle.tonekit_float.proofs.Monotone.{Rounds, zero_f, add_rounds, mul_rounds, mul_comm_float, no_plus}
 use Rattle.tonekit_float.proofs.Bounds.{in_wider, in_add, in_mul, in_div, in_scale, finite4, about0}
 use Rattle.tonekit_float.proofs.Exact.{rounds_under, rounds_over, whole, whole_worth}
 use Rattle.spec_arithmetic.specs.Constants.{LN2, LOG2E, half, one, bound, num}
@@ -450,12 +451,6 @@ unfolding le lt eq is_nan
 number nan h = absurd h
 number (inf s) h = refl
 number (fin s m e) h = refl
-
-no_plus : (v : Float) → T (finite v) → T (le v zero_f) → plus v ≡ 0
-no_plus nan f h = absurd f
-no_plus (inf s) f h = absurd f
-no_plus (fin true m e) f h = refl
-no_plus (fin false m e) f h = let k = le→under (fin false m e) zero_f tt tt h in omega arith
 
 bound_above : T (le bound zero_f) → ⊥
 unfolding of_bits le lt eq

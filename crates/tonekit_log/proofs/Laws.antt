@@ -4,13 +4,14 @@ use lib.Ieee.{nan, inf, fin, binary64, round, neg, sum, add, sub, mul, div, lt, 
 use lib.Ieee.Bits.{is_true}
 use lib.Ieee.Fits.{nan-fits, inf-fits, cond-fits, add-fits, mul-fits}
 use lib.Ieee.Scale.{finite}
-use Rattle.spec_arithmetic.specs.Bounds.{Within}
+use Rattle.tonekit_float.proofs.Fraction.{Within}
 use Rattle.tonekit_float.proofs.Monotone.{zero_f}
 use Rattle.tonekit_float.proofs.Bounds.{in_finite}
 use Rattle.tonekit_float.proofs.Signs.{below}
 use Rattle.spec_arithmetic.specs.declared.Parts.{Parts}
 use Rattle.spec_arithmetic.specs.Constants.{LN2, LOG2E, one, bound}
-use Rattle.spec_arithmetic.specs.Log.{Exponent, series, ln_at, log2_at, log_by, ln_of, log2_of}
+use Rattle.spec_arithmetic.specs.Log.{series, ln_at, log2_at, log_by, ln_of, log2_of}
+use Rattle.tonekit_log.proofs.Powers.{Exponent}
 use Rattle.spec_arithmetic.specs.Exp.{exp_series, turns, rest, floor_of, exp_by, exp_of}
 use Rattle.tonekit_log.proofs.LogCases.{ln_is, log2_is, none_of}
 use Rattle.tonekit_log.proofs.Powers.{at_power, log2_at_one, ln_at_one, none_more, exponent_stays, product_stays}

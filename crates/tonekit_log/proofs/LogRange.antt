@@ -7,8 +7,9 @@ use lib.Ieee.Fits.{and_l, and_r}
 use lib.Ieee.Order.{round_mono}
 use lib.Ieee.Positive.{den, den_pos}
 use lib.Ieee.Scale.{finite}
-use Rattle.spec_arithmetic.specs.Bounds as bounds
-use Rattle.spec_arithmetic.specs.Bounds.{In, Within, plus}
+use Rattle.tonekit_float.proofs.Fraction as fraction
+use Rattle.spec_arithmetic.specs.Bounds.{In}
+use Rattle.tonekit_float.proofs.Fraction.{Within, plus}
 use Rattle.tonekit_float.proofs.Units.{size_gt}
 use Rattle.tonekit_float.proofs.Order.{yes, le→under, neg_le, lt→le, not-lt→le, le_refl_finite, le_trans_float}
 use Rattle.tonekit_float.proofs.Monotone.{zero_f, mul_le_left, mul_comm_float, div_rounds, plus_pos}
@@ -76,8 +77,8 @@ in_quotient x y h k =
     let R = div_rounds binary64 x y X P in
     let b = le→under divisor y tt Y k.low in
     record {
-      low = rounds_over binary64 (div binary64 x y) minus_quarter _ _ _ D quarter_fits.1 tt R (quotient_down (plus x) (bounds.minus x) (den x) (plus y) (bounds.minus y) (den y) (le→under below1 x tt X h.low) b);
-      high = rounds_under binary64 (div binary64 x y) quarter _ _ _ D quarter_fits.0 tt R (quotient_up (plus x) (bounds.minus x) (den x) (plus y) (bounds.minus y) (den y) (le→under x above1 X tt h.high) b);
+      low = rounds_over binary64 (div binary64 x y) minus_quarter _ _ _ D quarter_fits.1 tt R (quotient_down (plus x) (fraction.minus x) (den x) (plus y) (fraction.minus y) (den y) (le→under below1 x tt X h.low) b);
+      high = rounds_under binary64 (div binary64 x y) quarter _ _ _ D quarter_fits.0 tt R (quotient_up (plus x) (fraction.minus x) (den x) (plus y) (fraction.minus y) (den y) (le→under x above1 X tt h.high) b);
     }
 
 -- ---- m after halving

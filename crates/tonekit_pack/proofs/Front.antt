@@ -1,22 +1,21 @@
 -- The reader looks at no more than a pack can hold: inputs with the same first 7,000 bytes give the same answer. Assumes nothing.
-use Rattle.std.proofs.Common.{ℕ, zero, suc, ◌+◌, ◌-◌, ◌*◌, ◌≤◌, ◌<◌, ◌≡◌, refl, sym, ap, ◌∙◌, Bool, true, ◌&&◌, List, [], ◌∷◌, arith, length, get_or, take, length-append, eqb, eqb-true}
+use Rattle.std.proofs.Common.{ℕ, suc, ◌+◌, ◌-◌, ◌*◌, ◌≤◌, ◌<◌, ◌≡◌, refl, ap, Bool, true, ◌&&◌, List, [], ◌∷◌, arith, length, get_or, take, length-append, eqb, eqb-true}
 use lib.ListN.{get_or-eq_default}
 use borrow.Author.Tests.{eqb-false}
-use Rattle.tonekit_core.specs.Loop.{loop_to, loop_on}
-use Rattle.tonekit_core.specs.declared.Refusal.TheVariants.{CutShort}
 use Rattle.std.specs.Prelude.{Ok}
 use Rattle.tonekit_core.proofs.LoopLaws.{range_same}
 use Rattle.spec_arithmetic.specs.Fields.{byte_at}
 use Rattle.tonekit_bytes.proofs.Agreeing.{Agree, taken_agrees, four, float}
 use Rattle.spec_pack.specs.Ranges.{slot_fine, slot_turn, knots_fine, region_fine, tolerances_fine}
 use Rattle.spec_arithmetic.specs.Places.{number_at}
-use Rattle.spec_pack.specs.Pack.{Pst, Out, loaded, refused, size_of, holds, zero_or_held, last_rule, settings_verdict, tone_verdict, accent_verdict, rule_verdict, part_verdict, body_verdict, due_after, record_verdict, added, start, read_pack, singly, load_pack}
+use Rattle.spec_pack.specs.Pack.{Pst, size_of, holds, zero_or_held, last_rule, settings_verdict, tone_verdict, accent_verdict, rule_verdict, part_verdict, body_verdict, due_after, record_verdict, added, start, pack_reader, read_pack, load_pack}
 use Rattle.tonekit_core.proofs.Split.{split}
 use Rattle.tonekit_pack.proofs.Each.{each_snoc}
 use Rattle.tonekit_pack.proofs.Records.{Due, due_is, settings, tone, accent, rule, part, finish, sound, tone_room, accent_room, rule_room, part_room}
 use Rattle.tonekit_pack.specs.Going.{Near}
 use Rattle.tonekit_pack.proofs.Reading.{near_next}
-use Rattle.tonekit_pack.proofs.Turns.{run, by_verdict, run_refused, run_end, run_on, limit_idle}
+use Rattle.tonekit_bytes.proofs.Files.{Alike, read_same, single_same}
+use Rattle.tonekit_pack.proofs.Turns.{steady}
 use Rattle.tonekit_pack.proofs.Loads.{loads, near_end}
 
 -- what a record says, in two inputs that agree up to its end
@@ -120,25 +119,6 @@ module _ (n : ℕ) (t s : List ℕ) (a : Agree n t s) (at : ℕ) (st : Pst) (p :
       rw (a.ends at (omega arith), a.bytes at (omega arith), a.cuts (at + size_of (byte_at s at)) (room_for q), body_same q))
       (λ d. rw (a.ends at (omega arith), a.bytes at (omega arith), d))
 
-no_turn : (s : List ℕ) (d : Out) (at : ℕ) (st : Pst) → run s d 0 at st ≡ d
-unfolding loop_to loop_on
-no_turn s d at st = refl
-
-run_same : (f n : ℕ) (t s : List ℕ) (a : Agree n t s) (d : Out) (at : ℕ) (st : Pst) → Low at st → 6991 ≤ n → run t d f at st ≡ run s d f at st
-run_same zero n t s a d at st p l = no_turn t d at st ∙ sym (no_turn s d at st)
-run_same (suc f) n t s a d at st p l =
-    let same = verdict_same n t s a at st p l in
-    let here : byte_at t at ≡ byte_at s at = a.bytes at (omega arith) in
-    by_verdict (record_verdict s at st)
-    (λ v. split (eqb (byte_at s at) 6)
-    (λ e. run_end t d (suc f) at st (omega arith) (same ∙ v) (here ∙ eqb-true (byte_at s at) 6 e) ∙ sym (run_end s d (suc f) at st (omega arith) v (eqb-true (byte_at s at) 6 e)))
-    (λ e. let six : byte_at s at ≡ 6 → ⊥ = eqb-false (byte_at s at) 6 e in
-    let ok = sound s at st v in
-    let q : suc f - 1 ≡ f = omega arith in
-    rw (run_on t d (suc f) at st (omega arith) (same ∙ v) (λ x. six (sym here ∙ x)), run_on s d (suc f) at st (omega arith) v six, q, here)
-    (run_same f n t s a d (at + size_of (byte_at s at)) (added (byte_at s at) at st) (low_next s at st ok.due six ok.body p) l)))
-    (λ r v. run_refused t d (suc f) at st (omega arith) r (same ∙ v) ∙ sym (run_refused s d (suc f) at st (omega arith) r v))
-
 low_start : Low 0 start.st
 low_start = record {
   near = record { first = λ q. refl; early = λ q. omega arith; near = omega arith };
@@ -151,15 +131,19 @@ low_start = record {
   rules = λ i l. absurd (omega arith);
 }
 
-read_agrees : (n : ℕ) (t s : List ℕ) → Agree n t s → 6991 ≤ n → read_pack t ≡ read_pack s
-read_agrees n t s a l =
-    let d = refused CutShort 0 in
-    let m = length t + length s + 1 in
-    sym (limit_idle t d m (omega arith)) ∙ run_same m n t s a d 0 start.st low_start l ∙ limit_idle s d m (omega arith)
+alike : (n : ℕ) (t s : List ℕ) → Agree n t s → 6991 ≤ n → Alike pack_reader t s Low
+alike n t s a l =
+    record {
+      kind = λ at st p. a.bytes at (omega (arith, p.near.near, p.few_tones, p.few_accents, p.few_rules, p.few_in_all));
+      verdict = λ at st p. verdict_same n t s a at st p l;
+      added = λ at st p. ap (λ k. added k at st) (a.bytes at (omega (arith, p.near.near, p.few_tones, p.few_accents, p.few_rules, p.few_in_all)));
+      finish = λ at st p v k. refl;
+      goes = λ at st p v k. let ok = sound s at st v in low_next s at st ok.due k ok.body p;
+    }
 
-single_agrees : (n : ℕ) (t s : List ℕ) (a : Agree n t s) (o : Out) → ((st : Pst) (e : ℕ) → o ≡ loaded st e → e < n) → singly t o ≡ singly s o
-single_agrees n t s a (loaded st e) h = rw (a.goes e (h st e refl))
-single_agrees n t s a (refused r place) h = refl
+read_agrees : (n : ℕ) (t s : List ℕ) → Agree n t s → 6991 ≤ n → read_pack t ≡ read_pack s
+unfolding read_pack
+read_agrees n t s a l = read_same pack_reader t s Low (alike n t s a l) steady refl low_start
 
 -- what stands past the first 7,000 bytes is no matter but that it is there
 pub front_alone : (s : List ℕ) (n : ℕ) → 7000 ≤ n → load_pack (take n s) ≡ load_pack s
@@ -167,4 +151,4 @@ unfolding load_pack
 front_alone s n l =
     let a = taken_agrees n s in
     rw (read_agrees n (take n s) s a (omega arith))
-    (single_agrees n (take n s) s a (read_pack s) (λ st e h. omega (arith, near_end s st e (loads s st e h))))
+    (single_same (take n s) s (read_pack s) (λ st e h. a.goes e (omega (arith, near_end s st e (loads s st e h)))))

@@ -3,9 +3,9 @@ pub mod ByKind
 pub mod Roomy
 pub mod Each
 pub mod Records
+pub mod Turns
 pub mod Reading
 pub mod Single
-pub mod Turns
 pub mod Loads
 pub mod Front
 pub mod Bounds

@@ -1,20 +1,21 @@
 -- What a pack that loads has: how many of each record, every record fine, numbers once, parents earlier, parts behind their rule. Assumes nothing.
-use Rattle.std.proofs.Common.{ℕ, zero, suc, ◌+◌, ◌-◌, ◌*◌, ◌≤◌, ◌<◌, ◌≡◌, refl, ap, ◌∙◌, ◌⊎◌, Bool, true, false, not, ◌&&◌, ◌||◌, List, [], ◌∷◌, ◌++◌, arith, length, get_or, length-append, get_or-take, length-take-le, eqb, leb, ltb, eq-eqb, ne_eqb, eqb-true, leb-true, ltb-false}
-use lib.Seq.{get_or-append_seam}
+use Rattle.std.proofs.Common.{ℕ, zero, suc, ◌+◌, ◌*◌, ◌≤◌, ◌<◌, ◌≡◌, refl, ap, ◌∙◌, ◌⊎◌, Bool, true, false, not, ◌&&◌, ◌||◌, List, [], ◌∷◌, ◌++◌, arith, length, get_or, length-append, get_or-take, length-take-le, eqb, leb, ltb, eq-eqb, ne_eqb, eqb-true, leb-true, ltb-false}
 use borrow.Author.Tests.{eqb-false, not-true}
 use Rattle.tonekit_core.specs.declared.Refusal.TheVariants.{CutShort}
 use Rattle.std.specs.Prelude.{Ok}
 use Rattle.spec_arithmetic.specs.Fields.{byte_at, u32_at, f32_at}
 use Rattle.spec_pack.specs.Ranges.{above_zero, a_share, weight_fine, knots_fine, region_fine, tolerances_fine}
 use Rattle.spec_arithmetic.specs.Places.{number_at}
-use Rattle.spec_pack.specs.Pack.{Pst, Out, loaded, refused, size_of, holds, zero_or_held, single, settings_verdict, body_verdict, added, start, parts_from, read_pack}
-use Rattle.tonekit_core.proofs.Split.{split, either, neither, both}
+use Rattle.spec_pack.specs.Pack.{Pst, size_of, holds, zero_or_held, single, settings_verdict, body_verdict, added, parts_from, read_pack, pack_reader}
+use Rattle.tonekit_core.proofs.Split.{split, either, neither, both, not_zero}
+use Rattle.tonekit_core.proofs.Lists.{last_snoc}
+use Rattle.spec_arithmetic.specs.Files.{Out, loaded, refused}
 use Rattle.tonekit_pack.proofs.Numbers.{zero_or_before, none_before}
-use Rattle.tonekit_pack.proofs.Each.{Each, each_snoc}
-use Rattle.tonekit_pack.proofs.Records.{Due, settings, tone, accent, rule, part, finish, passed, tone_passed, accent_passed, rule_passed, part_passed, tone_room, accent_room, rule_room, part_room}
+use Rattle.tonekit_pack.proofs.Each.{Each, each_snoc, last_snoc}
+use Rattle.tonekit_pack.proofs.Records.{Due, settings, tone, accent, rule, part, finish, sound, passed, tone_passed, accent_passed, rule_passed, part_passed, tone_room, accent_room, rule_room, part_room}
 use Rattle.tonekit_pack.specs.Going.{Near}
 use Rattle.tonekit_pack.proofs.Reading.{near_next}
-use Rattle.tonekit_pack.proofs.Turns.{run, accepted, no_turns}
+use Rattle.tonekit_bytes.proofs.Files.{run, accepted, no_turns, same_loaded, read_keeps}
 
 -- ---- the records
 
@@ -60,9 +61,6 @@ pub record RuleFine (s tones : List ℕ) (o : ℕ) : Type 0 where
   pub parts : (j : ℕ) → j < parts_from 4 s (o + 7) → PartFine s (o + 7 + 46 * j)
   pub lone : byte_at s (o + 6) ≡ 2 → parts_from 4 s (o + 7) ≡ 1
   pub unit : byte_at s (o + 6) ≡ 2 → u32_at s (o + 7 + 1) ≡ 0x3f80_0000
-
-not_zero : (n : ℕ) → not (eqb n 0) ≡ true → 1 ≤ n
-not_zero n h = omega (arith, eqb-false n 0 (not-true (eqb n 0) h))
 
 module _ (s : List ℕ) (at : ℕ) (st : Pst) where
   tone_is : byte_at s at ≡ 2 → at + 56 ≤ length s → body_verdict 2 s at st ≡ Ok tt → ToneFine s st.tones at
@@ -118,8 +116,8 @@ module _ (s : List ℕ) (at : ℕ) (st : Pst) where
 -- ---- the parts behind a rule
 
 -- the rest of the reading, from a place on
-abbrev reads : List ℕ → ℕ → ℕ → Pst → Out
-reads s f at st = run s (refused CutShort (length s)) f at st
+abbrev reads : List ℕ → ℕ → ℕ → Pst → Out Pst
+reads s f at st = run pack_reader s (refused CutShort (length s)) f at st
 
 -- n parts from o on, after p of the same rule
 record PartsFine (one : Bool) (s : List ℕ) (o n p : ℕ) : Type 0 where
@@ -145,17 +143,17 @@ parts_here : (n : ℕ) (s : List ℕ) (o : ℕ) → byte_at s o ≡ 5 → parts_
 unfolding parts_from
 parts_here n s o e = rw (eq-eqb (byte_at s o) 5 e)
 
-parts_over : (n : ℕ) (s : List ℕ) (o : ℕ) → (byte_at s o ≡ 5 → ⊥) → parts_from n s o ≡ 0
+pub parts_miss : (n : ℕ) (s : List ℕ) (o : ℕ) → (byte_at s o ≡ 5 → ⊥) → parts_from n s o ≡ 0
 unfolding parts_from
-parts_over zero s o e = refl
-parts_over (suc n) s o e = rw (ne_eqb (byte_at s o) 5 e)
+parts_miss zero s o e = refl
+parts_miss (suc n) s o e = rw (ne_eqb (byte_at s o) 5 e)
 
 pub parts_few : (n : ℕ) (s : List ℕ) (o : ℕ) → parts_from n s o ≤ n
 unfolding parts_from
 parts_few zero s o = omega arith
 parts_few (suc n) s o = split (eqb (byte_at s o) 5) (λ e. rw e (omega (arith, parts_few n s (o + 46)))) (λ e. rw e (omega arith))
 
-parts_none : (s : List ℕ) (o : ℕ) → parts_from 0 s o ≡ 0
+pub parts_none : (s : List ℕ) (o : ℕ) → parts_from 0 s o ≡ 0
 unfolding parts_from
 parts_none s o = refl
 
@@ -179,16 +177,17 @@ onward s f at st fin e k q h = record { next = added 5 at st; goes = rw q at h; 
 parts_fine : (n f : ℕ) (one : Bool) (s : List ℕ) (at : ℕ) (st fin : Pst) (e : ℕ)
     → single s st ≡ one → 4 ≤ st.last → st.last ≤ 5 → (st.last ≡ 5 → 1 ≤ st.parts) → (one ≡ true → st.parts ≤ 1) → n + st.parts ≡ 4
     → reads s f at st ≡ loaded fin e → PartsFine one s at (parts_from n s at) st.parts
-parts_fine n zero one s at st fin e i l u g h q r = no_turns s at st fin CutShort (length s) e r
+parts_fine n zero one s at st fin e i l u g h q r = no_turns pack_reader s at st fin CutShort (length s) e r
 parts_fine zero (suc f) one s at st fin e i l u g h q r =
     let z = parts_none s at in
     rw z (record { some = omega arith; each = λ j b. absurd (omega arith); lone = λ o. omega (arith, h o); unit = λ o b. absurd (omega arith) })
 parts_fine (suc n) (suc f) one s at st fin e i l u g h q r =
-    let a = accepted s (refused CutShort (length s)) f at st fin e r in
+    let a = accepted pack_reader s (refused CutShort (length s)) f at st fin e r in
+    let ok = sound s at st a.passes in
     split (eqb (byte_at s at) 5)
     (λ b. let k : byte_at s at ≡ 5 = eqb-true (byte_at s at) 5 b in
-    let body : body_verdict 5 s at st ≡ Ok tt = rw k at a.passes.body in
-    let w : at + 46 ≤ length s = part_whole s at (byte_at s at) k a.passes.whole in
+    let body : body_verdict 5 s at st ≡ Ok tt = rw k at ok.body in
+    let w : at + 46 ≤ length s = part_whole s at (byte_at s at) k ok.whole in
     let o = onward s f at st fin e (byte_at s at) k (a.goes (λ six. omega arith)) in
     let lone : one ≡ true → st.parts ≡ 0 = λ t. (part_room s at st body).lone (i ∙ t) in
     let t = parts_fine n f one s (at + 46) o.next fin e (o.same ∙ i) (omega arith) (omega arith) (λ x. omega arith) (λ x. omega (arith, lone x)) (omega arith) o.goes in
@@ -200,20 +199,15 @@ parts_fine (suc n) (suc f) one s at st fin e i l u g h q r =
       unit = λ x y. part_unit s at st body (i ∙ x);
     }))
     (λ b. let k : byte_at s at ≡ 5 → ⊥ = eqb-false (byte_at s at) 5 b in
-    rw (parts_over (suc n) s at k)
+    rw (parts_miss (suc n) s at k)
     (record {
-      some = omega (arith, ended_some st.last st.parts l u g k a.passes.due);
+      some = omega (arith, ended_some st.last st.parts l u g k ok.due);
       each = λ j y. absurd (omega arith);
       lone = λ x. omega (arith, h x);
       unit = λ x y. absurd (omega arith);
     }))
 
 -- ---- the rule, with its parts
-
-last_snoc : (os : List ℕ) (o : ℕ) → get_or (os ++ (o ∷ [])) (length (os ++ (o ∷ [])) - 1) 0 ≡ o
-last_snoc os o =
-    let q : length (os ++ (o ∷ [])) - 1 ≡ length os = simp length-append (omega arith) in
-    rw q (get_or-append_seam os o [] 0)
 
 behind : (f : ℕ) (s : List ℕ) (at : ℕ) (st fin : Pst) (e : ℕ) → reads s f (at + size_of 4) (added 4 at st) ≡ loaded fin e
     → PartsFine (eqb (byte_at s (at + 6)) 2) s (at + 7) (parts_from 4 s (at + 7)) 0
@@ -421,22 +415,15 @@ closes last q (rule l u) = absurd (omega arith)
 closes last q (part l u) = absurd (omega arith)
 closes last q (finish l u) = l
 
-keeps : (f : ℕ) (s : List ℕ) (at : ℕ) (st fin : Pst) (e : ℕ) → reads s f at st ≡ loaded fin e → Kept s at st → Loads s fin e
-keeps zero s at st fin e h p = no_turns s at st fin CutShort (length s) e h
-keeps (suc f) s at st fin e h p =
-    let a = accepted s (refused CutShort (length s)) f at st fin e h in
-    split (eqb (byte_at s at) 6)
-    (λ b. let k : byte_at s at ≡ 6 = eqb-true (byte_at s at) 6 b in
-    let q = a.ended k in
-    rw (← q.0) (record { place = at; closing = k; ends = q.1; inside = omega (arith, q.1, a.passes.inside); closed = closes st.last k a.passes.due; kept = p }))
-    (λ b. let n : byte_at s at ≡ 6 → ⊥ = eqb-false (byte_at s at) 6 b in
-    keeps f s (at + size_of (byte_at s at)) (added (byte_at s at) at st) fin e (a.goes n)
-    (keep f s at st fin e p a.passes.due refl a.passes.whole a.passes.body n (a.goes n)))
-
 pub loads : (s : List ℕ) (st : Pst) (e : ℕ) → read_pack s ≡ loaded st e → Loads s st e
 unfolding read_pack
 loads s st e h =
-    keeps (length s + 1) s 0 start.st st e h
+    read_keeps pack_reader s st e (Kept s)
+    (λ f at x p v n g. let ok = sound s at x v in keep f s at x st e p ok.due refl ok.whole ok.body n g)
+    (λ at x p v k g. let ok = sound s at x v in
+    let q = same_loaded x st (at + 1) e g in
+    rw (← q.0) (record { place = at; closing = k; ends = q.1; inside = omega (arith, q.1, ok.inside); closed = closes x.last k ok.due; kept = p }))
+    h
     (record {
       near = record { first = λ q. refl; early = λ q. omega arith; near = omega arith };
       begun = λ q. absurd (omega arith);

@@ -1,15 +1,11 @@
 -- Whether a number is held, looked for from the front of the list of offsets. Assumes nothing.
 use Rattle.std.specs.Prelude.{Option, Some, None}
-use Rattle.std.proofs.Common.{Bool, cond, is_some, refl, ◌||◌, ◌∙◌, ℕ, zero, suc, ◌≤◌, ◌<◌, ◌≡◌, ◌⊎◌, inl, inr, ⊎_elim, true, false, List, [], ◌∷◌, arith, eqb-true, eqb, length, get_or, take, length-take-le, get_or-take}
+use Rattle.std.proofs.Common.{is_some, refl, ◌∙◌, ℕ, zero, suc, ◌≤◌, ◌<◌, ◌≡◌, ◌⊎◌, inl, inr, ⊎_elim, true, false, List, [], ◌∷◌, arith, eqb-true, eqb, length, get_or, take, length-take-le, get_or-take}
 use borrow.Author.Tests.{eqb-false}
 use Rattle.spec_arithmetic.specs.Places.{number_at, index_of}
 use Rattle.tonekit_bytes.proofs.Searched.{pick, searched}
 use Rattle.spec_pack.specs.Pack.{holds, zero_or_held}
-use Rattle.tonekit_core.proofs.Split.{absurd_bool, either, neither}
-
-or_cond : (b c : Bool) → (b || c) ≡ cond b true c
-or_cond true c = refl
-or_cond false c = refl
+use Rattle.tonekit_core.proofs.Split.{absurd_bool, either, neither, or_cond}
 
 found : (os : List ℕ) (f : Option ℕ) → pick (λ o. true) false os f ≡ is_some f
 found os (Some i) = refl

@@ -1,19 +1,21 @@
 -- What the reader's loop keeps: from here it gives what it gives of the whole, and its place is near enough for a u16. Assumes nothing.
-use Rattle.std.proofs.Common.{ℕ, ◌+◌, ◌-◌, ◌<◌, ◌≡◌, refl, List, arith, length, length-append, ltb, ne_eqb}
-use Rattle.tonekit_core.specs.Loop.{loop_again, loop_stop}
-use Rattle.tonekit_core.specs.declared.Refusal.TheVariants.{CutShort}
+use Rattle.std.proofs.Common.{ℕ, ◌+◌, ◌<◌, ◌≡◌, refl, List, arith, length, length-append, ltb}
+use Rattle.tonekit_core.proofs.LoopLaws.{loop_again}
 use Rattle.std.specs.Prelude.{Result, Ok, Err}
 use Rattle.spec_arithmetic.specs.Fields.{byte_at}
 use Rattle.tonekit_pack.specs.declared.Pack.{Pack}
-use Rattle.spec_pack.specs.Pack.{Pst, loaded, refused, size_of, added, record_verdict, record_turn, start, read_pack, load_pack, check_pack}
+use Rattle.spec_arithmetic.specs.Files.{Out, loaded, singly, said}
+use Rattle.tonekit_bytes.proofs.Files as files
+use Rattle.spec_pack.specs.Pack.{Pst, size_of, added, record_verdict, start, pack_reader, read_pack, load_pack, check_pack}
 use Rattle.tonekit_pack.specs.Held.{shown, answered}
 use Rattle.tonekit_core.proofs.Split.{split}
 use Rattle.tonekit_pack.specs.Going.{Near, Going}
-use Rattle.tonekit_pack.specs.Format.{alone, told}
+use Rattle.tonekit_pack.specs.Format.{alone, told, answer}
 use Rattle.tonekit_pack.specs.declared.Loaded.{Loaded}
 use Rattle.tonekit_core.specs.declared.Rejection.{Rejection}
 use Rattle.tonekit_bytes.proofs.InOrder.{order_length}
-use Rattle.tonekit_pack.proofs.Records.{Due, settings, tone, accent, rule, part, finish, Sound, sound, size_pos, tone_room, accent_room, rule_room, part_room}
+use Rattle.tonekit_pack.proofs.Turns.{steady}
+use Rattle.tonekit_pack.proofs.Records.{Due, settings, tone, accent, rule, part, finish, Sound, sound, tone_room, accent_room, rule_room, part_room}
 
 pub near_next : (at : ℕ) (st : Pst) {k : ℕ} → Due st.last k → (k ≡ 6 → ⊥) → Near at st → Near (at + size_of k) (added k at st)
 unfolding added size_of
@@ -33,7 +35,8 @@ module _ (s : List ℕ) (st : Pack) (at : ℕ) (g : Going s st at) where
     ok = sound s at (shown st) v
 
     pub ends : byte_at s at ≡ 6 → loaded (shown st) (at + 1) ≡ read_pack s
-    ends e = loop_stop (record_turn s) (refused CutShort (length s)) g.same (omega arith) (rw (v, e))
+    unfolding read_pack
+    ends e = files.ends pack_reader s at (shown st) g.onward v e
 
     pub room2 : byte_at s at ≡ 2 → st.tones.count < 8
     room2 e = omega (arith, tone_room s at (shown st) (rw e at ok.body), order_length st.tones.at st.tones.count)
@@ -50,30 +53,29 @@ module _ (s : List ℕ) (st : Pack) (at : ℕ) (g : Going s st at) where
     pub goes : (st' : Pack) → (byte_at s at ≡ 6 → ⊥) → shown st' ≡ added (byte_at s at) at (shown st) → Going s st' (at + size_of (byte_at s at))
     goes st' n e = record {
       near = rw e (near_next at (shown st) ok.due n g.near);
-      inside = ok.whole;
-      fuel = g.fuel - 1;
-      enough = omega (arith, size_pos (byte_at s at));
-      same = rw e (loop_again (record_turn s) (refused CutShort (length s)) g.same (omega arith) (rw (v, ne_eqb (byte_at s at) 6 n)));
+      onward = rw e (files.goes pack_reader s at (shown st) g.onward v steady n);
     }
 
 -- before the first record
 pub begins : (s : List ℕ) (p : Pack) → shown p ≡ start.st → Going s p 0
-unfolding read_pack
 begins s p e = record {
   near = rw e (record { first = λ q. refl; early = λ q. omega arith; near = omega arith });
-  inside = omega arith;
-  fuel = length s + 1;
-  enough = omega arith;
-  same = rw e refl;
+  onward = files.begins pack_reader refl s (shown p) e;
 }
 
--- an input that is one pack, and the check of it
+-- what is kept is of one file, and what is said of it: as is of what was read
+pub answer_alone : {F S : Type 0} (shown : F → S) (s : List ℕ) (r : Result (Loaded F) Rejection) (o : Out S) → answer shown r ≡ o → answer shown (alone (length s) r) ≡ singly s o
+answer_alone shown s (Ok l) o e = rw (← e) (split (ltb l.end (length s)) (λ b. rw b refl) (λ b. rw b refl))
+answer_alone shown s (Err x) o e = rw (← e) refl
+
+pub answer_told : {F S : Type 0} (shown : F → S) (r : Result (Loaded F) Rejection) (o : Out S) → answer shown r ≡ o → told r ≡ said o
+answer_told shown (Ok l) o e = rw (← e) refl
+answer_told shown (Err x) o e = rw (← e) refl
+
 pub alone_is : (s : List ℕ) (r : Result (Loaded Pack) Rejection) → answered r ≡ read_pack s → answered (alone (length s) r) ≡ load_pack s
 unfolding load_pack
-alone_is s (Ok l) e = rw (← e) (split (ltb l.end (length s)) (λ b. rw b refl) (λ b. rw b refl))
-alone_is s (Err x) e = rw (← e) refl
+alone_is s r e = answer_alone shown s r (read_pack s) e
 
 pub told_is : (s : List ℕ) (r : Result (Loaded Pack) Rejection) → answered r ≡ read_pack s → told (alone (length s) r) ≡ check_pack s
-unfolding check_pack load_pack
-told_is s (Ok l) e = rw (← e) (split (ltb l.end (length s)) (λ b. rw b refl) (λ b. rw b refl))
-told_is s (Err x) e = rw (← e) refl
+unfolding check_pack
+told_is s r e = answer_told shown (alone (length s) r) (load_pack s) (alone_is s r e)

@@ -1,10 +1,10 @@
 -- What a record that is fine shows: its kind was due, it is whole, and each test of its body passed. Assumes nothing.
 use Rattle.std.proofs.Common.{ℕ, ◌+◌, ◌≤◌, ◌<◌, ◌≡◌, refl, Bool, true, false, not, ◌&&◌, ◌||◌, List, arith, length, eqb, leb, ltb, eqb-true, leb-false, ltb-false}
-use Rattle.tonekit_core.specs.declared.Refusal.{Refusal}
-use Rattle.tonekit_core.specs.declared.Refusal.TheVariants.{Misplaced, CutShort, Crowded, OffScale, Doubled, Loose}
-use Rattle.std.specs.Prelude.{Result, Ok, Err}
+use Rattle.tonekit_core.specs.declared.Refusal.TheVariants.{Crowded, OffScale, Doubled, Loose}
+use Rattle.std.specs.Prelude.{Ok}
 use Rattle.spec_arithmetic.specs.Fields.{byte_at}
 use Rattle.spec_arithmetic.specs.Places.{number_at}
+use Rattle.tonekit_bytes.proofs.Files.{not_fine, fine}
 use Rattle.spec_pack.specs.Pack.{Pst, due_after, size_of, holds, zero_or_held, in_turn, tone_crowded, tone_fine, tone_verdict, accent_fine, accent_verdict, rule_fine, rule_held, rule_verdict, single, part_crowded, part_fine, part_verdict, body_verdict, record_verdict}
 use Rattle.tonekit_core.proofs.Split.{split, absurd_bool, either, neither}
 
@@ -47,9 +47,6 @@ size_pos k =
     split (eqb k 1) (λ a. rw a (omega arith)) (λ a. split (eqb k 2) (λ b. rw (a, b) (omega arith)) (λ b. split (eqb k 3) (λ d. rw (a, b, d) (omega arith))
     (λ d. split (eqb k 4) (λ e. rw (a, b, d, e) (omega arith)) (λ e. split (eqb k 5) (λ f. rw (a, b, d, e, f) (omega arith)) (λ f. rw (a, b, d, e, f) (omega arith))))))
 
-pub not_fine : {P : Type 0} (r : Refusal) → ◌≡◌ {A = Result Unit Refusal} (Err r) (Ok tt) → P
-not_fine r h = absurd (cc)
-
 -- each test in turn passed
 pub record Passed (crowded fine new held : Bool) : Type 0 where
   pub room : crowded ≡ false
@@ -74,11 +71,8 @@ module _ (s : List ℕ) (at : ℕ) (st : Pst) where
   pub sound : record_verdict s at st ≡ Ok tt → Sound
   unfolding record_verdict
   sound h =
-      split (leb (length s) at) (λ a. not_fine CutShort (rw a at h))
-      (λ a. split (due_after st.last (byte_at s at))
-      (λ d. split (ltb (length s) (at + size_of (byte_at s at))) (λ l. not_fine CutShort (rw (a, d, l) at h))
-      (λ l. record { inside = leb-false _ _ a; whole = ltb-false _ _ l; due = due_is st.last (byte_at s at) d; body = rw (a, d, l) at h }))
-      (λ d. not_fine Misplaced (rw (a, d) at h)))
+      let f = fine (due_after st.last) size_of (λ k. body_verdict k s at st) s at h in
+      record { inside = f.inside; whole = f.whole; due = due_is st.last (byte_at s at) f.in_turn; body = f.body }
 
   pub tone_passed : body_verdict 2 s at st ≡ Ok tt → Passed (tone_crowded s at st) (tone_fine s at) (not (holds s st.tones (number_at s at))) true
   unfolding body_verdict tone_verdict

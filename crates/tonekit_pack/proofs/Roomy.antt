@@ -1,6 +1,19 @@
 -- What a pack's type says of it, as one record. Assumes nothing.
+use Rattle.std.specs.Prelude.{ℕ, ◌≤◌, ◌≡◌, length, get_or}
 use Rattle.tonekit_pack.specs.declared.Pack.{Pack}
-use Rattle.tonekit_pack.specs.Held.{Roomy}
+
+-- the counts keep document 01's limits, the arrays have the length of theirs, and no accent has more rules before it than there can be
+pub record Roomy (p : Pack) : Type 0 where
+  pub few_tones : p.tones.count ≤ 8
+  pub few_accents : p.accents.count ≤ 8
+  pub few_rules : p.rules.count ≤ 64
+  pub few_parts : p.parts ≤ 4
+  pub few_in_all : p.total ≤ 128
+  pub tone_slots : length p.tones.at ≡ 8
+  pub accent_slots : length p.accents.at ≡ 8
+  pub first_slots : length p.firstrule ≡ 8
+  pub rule_slots : length p.rules.at ≡ 64
+  pub few_before : (i : ℕ) → get_or p.firstrule i 0 ≤ 64
 
 pub roomy : (p : Pack) → Roomy p
 roomy p = record {

@@ -4,8 +4,9 @@ ghost use Rattle.std.specs.Prelude.{◌≡◌, ℕ, ◌+◌, ◌≤◌, Bool, tr
 ghost use Rattle.tonekit_core.specs.declared.Refusal.{Refusal};
 ghost use Rattle.tonekit_core.specs.declared.Rejection.{Rejection};
 ghost use Rattle.spec_arithmetic.specs.Fields.{byte_at};
+ghost use Rattle.spec_arithmetic.specs.Files.{judged};
 ghost use Rattle.tonekit_pack.specs.declared.Loaded.{Loaded};
-ghost use Rattle.tonekit_pack.specs.Format.{judged, Alone, Checked};
+ghost use Rattle.tonekit_pack.specs.Format.{Alone, Checked};
 
 use crate::Loaded;
 use tonekit_core::{Refusal, Rejection};

@@ -51,7 +51,7 @@ fn slot_fine(s: &[u8], o: usize, n: u8, k: usize) -> bool
 }
 
 // Ten slots from o on, of which the first n are knots.
-#[tactic(auto, using(tonekit_core::specs::Loop::again, tonekit_core::specs::Loop::ended), unfolding(spec_pack::specs::Ranges::knots_fine))]
+#[tactic(auto, using(tonekit_core::proofs::LoopLaws::again, tonekit_core::proofs::LoopLaws::ended), unfolding(spec_pack::specs::Ranges::knots_fine))]
 pub fn knots_fine(s: &[u8], o: usize, n: u8) -> bool
     ensures { result ≡ knots_fine s.now o n }
 {

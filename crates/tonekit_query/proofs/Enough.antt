@@ -1,6 +1,5 @@
 -- 10,287 bytes are enough to read any query: the longest has 10,286, and one byte more is already too many. Assumes nothing.
-use Rattle.std.proofs.Common.{◌≡◌, refl, sym, ◌∙◌, ap, Bool, true, ◌&&◌, List, ℕ, zero, suc, ◌+◌, ◌-◌, ◌*◌, ◌≤◌, ◌<◌, arith, ne_eqb, eqb, leb, length, take}
-use borrow.Author.Tests.{lt-leb}
+use Rattle.std.proofs.Common.{◌≡◌, refl, ◌∙◌, ap, Bool, true, ◌&&◌, List, ℕ, zero, suc, ◌+◌, ◌-◌, ◌*◌, ◌≤◌, ◌<◌, arith, length, take}
 use Rattle.tonekit_core.specs.Loop.{Turn, next, turns_to, range_to}
 use Rattle.tonekit_core.specs.declared.Refusal.{Refusal}
 use Rattle.tonekit_core.specs.declared.Rejection.{Rejection}
@@ -12,11 +11,6 @@ use Rattle.spec_query.specs.declared.Query.{Query}
 use Rattle.spec_query.specs.Query.{variant_fine, variant_turn, variants_fine, record_verdict, frame_verdict, fields_of, after_frame, frame_turn, read_frames, after_record, read_query, single, load_query, end_of}
 use Rattle.tonekit_query.proofs.Laws.{read_holds, fixed}
 
--- nothing there: as equal to 0, and as at most 0
-no_bytes : (k : ℕ) → eqb k 0 ≡ leb k 0
-no_bytes zero = refl
-no_bytes (suc k) = ne_eqb (suc k) 0 (λ e. omega arith) ∙ sym (lt-leb (suc k) 0 (omega arith))
-
 -- two inputs whose first 10,287 bytes are the same
 module _ (n : ℕ) (t s : List ℕ) (a : Agree n t s) (room : 10287 ≤ n) where
   variant_same : (i : ℕ) → i < 4 → variant_fine t i ≡ variant_fine s i
@@ -27,13 +21,10 @@ module _ (n : ℕ) (t s : List ℕ) (a : Agree n t s) (room : 10287 ≤ n) where
   unfolding variants_fine
   variants_same = range_same (variant_turn t) (variant_turn s) 0 4 true (omega arith) (λ i y l. ap (λ (b : Bool). y && b) (variant_same i l))
 
-  none_same : eqb (length t) 0 ≡ eqb (length s) 0
-  none_same = no_bytes (length t) ∙ a.ends 0 (omega arith) ∙ sym (no_bytes (length s))
-
   record_same : record_verdict t ≡ record_verdict s
   unfolding record_verdict
   record_same =
-      rw (none_same, a.bytes 0 (omega arith), a.cuts 46 (omega arith), a.bytes 23 (omega arith), two n t s a 44 (omega arith), a.bytes 4 (omega arith), two n t s a 21 (omega arith), variants_same)
+      rw (a.ends 0 (omega arith), a.bytes 0 (omega arith), a.cuts 46 (omega arith), a.bytes 23 (omega arith), two n t s a 44 (omega arith), a.bytes 4 (omega arith), two n t s a 21 (omega arith), variants_same)
 
   frame_same : (at : ℕ) → at + 10 ≤ 10286 → frame_verdict t at ≡ frame_verdict s at
   unfolding frame_verdict

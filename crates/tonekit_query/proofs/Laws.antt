@@ -1,17 +1,15 @@
 -- What a query that was read holds, for those that use it. Assumes nothing.
-use Rattle.std.proofs.Common.{◌≡◌, refl, ◌∙◌, ap, subst, Bool, true, false, cond, not, ◌&&◌, ◌||◌, List, ℕ, zero, suc, ◌+◌, ◌-◌, ◌*◌, ◌≤◌, ◌<◌, arith, ltb-true, ltb-false, leb-true, eqb, leb, ltb, length, drop, length-drop, length-take-le}
+use Rattle.std.proofs.Common.{◌≡◌, refl, ◌∙◌, ap, subst, Bool, true, false, cond, ◌&&◌, ◌||◌, List, ℕ, zero, suc, ◌+◌, ◌-◌, ◌*◌, ◌≤◌, ◌<◌, arith, ltb-true, ltb-false, leb-true, eqb, leb, ltb, length, drop, length-drop, length-take-le}
 use Rattle.tonekit_core.proofs.Split.{neither, both}
 use Rattle.tonekit_core.specs.Loop.{Turn, next, stop, turns_to, range_to}
 use Rattle.tonekit_core.specs.declared.Refusal.{Refusal}
-use Rattle.tonekit_core.specs.declared.Refusal.TheVariants.{Misplaced, CutShort, Overrun, Crowded, BadQuery}
+use Rattle.tonekit_core.specs.declared.Refusal.TheVariants.{Overrun, Crowded, BadQuery}
 use Rattle.tonekit_core.specs.declared.Rejection.{Rejection}
 use Rattle.std.specs.Prelude.{Result, Ok, Err}
 use Rattle.spec_arithmetic.specs.Fields.{byte_at, u16_at}
+use Rattle.tonekit_bytes.proofs.Files.{not_fine, fine}
 use Rattle.spec_query.specs.declared.Query.{Query}
 use Rattle.spec_query.specs.Query.{variants_fine, record_verdict, frame_verdict, fields_of, after_frame, frame_turn, after_record, read_query, single, load_query, end_of, frames_of}
-
-differ : (r : Refusal) → ◌≡◌ {A = Result Unit Refusal} (Err r) (Ok tt) → ⊥
-differ r e = cc
 
 no_query : (e : Rejection) (q : Query) → Err e ≡ Ok q → ⊥
 no_query r q e = cc
@@ -24,54 +22,33 @@ pub record Fixed (s : List ℕ) : Type 0 where
   pub last : byte_at s 4 ≤ 1
   pub issues : u16_at s 21 < 1024
 
-tests : (empty kind short many fine : Bool)
-    → cond {A = Result Unit Refusal} empty (Err CutShort)
-    (cond kind (Err Misplaced)
-    (cond short (Err CutShort)
-    (cond many (Err Crowded)
-    (cond fine (Ok tt) (Err BadQuery))))) ≡ Ok tt
-    → (short ≡ false) × (many ≡ false) × (fine ≡ true)
-tests true kind short many fine e = absurd (differ CutShort e)
-tests false true short many fine e = absurd (differ Misplaced e)
-tests false false true many fine e = absurd (differ CutShort e)
-tests false false false true fine e = absurd (differ Crowded e)
-tests false false false false false e = absurd (differ BadQuery e)
-tests false false false false true e = (refl, refl, refl)
+-- the tests of its own
+passed : (many fine : Bool) → cond {A = Result Unit Refusal} many (Err Crowded) (cond fine (Ok tt) (Err BadQuery)) ≡ Ok tt → (many ≡ false) × (fine ≡ true)
+passed true fine e = not_fine Crowded e
+passed false false e = not_fine BadQuery e
+passed false true e = (refl, refl)
 
 pub fixed : (s : List ℕ) → record_verdict s ≡ Ok tt → Fixed s
 unfolding record_verdict
 fixed s e =
-    let t = tests
-    (eqb (length s) 0)
-    (not (eqb (byte_at s 0) 48))
-    (ltb (length s) 46)
-    (ltb 4 (byte_at s 23) || ltb 1024 (u16_at s 44))
-    (leb (byte_at s 4) 1 && (ltb (u16_at s 21) 1024 && variants_fine s)) e in
-    let m = neither (ltb 4 (byte_at s 23)) (ltb 1024 (u16_at s 44)) t.1 in
-    let f = both (leb (byte_at s 4) 1) (ltb (u16_at s 21) 1024 && variants_fine s) t.2 in
+    let own : ℕ → Result Unit Refusal = λ k. cond (ltb 4 (byte_at s 23) || ltb 1024 (u16_at s 44)) (Err Crowded)
+    (cond (leb (byte_at s 4) 1 && (ltb (u16_at s 21) 1024 && variants_fine s)) (Ok tt) (Err BadQuery)) in
+    let r = fine (λ k. eqb k 48) (λ k. 46) own s 0 e in
+    let t = passed (ltb 4 (byte_at s 23) || ltb 1024 (u16_at s 44)) (leb (byte_at s 4) 1 && (ltb (u16_at s 21) 1024 && variants_fine s)) r.body in
+    let m = neither (ltb 4 (byte_at s 23)) (ltb 1024 (u16_at s 44)) t.0 in
+    let f = both (leb (byte_at s 4) 1) (ltb (u16_at s 21) 1024 && variants_fine s) t.1 in
     let i = both (ltb (u16_at s 21) 1024) (variants_fine s) f.1 in
     record {
-      whole = ltb-false (length s) 46 t.0;
+      whole = r.whole;
       variants = ltb-false 4 (byte_at s 23) m.0;
       count = ltb-false 1024 (u16_at s 44) m.1;
       last = leb-true (byte_at s 4) 1 f.0;
       issues = ltb-true (u16_at s 21) 1024 i.0;
     }
 
-frame_tests : (missing kind short fine : Bool)
-    → cond {A = Result Unit Refusal} missing (Err CutShort)
-    (cond kind (Err Misplaced) (cond short (Err CutShort) (cond fine (Ok tt) (Err BadQuery)))) ≡ Ok tt
-    → short ≡ false
-frame_tests true kind short fine e = absurd (differ CutShort e)
-frame_tests false true short fine e = absurd (differ Misplaced e)
-frame_tests false false true fine e = absurd (differ CutShort e)
-frame_tests false false false fine e = refl
-
 frame_whole : (s : List ℕ) (at : ℕ) → frame_verdict s at ≡ Ok tt → at + 10 ≤ length s
 unfolding frame_verdict
-frame_whole s at e =
-    ltb-false (length s) (at + 10)
-    (frame_tests (leb (length s) at) (not (eqb (byte_at s at) 50)) (ltb (length s) (at + 10)) (leb (byte_at s (at + 1)) 1) e)
+frame_whole s at e = (fine (λ k. eqb k 50) (λ k. 10) (λ k. cond (leb (byte_at s (at + 1)) 1) (Ok tt) (Err BadQuery)) s at e).whole
 
 -- the frames that were read lie within the bytes
 module _ (s : List ℕ) (q : Query) where

@@ -7,10 +7,12 @@ use Rattle.tonekit_core.specs.declared.Refusal.{Refusal}
 use Rattle.tonekit_core.specs.declared.Refusal.TheVariants.{Misplaced, CutShort}
 use Rattle.std.specs.Prelude.{Ok}
 use Rattle.spec_arithmetic.specs.Fields.{byte_at}
-use Rattle.spec_pack.specs.Pack.{Pst, Out, loaded, refused, due_after, size_of, record_verdict, added, start, read_pack}
+use Rattle.spec_arithmetic.specs.Files.{Out, loaded, refused}
+use Rattle.spec_pack.specs.Pack.{Pst, due_after, size_of, record_verdict, added, start, pack_reader, read_pack}
 use Rattle.tonekit_core.proofs.Split.{split}
-use Rattle.tonekit_pack.proofs.Records.{sound, size_pos, not_fine}
-use Rattle.tonekit_pack.proofs.Turns.{by_verdict, run, run_refused, run_end, run_on, limit_idle, not_loaded, no_turns}
+use Rattle.tonekit_bytes.proofs.Files.{not_fine, by_verdict, run, run_refused, run_end, run_on, not_loaded, no_turns}
+use Rattle.tonekit_pack.proofs.Records.{sound, size_pos}
+use Rattle.tonekit_pack.proofs.Turns.{limit_idle}
 use Rattle.tonekit_records.specs.Records.{Tally, no_tally, kind, body_verdict_of, record_verdict_of, tallied, ReadsOn, none, more, records_bytes, added_all}
 use Rattle.tonekit_bytes.proofs.Stands.{stands_front}
 use Rattle.tonekit_records.proofs.OwnBytes.{byte_same}
@@ -36,16 +38,16 @@ pub drop_behind : (s : List ℕ) (at : ℕ) (r tail : List ℕ) → drop at s �
 drop_behind s at r tail e = sym (drop-drop (length r) at s) ∙ ap (drop (length r)) e ∙ drop-append_seam r tail
 
 -- ---- from records to the reader's answer
-module _ (s : List ℕ) (d : Out) (tail : List ℕ) where
+module _ (s : List ℕ) (d : Out Pst) (tail : List ℕ) where
   run_reads : {t u : Tally} {rs : List (List ℕ)} → ReadsOn t rs u → (f at : ℕ) (st : Pst) → TallyOf s st t
       → drop at s ≡ records_bytes rs ++ (6 ∷ tail) → at ≤ length s → length rs < f → due_after u.last 6 ≡ true
-      → run s d f at st ≡ loaded (added_all st at rs) (at + length (records_bytes rs) + 1)
+      → run pack_reader s d f at st ≡ loaded (added_all st at rs) (at + length (records_bytes rs) + 1)
   unfolding records_bytes added_all size_of
   run_reads {t} none f at st o e l h due =
       let g = stands_front s at (6 ∷ []) tail e l in
       let v = verdict_same s at st (6 ∷ []) t g refl o (omega arith) ∙ end_fine t due in
       let z : at + 0 + 1 ≡ at + 1 = omega arith in
-      rw z (run_end s d f at st (omega arith) v (byte_same s at (6 ∷ []) g at 0 (omega arith) (omega arith)))
+      rw z (run_end pack_reader s d f at st (omega arith) v (byte_same s at (6 ∷ []) g at 0 (omega arith) (omega arith)))
   run_reads {t} {u} (more {r = r} {rs = rs} w n fine x) f at st o e l h due =
       let behind = records_bytes rs ++ (6 ∷ tail) in
       let e1 : drop at s ≡ r ++ behind = e ∙ append_assoc r (records_bytes rs) (6 ∷ tail) in
@@ -54,11 +56,11 @@ module _ (s : List ℕ) (d : Out) (tail : List ℕ) where
       let v = verdict_same s at st r t g w o some ∙ fine in
       let k : byte_at s at ≡ kind r = byte_same s at r g at 0 (omega arith) some in
       let was-due : due_after st.last (kind r) ≡ true = ap (λ z. due_after z (kind r)) o.last ∙ fine_due r t fine in
-      let goes = run_on s d f at st (omega arith) v (λ z. n (sym k ∙ z)) in
+      let goes = run_on pack_reader s d f at st (omega arith) v (λ z. n (sym k ∙ z)) in
       let q : at + size_of (byte_at s at) ≡ at + length r = ap (λ z. at + z) (ap size_of k ∙ sym w) in
       let ih = run_reads x (f - 1) (at + length r) (added (kind r) at st) (tally_next s at st r t g w o was-due n) (drop_behind s at r behind e1) g.fits (omega arith) due in
       let z : at + length r + length (records_bytes rs) + 1 ≡ at + length (r ++ records_bytes rs) + 1 = omega (arith, length-append r (records_bytes rs)) in
-      goes ∙ ap₂ (λ a b. run s d (f - 1) a (added b at st)) q k ∙ ih ∙ ap (loaded (added_all (added (kind r) at st) (at + length r) rs)) z
+      goes ∙ ap₂ (λ a b. run pack_reader s d (f - 1) a (added b at st)) q k ∙ ih ∙ ap (loaded (added_all (added (kind r) at st) (at + length r) rs)) z
 
 -- records that read, with End behind them, are a pack
 pub reads_load : {u : Tally} {rs : List (List ℕ)} (tail : List ℕ) → ReadsOn no_tally rs u → due_after u.last 6 ≡ true
@@ -125,8 +127,8 @@ onward s at st t fin e r w n fine c x =
 
 -- f turns from an offset on that end with a pack
 load_from : (f : ℕ) (s : List ℕ) (r : Refusal) (place at : ℕ) (st : Pst) (t : Tally) (fin : Pst) (e : ℕ) → TallyOf s st t → at ≤ length s
-    → run s (refused r place) f at st ≡ loaded fin e → AsRecords s at st t fin e
-load_from zero s r place at st t fin e o l h = no_turns s at st fin r place e h
+    → run pack_reader s (refused r place) f at st ≡ loaded fin e → AsRecords s at st t fin e
+load_from zero s r place at st t fin e o l h = no_turns pack_reader s at st fin r place e h
 load_from (suc f) s r place at st t fin e o l h =
     by_verdict (record_verdict s at st)
     (λ v. let ok = sound s at st v in
@@ -141,17 +143,17 @@ load_from (suc f) s r place at st t fin e o l h =
     let d = fine_due rec t fine in
     split (eqb (byte_at s at) 6)
     (λ b. let is : byte_at s at ≡ 6 = eqb-true (byte_at s at) 6 b in
-    ended s at st t fin e ok.inside is (ap (due_after t.last) (sym (k ∙ is)) ∙ d) (sym (run_end s (refused r place) (suc f) at st (omega arith) v is) ∙ h))
+    ended s at st t fin e ok.inside is (ap (due_after t.last) (sym (k ∙ is)) ∙ d) (sym (run_end pack_reader s (refused r place) (suc f) at st (omega arith) v is) ∙ h))
     (λ b. let is : byte_at s at ≡ 6 → ⊥ = eqb-false (byte_at s at) 6 b in
     let no : kind rec ≡ 6 → ⊥ = λ z. is (sym k ∙ z) in
     let was-due : due_after st.last (kind rec) ≡ true = ap (λ z. due_after z (kind rec)) o.last ∙ d in
     let p : suc f - 1 ≡ f = omega arith in
     let q : at + size_of (byte_at s at) ≡ at + length rec = ap (λ z. at + z) (sym n) in
-    let goes : run s (refused r place) f (at + length rec) (added (kind rec) at st) ≡ loaded fin e =
-    sym (ap₂ (λ a b. run s (refused r place) f a (added b at st)) q (sym k)) ∙ (ap (λ m. run s (refused r place) m (at + size_of (byte_at s at)) (added (byte_at s at) at st)) (sym p) ∙ (sym (run_on s (refused r place) (suc f) at st (omega arith) v is) ∙ h)) in
+    let goes : run pack_reader s (refused r place) f (at + length rec) (added (kind rec) at st) ≡ loaded fin e =
+    sym (ap₂ (λ a b. run pack_reader s (refused r place) f a (added b at st)) q (sym k)) ∙ (ap (λ m. run pack_reader s (refused r place) m (at + size_of (byte_at s at)) (added (byte_at s at) at st)) (sym p) ∙ (sym (run_on pack_reader s (refused r place) (suc f) at st (omega arith) v is) ∙ h)) in
     onward s at st t fin e rec w no fine (c ∙ ap (λ a. rec ++ drop a s) q)
     (load_from f s r place (at + length rec) (added (kind rec) at st) (tallied rec t) fin e (tally_next s at st rec t g w o was-due no) g.fits goes)))
-    (λ q v. not_loaded q at e fin (sym (run_refused s (refused r place) (suc f) at st (omega arith) q v) ∙ h))
+    (λ q v. not_loaded q at e fin (sym (run_refused pack_reader s (refused r place) (suc f) at st (omega arith) q v) ∙ h))
 
 pub load_reads : (s : List ℕ) (st : Pst) (e : ℕ) → read_pack s ≡ loaded st e → AsRecords s 0 start.st no_tally st e
 unfolding read_pack

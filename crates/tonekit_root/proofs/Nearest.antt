@@ -63,3 +63,8 @@ unique_near n p q a b = le_antisymm (below p q (apart n q p b a)) (below q p (ap
   where
     below : (p q : ℕ) → (q < p → ⊥) → p ≤ q
     below p q h = le_of_suc-le-suc (lt_of_not-le h)
+
+-- R is nearer than Y to the root of X, all in units of 2 ^ -1074: their middle (Y + R) / 2 lies below the root if Y is less, and above it if Y is greater
+pub record Nearest (X R Y : ℕ) : Type 0 where
+  pub lower : Y < R → (Y + R) * (Y + R) < 4 * (X * 2 ^ 1074)
+  pub upper : R < Y → 4 * (X * 2 ^ 1074) < (Y + R) * (Y + R)

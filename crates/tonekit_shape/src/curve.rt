@@ -7,7 +7,7 @@ ghost use Rattle.spec_shape.specs.Extract.{semitones, gap_filled, holes_filled, 
 use tonekit_fit::Frames;
 
 // Each frame's semitones, 0 where it is unvoiced: one logarithm a voiced frame.
-#[tactic(auto, using(tonekit_core::specs::Loop::again, tonekit_core::specs::Loop::ended), unfolding(spec_shape::specs::Extract::semitones))]
+#[tactic(auto, using(tonekit_core::proofs::LoopLaws::again, tonekit_core::proofs::LoopLaws::ended), unfolding(spec_shape::specs::Extract::semitones))]
 pub fn semitones(curve: &mut [f64], frames: Frames<'_>)
     ensures { curve.new ≡ semitones frames.entry.bytes.now frames.entry.first curve.old }
 {
@@ -30,7 +30,7 @@ fn fill_gap(curve: &mut [f64], prev: usize, j: usize)
 }
 
 // The unvoiced frames, filled by linear interpolation in semitones.
-#[tactic(auto, using(tonekit_core::specs::Loop::again, tonekit_core::specs::Loop::ended))]
+#[tactic(auto, using(tonekit_core::proofs::LoopLaws::again, tonekit_core::proofs::LoopLaws::ended))]
 pub fn fill_holes(curve: &mut [f64], frames: Frames<'_>)
     ensures { curve.new ≡ holes_filled frames.entry.bytes.now frames.entry.first curve.old }
 {
@@ -44,7 +44,7 @@ pub fn fill_holes(curve: &mut [f64], frames: Frames<'_>)
 }
 
 // Chao values in the register from floor to ceil.
-#[tactic(auto, using(tonekit_core::specs::Loop::again, tonekit_core::specs::Loop::ended), unfolding(spec_shape::specs::Extract::chao_curve))]
+#[tactic(auto, using(tonekit_core::proofs::LoopLaws::again, tonekit_core::proofs::LoopLaws::ended), unfolding(spec_shape::specs::Extract::chao_curve))]
 pub fn chao(curve: &mut [f64], floor: f32, ceil: f32)
     ensures { curve.new ≡ chao_curve floor (width_of floor ceil) curve.old }
 {

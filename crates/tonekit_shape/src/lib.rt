@@ -46,7 +46,7 @@ fn extended(frames: &[u8], i: usize, e: Extent) -> Extent
 }
 
 // The voiced frames of a query's span, clamped to the frames that are there; any span will do.
-#[tactic(auto, using(tonekit_core::specs::Loop::again, tonekit_core::specs::Loop::ended, crate::proofs::Found::found_none, crate::proofs::Found::found_more), unfolding(spec_shape::specs::Extract::extent_of))]
+#[tactic(auto, using(tonekit_core::proofs::LoopLaws::again, tonekit_core::proofs::LoopLaws::ended, crate::proofs::Found::found_none, crate::proofs::Found::found_more), unfolding(spec_shape::specs::Extract::extent_of))]
 pub fn voiced_frames(frames: &[u8], q: Query) -> Extent
     ensures { Extended frames.now q.count q.start q.end result }
 {
@@ -90,7 +90,7 @@ fn weights_of(frames: Frames<'_>, n: usize) -> [f32; 10]
 }
 
 // The mean of a contour.
-#[tactic(auto, using(tonekit_core::specs::Loop::again, tonekit_core::specs::Loop::ended), unfolding(spec_shape::specs::Extract::mean_of))]
+#[tactic(auto, using(tonekit_core::proofs::LoopLaws::again, tonekit_core::proofs::LoopLaws::ended), unfolding(spec_shape::specs::Extract::mean_of))]
 fn mean_of(contour: &[f32; 10]) -> f32
     ensures { result ≡ mean_of contour.now }
 {
@@ -114,7 +114,7 @@ fn confidence_added(frames: &[u8], i: usize, sum: f32) -> f32
 }
 
 // The mean voiced_p of the voiced frames.
-#[tactic(auto, using(tonekit_core::specs::Loop::again, tonekit_core::specs::Loop::ended), unfolding(spec_shape::specs::Extract::confidence))]
+#[tactic(auto, using(tonekit_core::proofs::LoopLaws::again, tonekit_core::proofs::LoopLaws::ended), unfolding(spec_shape::specs::Extract::confidence))]
 fn confidence_of(frames: &[u8], e: Extent) -> f32
     requires { (e.first ≤ e.last) × (e.last < 1024) × (e.count ≤ 1024) }
     ensures { result ≡ confidence frames.now e }

@@ -4,3 +4,5 @@ pub mod Turns
 pub mod RowPlaces
 pub mod Every
 pub mod ByKind
+pub mod Components
+pub mod Gather

@@ -7,13 +7,13 @@ use native.Mathlib.Omega.{arith}
 use lib.ListN.{length}
 use lib.Dec.{eqb, leb, ltb}
 use borrow.Author.Tests.{eqb-true, eqb-false, leb-false, ltb-true, ltb-false, not-true}
-use Rattle.tonekit_core.specs.declared.Refusal.TheVariants.{Misplaced, CutShort}
 use Rattle.std.specs.Prelude.{Ok}
 use Rattle.spec_arithmetic.specs.Fields.{byte_at}
 use Rattle.spec_arithmetic.specs.Places.{number_at}
 use Rattle.spec_pack.specs.Pack.{holds}
-use Rattle.tonekit_core.proofs.Split.{split, either, neither, both}
-use Rattle.tonekit_pack.proofs.Records.{not_fine, Passed, passed}
+use Rattle.tonekit_core.proofs.Split.{split, either, neither, both, not_zero}
+use Rattle.tonekit_pack.proofs.Records.{Passed, passed}
+use Rattle.tonekit_bytes.proofs.Files.{fine}
 use Rattle.spec_sheet.specs.Reader.{Sst, rows_due, complete, due_next, size_of, tone_fine, tone_verdict, accent_fine, accent_verdict, list_crowded, list_fine, list_verdict, component_fine, component_verdict, body_verdict, record_verdict}
 
 -- a list or the end is due: after the last row, or after the last component of a list
@@ -80,9 +80,6 @@ size_pos k =
     (λ d. split (eqb k 20) (λ e. rw (a, b, d, e) (omega arith)) (λ e. split (eqb k 21) (λ f. rw (a, b, d, e, f) (omega arith))
     (λ f. split (eqb k 22) (λ g. rw (a, b, d, e, f, g) (omega arith)) (λ g. rw (a, b, d, e, f, g) (omega arith)))))))
 
-not_zero : (n : ℕ) → not (eqb n 0) ≡ true → 1 ≤ n
-not_zero n h = omega (arith, eqb-false n 0 (not-true (eqb n 0) h))
-
 module _ (s : List ℕ) (at : ℕ) (st : Sst) where
   pub record Sound : Type 0 where
     pub inside : at < length s
@@ -93,11 +90,8 @@ module _ (s : List ℕ) (at : ℕ) (st : Sst) where
   pub sound : record_verdict s at st ≡ Ok tt → Sound
   unfolding record_verdict
   sound h =
-      split (leb (length s) at) (λ a. not_fine CutShort (rw a at h))
-      (λ a. split (due_next st (byte_at s at))
-      (λ d. split (ltb (length s) (at + size_of (byte_at s at))) (λ l. not_fine CutShort (rw (a, d, l) at h))
-      (λ l. record { inside = leb-false _ _ a; whole = ltb-false _ _ l; due = due_is st (byte_at s at) d; body = rw (a, d, l) at h }))
-      (λ d. not_fine Misplaced (rw (a, d) at h)))
+      let f = fine (due_next st) size_of (λ k. body_verdict k s at st) s at h in
+      record { inside = f.inside; whole = f.whole; due = due_is st (byte_at s at) f.in_turn; body = f.body }
 
   pub tone_passed : body_verdict 18 s at st ≡ Ok tt → Passed (leb 8 (length st.tones)) (tone_fine s at) (not (holds s st.tones (number_at s at))) true
   unfolding body_verdict tone_verdict

@@ -1,5 +1,6 @@
 -- Bits of an f32 and back: a weight that is fine keeps its bits, and a point within its range has bits that are those of a point.
 use Rattle.std.proofs.Common.{ℕ, zero, suc, ◌+◌, ◌-◌, ◌*◌, ◌<◌, ◌≡◌, refl, sym, ◌∙◌, ap, subst, Bool, true, false, not, ◌&&◌, List, [], ◌∷◌, ◌++◌, map, mod-eq_of_lt, arith, T, eqb, ltb, pos, length, get_or, length-append, Float, to_bits, ltb-true, le-ltb}
+use Rattle.std.proofs.lemmas.List.{get_or-map}
 use lib.ListN.{length-map}
 use lib.Ieee.{nan, fin, binary32, le, fits, of_bits}
 use lib.Ieee.Bits.{is_true, of_bits-to_bits, to_bits-lt, of_bits-fits, to_bits-of_bits, nan_bits_is, nan_bits_above}
@@ -12,6 +13,7 @@ use Rattle.spec_lookup.specs.declared.Listing.{Listing}
 use Rattle.spec_lookup.specs.Knots.{Point, knots_at, on_line, segment, fraction, point_at, first_points}
 use Rattle.spec_lookup.specs.Lookup.{component_of}
 use Rattle.spec_lookup.specs.Source.{carried}
+use Rattle.tonekit_expect.proofs.Carried.{component_ten}
 use Rattle.spec_sheet.specs.Reader.{point_fine}
 use Rattle.tonekit_sheet.specs.Fit.{Bits, f32}
 
@@ -63,17 +65,7 @@ unfolding first_points
 points_held knots h zero k = nan-fits binary32
 points_held knots h (suc n) k = held_snoc (first_points knots n) (point_at knots n) (points_held knots h n) (point_held knots h n) k
 
-ten_points : (knots : List Float) (n : ℕ) → length (first_points knots n) ≡ n
-unfolding first_points
-ten_points knots zero = refl
-ten_points knots (suc n) = let e = ten_points knots n in length-append (first_points knots n) (point_at knots n ∷ []) ∙ omega arith
-
 -- ---- the points of a component, as they are carried
-pub map_at : {A B : Type 0} (f : A → B) (xs : List A) (k : ℕ) (d : A) (e : B) → k < length xs → get_or (map f xs) k e ≡ f (get_or xs k d)
-map_at f [] k d e h = absurd (omega arith)
-map_at f (x ∷ xs) zero d e h = refl
-map_at f (x ∷ xs) (suc k) d e h = map_at f xs k d e (omega arith)
-
 module _ (s : List ℕ) (l : Listing) (j : ℕ) where
   component_held : AllHeld (component_of s l j).points
   unfolding component_of
@@ -82,20 +74,9 @@ module _ (s : List ℕ) (l : Listing) (j : ℕ) where
       (λ t. rw t (points_held (knots_at s (l.at + 7) (byte_at s (l.at + 6))) (knots_held s (l.at + 7) (byte_at s (l.at + 6))) 10 k))
       (λ t. rw t (points_held (knots_at s (l.at + 46 * j + 6) (byte_at s (l.at + 46 * j + 5))) (knots_held s (l.at + 46 * j + 6) (byte_at s (l.at + 46 * j + 5))) 10 k))
 
-  component_ten : length (component_of s l j).points ≡ 10
-  unfolding component_of
-  component_ten =
-      split (eqb l.name.form 1)
-      (λ t. rw t (ten_points (knots_at s (l.at + 7) (byte_at s (l.at + 6))) 10))
-      (λ t. rw t (ten_points (knots_at s (l.at + 46 * j + 6) (byte_at s (l.at + 46 * j + 5))) 10))
-
-  pub carried_ten : length (carried (component_of s l j)).points ≡ 10
-  unfolding carried
-  carried_ten = length-map (component_of s l j).points (to_bits binary32) ∙ component_ten
-
   carried_point : (k : ℕ) → k < 10 → get_or (carried (component_of s l j)).points k 0 ≡ to_bits binary32 (get_or (component_of s l j).points k nan)
   unfolding carried
-  carried_point k h = map_at (to_bits binary32) (component_of s l j).points k nan 0 (omega (arith, component_ten))
+  carried_point k h = get_or-map (to_bits binary32) (component_of s l j).points k nan 0 (omega (arith, component_ten s l j))
 
   pub carried_bits : (k : ℕ) → k < 10 → Bits (get_or (carried (component_of s l j)).points k 0)
   carried_bits k h = rw (carried_point k h) (to_bits-lt binary32 (get_or (component_of s l j).points k nan) (component_held k))

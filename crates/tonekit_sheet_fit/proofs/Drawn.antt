@@ -11,6 +11,7 @@ use Rattle.spec_lookup.specs.declared.Context.{Context}
 use Rattle.spec_lookup.specs.declared.Listing.{Listing}
 use Rattle.spec_lookup.specs.Lookup.{Found, Walked, won, from_rule, to_rule, find_rule, rule_listing, citation, listed, look_at, look_up}
 use Rattle.spec_lookup.specs.Source.{Carried, components}
+use Rattle.tonekit_expect.proofs.Curves.{rules_in}
 use Rattle.tonekit_expect.proofs.Walk.{index_found, winner_of}
 
 -- ---- the rule that a walk ends with is one of the accent's that it names
@@ -48,12 +49,6 @@ pub data Drawn (s : List ℕ) (st : Pst) (m : Listing) : Type 0 where
   cited : (i t : ℕ) → i < length st.accents → t < length st.tones → (byte_at s (get_or st.tones t 0 + 6) ≡ 0 → ⊥) → citation_of s st i t ≡ m → Drawn s st m
 
 module _ (s : List ℕ) (st : Pst) (e : ℕ) (l : Loads s st e) where
-  rules_in : (a : ℕ) → to_rule st a ≤ length st.rules
-  rules_in a =
-      split (ltb (a + 1) (length st.accents))
-      (λ t. rw t (firsts_bound s st e l (a + 1) (ltb-true (a + 1) (length st.accents) t)))
-      (λ t. rw t (omega arith))
-
   -- an accent behind it has more rules before it
   later : (a m k : ℕ) → a < m → m < length st.accents → k < to_rule st a → k < from_rule st m
   later a m k h b t =
@@ -81,7 +76,7 @@ module _ (s : List ℕ) (st : Pst) (e : ℕ) (l : Loads s st e) where
         let k = b.1.place in
         let x : accent_of st (length st.accents) k ≡ a = accent_is (length st.accents) a k b.0 (omega arith) b.1.from b.1.to in
         let is : rule_listing s (number_at s (get_or st.accents a 0)) r ≡ m = cc in
-        ruled k (omega (arith, b.1.to, rules_in a)) (rw x b.0) (rw (x, b.1.at) is)
+        ruled k (omega (arith, b.1.to, rules_in s st e l a)) (rw x b.0) (rw (x, b.1.at) is)
     of_winner i t hi n ht None q g =
         let o = get_or st.tones t 0 in
         split (eqb (byte_at s (o + 6)) 0)

@@ -2,7 +2,8 @@
 use Rattle.std.proofs.Common.{ℕ, ◌+◌, ◌*◌, ◌/◌, ◌%◌, ◌≤◌, ◌≡◌, refl, ap, subst, inl, inr, List, [], ◌∷◌, arith, length}
 use mathlib.Core.Option.{some}
 use lib.ListN.{length-map}
-use Rattle.spec_pack.specs.Pack.{Pst, loaded, read_pack}
+use Rattle.spec_arithmetic.specs.Files.{loaded}
+use Rattle.spec_pack.specs.Pack.{Pst, read_pack}
 use Rattle.tonekit_pack.proofs.Loads.{Loads, loads, some_tones, some_accents}
 use Rattle.std.specs.Prelude.{Some, None}
 use Rattle.spec_lookup.specs.declared.Context.{Context}

@@ -1,5 +1,6 @@
 -- Settings, tones and accents of a pack that loads keep their ranges.
 use Rattle.std.proofs.Common.{ℕ, zero, suc, ◌+◌, ◌<◌, ◌≡◌, refl, sym, ◌∙◌, ap, true, List, [], ◌∷◌, map, arith, eqb, ltb, length, get_or, eq-eqb, ltb-true, ltb-false}
+use Rattle.std.proofs.lemmas.List.{get_or-map}
 use mathlib.Core.Option.{some}
 use lib.ListN.{length-map}
 use Rattle.spec_arithmetic.specs.Fields.{f32_at}
@@ -13,7 +14,6 @@ use Rattle.spec_lookup.specs.Source.{Tone, Accent, settings_at, tone_at, accent_
 use Rattle.spec_sheet.specs.Agree.{Bytes}
 use Rattle.spec_sheet.specs.Sheet.{no_tone, no_accent}
 use Rattle.tonekit_sheet.specs.Fit.{SettingsFit, region_fits, ToneFit, AccentFit}
-use Rattle.tonekit_sheet_fit.proofs.Bits.{map_at}
 
 module _ (s : List ℕ) (b : Bytes s) where
   region_fits_lem : (o : ℕ) → region_fine s (o + 47) ≡ true → region_fits (tone_at s o) ≡ true
@@ -65,12 +65,12 @@ module _ (s : List ℕ) (b : Bytes s) where
     pub tones_fit : (i : ℕ) → i < length (map (tone_at s) st.tones) → ToneFit (get_or (map (tone_at s) st.tones) i no_tone)
     tones_fit i h =
         let g : i < length st.tones = omega (arith, length-map st.tones (tone_at s)) in
-        rw (map_at (tone_at s) st.tones i 0 no_tone g) (tone_fits _ (get_or st.tones i 0) (l.kept.tones i g))
+        rw (get_or-map (tone_at s) st.tones i 0 no_tone g) (tone_fits _ (get_or st.tones i 0) (l.kept.tones i g))
 
     pub accents_fit : (i : ℕ) → i < length (map (accent_at s) st.accents) → AccentFit (get_or (map (accent_at s) st.accents) i no_accent)
     accents_fit i h =
         let g : i < length st.accents = omega (arith, length-map st.accents (accent_at s)) in
-        rw (map_at (accent_at s) st.accents i 0 no_accent g) (accent_fits _ (get_or st.accents i 0) (l.kept.accents i g))
+        rw (get_or-map (accent_at s) st.accents i 0 no_accent g) (accent_fits _ (get_or st.accents i 0) (l.kept.accents i g))
 
 -- no two places of which the higher repeats the lower
 apart : (n : ℕ) (f : ℕ → ℕ) → ((i j : ℕ) → i < j → j < n → f i ≡ f j → ⊥) → (i j : ℕ) → i < n → j < n → f i ≡ f j → i ≡ j
@@ -87,7 +87,7 @@ module _ (s : List ℕ) (st : Pst) (e : ℕ) (l : Loads s st e) where
       let g : i < length st.tones = omega arith in
       let m : j < length st.tones = omega arith in
       apart (length st.tones) (λ i. number_at s (get_or st.tones i 0)) (tones_once s st e l) i j g m
-      (sym (ap (λ (t : Tone). t.number) (map_at (tone_at s) st.tones i 0 no_tone g)) ∙ q ∙ ap (λ (t : Tone). t.number) (map_at (tone_at s) st.tones j 0 no_tone m))
+      (sym (ap (λ (t : Tone). t.number) (get_or-map (tone_at s) st.tones i 0 no_tone g)) ∙ q ∙ ap (λ (t : Tone). t.number) (get_or-map (tone_at s) st.tones j 0 no_tone m))
 
   pub accents_apart : (i j : ℕ) → i < length (map (accent_at s) st.accents) → j < length (map (accent_at s) st.accents)
       → (get_or (map (accent_at s) st.accents) i no_accent).number ≡ (get_or (map (accent_at s) st.accents) j no_accent).number → i ≡ j
@@ -96,7 +96,7 @@ module _ (s : List ℕ) (st : Pst) (e : ℕ) (l : Loads s st e) where
       let g : i < length st.accents = omega arith in
       let m : j < length st.accents = omega arith in
       apart (length st.accents) (λ i. number_at s (get_or st.accents i 0)) (accents_once s st e l) i j g m
-      (sym (ap (λ (a : Accent). a.number) (map_at (accent_at s) st.accents i 0 no_accent g)) ∙ q ∙ ap (λ (a : Accent). a.number) (map_at (accent_at s) st.accents j 0 no_accent m))
+      (sym (ap (λ (a : Accent). a.number) (get_or-map (accent_at s) st.accents i 0 no_accent g)) ∙ q ∙ ap (λ (a : Accent). a.number) (get_or-map (accent_at s) st.accents j 0 no_accent m))
 
 -- an accent's number is held
 pub accent_there : (s os : List ℕ) (i : ℕ) → i < length os → (a : Accent) × (accent_in (map (accent_at s) os) (number_at s (get_or os i 0)) ≡ some a)

@@ -5,7 +5,8 @@ use Rattle.spec_arithmetic.specs.Fields.{u32_at}
 use Rattle.tonekit_bytes.proofs.Fields.{u16_below}
 use Rattle.spec_arithmetic.specs.Places.{number_at}
 use Rattle.spec_pack.specs.Ranges.{weight_fine}
-use Rattle.spec_pack.specs.Pack.{Pst, loaded, read_pack}
+use Rattle.spec_arithmetic.specs.Files.{loaded}
+use Rattle.spec_pack.specs.Pack.{Pst, read_pack}
 use Rattle.tonekit_pack.proofs.Loads.{RuleFine, Loads, loads}
 use Rattle.std.specs.Prelude.{Some, None}
 use Rattle.spec_lookup.specs.declared.Context.{Context}
@@ -13,11 +14,11 @@ use Rattle.spec_lookup.specs.declared.Listing.{Listing}
 use Rattle.spec_lookup.specs.Lookup.{Look, rule_listing, citation, look_up, component_of}
 use Rattle.spec_lookup.specs.Source.{Accent, Carried, carried, given, accent_at, accent_in, source_of_pack}
 use Rattle.tonekit_expect.proofs.Curves.{points_fine_lem}
-use Rattle.tonekit_expect.proofs.Carried.{named, part_number, citation_weight, components_length, components_at}
+use Rattle.tonekit_expect.proofs.Carried.{named, part_number, citation_weight, components_length, components_at, carried_ten}
 use Rattle.spec_sheet.specs.Agree.{Bytes}
 use Rattle.spec_sheet.specs.Sheet.{no_carried}
 use Rattle.tonekit_sheet.specs.Fit.{CarriedFit, ListFit}
-use Rattle.tonekit_sheet_fit.proofs.Bits.{weight_again, carried_ten, carried_bits, carried_fine}
+use Rattle.tonekit_sheet_fit.proofs.Bits.{weight_again, carried_bits, carried_fine}
 use Rattle.tonekit_sheet_fit.proofs.Drawn.{Drawn, ruled, cited, accent_of, list_of, drawn}
 use Rattle.tonekit_sheet_fit.proofs.Held.{accent_there}
 

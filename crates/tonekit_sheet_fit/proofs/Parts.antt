@@ -1,17 +1,16 @@
 -- "128 parts in all": the parts behind the rules of a pack that loads are those that the reader counted. Assumes nothing.
-use Rattle.std.proofs.Common.{ℕ, zero, suc, ◌+◌, ◌-◌, ◌≤◌, ◌<◌, ◌≡◌, refl, ◌∙◌, List, [], ◌∷◌, ◌++◌, arith, eqb, ltb, length, get_or, length-append, eqb-true, ltb-true, ltb-false}
+use Rattle.std.proofs.Common.{ℕ, suc, ◌+◌, ◌-◌, ◌≤◌, ◌<◌, ◌≡◌, refl, ◌∙◌, List, [], ◌∷◌, ◌++◌, arith, ltb, length, get_or, length-append, ltb-true, ltb-false}
 use lib.ListN.{get_or-append}
 use lib.Seq.{get_or-append_seam}
-use borrow.Author.Tests.{eqb-false}
-use Rattle.tonekit_core.specs.declared.Refusal.TheVariants.{CutShort}
 use Rattle.std.specs.Prelude.{Ok}
 use Rattle.spec_arithmetic.specs.Fields.{byte_at}
-use Rattle.spec_pack.specs.Pack.{Pst, loaded, refused, size_of, body_verdict, added, parts_from, start, read_pack}
+use Rattle.spec_arithmetic.specs.Files.{loaded}
+use Rattle.spec_pack.specs.Pack.{Pst, size_of, body_verdict, added, parts_from, pack_reader, read_pack}
 use Rattle.tonekit_core.proofs.Split.{split}
-use Rattle.tonekit_pack.proofs.Records.{Due, settings, tone, accent, rule, part, finish, part_room}
-use Rattle.tonekit_pack.proofs.Turns.{run, accepted, no_turns}
-use Rattle.tonekit_pack.proofs.Loads.{loads}
-use Rattle.tonekit_expect.proofs.Parts.{parts_hit, parts_miss}
+use Rattle.tonekit_pack.proofs.Records.{Due, settings, tone, accent, rule, part, finish, part_room, sound}
+use Rattle.tonekit_pack.proofs.Loads.{loads, parts_miss}
+use Rattle.tonekit_expect.proofs.Parts.{parts_hit}
+use Rattle.tonekit_bytes.proofs.Files.{read_keeps, same_loaded}
 use Rattle.tonekit_sheet_fit.proofs.Budget.{sum_to, sum_same}
 
 -- the parts of rule k, and of all rules
@@ -55,19 +54,13 @@ count s at st (part l u) k b n c =
     record { open_rule = λ q. omega (arith, c.open_rule l, rw e at h); closed = λ q. absurd (omega arith) }
 count s at st (finish l u) k b n c = absurd (n refl)
 
-counts : (f : ℕ) (s : List ℕ) (at : ℕ) (st fin : Pst) (e : ℕ) → run s (refused CutShort (length s)) f at st ≡ loaded fin e → Counted s at st → parts_in s fin.rules ≡ fin.total
-counts zero s at st fin e h c = no_turns s at st fin CutShort (length s) e h
-counts (suc f) s at st fin e h c =
-    let a = accepted s (refused CutShort (length s)) f at st fin e h in
-    split (eqb (byte_at s at) 6)
-    (λ b. let k : byte_at s at ≡ 6 = eqb-true (byte_at s at) 6 b in
-    rw (← (a.ended k).0) (all_counted s at st (λ q. omega arith) c))
-    (λ b. let n : byte_at s at ≡ 6 → ⊥ = eqb-false (byte_at s at) 6 b in
-    counts f s (at + size_of (byte_at s at)) (added (byte_at s at) at st) fin e (a.goes n) (count s at st a.passes.due refl a.passes.body n c))
-
 pub parts_counted : (s : List ℕ) (st : Pst) (e : ℕ) → read_pack s ≡ loaded st e → parts_in s st.rules ≡ st.total
 unfolding read_pack sum_to
-parts_counted s st e h = counts (length s + 1) s 0 start.st st e h (record { open_rule = λ q. absurd (omega arith); closed = λ q. refl })
+parts_counted s st e h =
+    read_keeps pack_reader s st e (Counted s)
+    (λ f at x c v n g. let ok = sound s at x v in count s at x ok.due refl ok.body n c)
+    (λ at x c v k g. rw (← (same_loaded x st (at + 1) e g).0) (all_counted s at x (λ q. omega arith) c))
+    h (record { open_rule = λ q. absurd (omega arith); closed = λ q. refl })
 
 pub few_parts : (s : List ℕ) (st : Pst) (e : ℕ) → read_pack s ≡ loaded st e → parts_in s st.rules ≤ 128
 few_parts s st e h = omega (arith, parts_counted s st e h, (loads s st e h).kept.few_in_all)

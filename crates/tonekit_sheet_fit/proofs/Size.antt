@@ -3,17 +3,20 @@ use Rattle.std.proofs.Common.{ℕ, zero, suc, ◌+◌, ◌-◌, ◌*◌, ◌/◌
 use mathlib.Core.Option.{Option, none, some}
 use lib.ListN.{length-map}
 use Rattle.tonekit_core.specs.declared.layout.TheConstants.{SHEET_MOST}
-use Rattle.spec_pack.specs.Pack.{Pst, loaded, read_pack}
+use Rattle.spec_arithmetic.specs.Files.{loaded}
+use Rattle.spec_pack.specs.Pack.{Pst, read_pack}
 use Rattle.tonekit_core.proofs.Split.{split}
 use Rattle.tonekit_pack.proofs.Loads.{loads}
 use Rattle.spec_lookup.specs.declared.Listing.{Listing}
 use Rattle.spec_lookup.specs.Lookup.{component_of}
 use Rattle.spec_lookup.specs.Source.{Accent, Carried, accent_in, carried, components, tone_at, accent_at, source_of_pack}
-use Rattle.spec_sheet.specs.Pieces.{pieces, gather, gather_length}
+use Rattle.spec_sheet.specs.Pieces.{pieces, gather}
+use Rattle.tonekit_sheet.proofs.Gather.{gather_length}
 use Rattle.spec_sheet.specs.Sheet.{or_skip, asc_from, ascending, View, rows_of, view_of, lists_of, bits_bytes, component_bytes, components_bytes, tone_piece, accent_piece, row_piece, list_piece, bytes_with, bytes_of, sheet}
+use Rattle.tonekit_sheet.proofs.Components.{component_length, components_snoc}
 use Rattle.tonekit_sheet_fit.specs.Room.{Suffices}
 use Rattle.tonekit_sheet_fit.proofs.Budget.{sum_scaled, weigh}
-use Rattle.tonekit_sheet_fit.proofs.Bits.{carried_ten}
+use Rattle.tonekit_expect.proofs.Carried.{carried_ten}
 use Rattle.tonekit_sheet_fit.proofs.Drawn.{rule_of, citation_of}
 use Rattle.tonekit_sheet_fit.proofs.Parts.{parts_of, few_parts}
 use Rattle.tonekit_sheet_fit.proofs.Fits.{rule_list, citation_list, within}
@@ -55,19 +58,8 @@ unfolding ascending
 few_ascending accents = few_from 255 1 accents
 
 -- ---- the bytes of lists
-bits_length : (xs : List ℕ) → length (bits_bytes xs) ≡ 4 * length xs
-unfolding bits_bytes
-bits_length [] = refl
-bits_length (x ∷ xs) = omega (arith, bits_length xs)
-
-component_length : (c : Carried) → length c.points ≡ 10 → length (component_bytes c) ≡ 45
-component_length c h = omega (arith, bits_length c.points)
-
 more_components : (xs : List Carried) (c : Carried) → length (components_bytes (xs ++ (c ∷ []))) ≡ length (components_bytes xs) + length (component_bytes c)
-unfolding components_bytes
-more_components [] c = omega (arith, length-append (component_bytes c) [])
-more_components (x ∷ xs) c =
-    omega (arith, length-append (component_bytes x) (components_bytes (xs ++ (c ∷ []))), length-append (component_bytes x) (components_bytes xs), more_components xs c)
+more_components xs c = ap length (components_snoc xs c) ∙ length-append (components_bytes xs) (component_bytes c)
 
 components_bytes_lem : (s : List ℕ) (m : Listing) (n : ℕ) → length (components_bytes (components s m n)) ≡ 45 * n
 unfolding components components_bytes

@@ -1,6 +1,7 @@
 -- "13,266 bytes always suffice."
 use Rattle.std.specs.Prelude.{ℕ, ◌≤◌, ◌≡◌, List, length}
-use Rattle.spec_pack.specs.Pack.{Pst, loaded, read_pack}
+use Rattle.spec_arithmetic.specs.Files.{loaded}
+use Rattle.spec_pack.specs.Pack.{Pst, read_pack}
 use Rattle.spec_lookup.specs.Source.{source_of_pack}
 use Rattle.spec_sheet.specs.Sheet.{sheet}
 

@@ -5,10 +5,12 @@ use Rattle.std.specs.Prelude.{Ok}
 use Rattle.spec_arithmetic.specs.Fields.{byte_at}
 use Rattle.tonekit_core.proofs.Split.{split}
 use Rattle.tonekit_pack.proofs.Each.{Each, each_snoc}
-use Rattle.spec_sheet.specs.Reader.{Sst, loaded, refused, size_of, body_verdict, added, start, read_sheet}
+use Rattle.spec_arithmetic.specs.Files.{loaded}
+use Rattle.spec_sheet.specs.Reader.{Sst, size_of, body_verdict, added, sheet_reader, read_sheet}
 use Rattle.tonekit_core.specs.declared.Refusal.TheVariants.{CutShort}
-use Rattle.tonekit_sheet.proofs.Records.{Due, settings, tone, accent, row, list, component, finish, tone_room, list_room}
-use Rattle.tonekit_sheet.proofs.Turns.{run, no_turns, accepted, finished_is}
+use Rattle.tonekit_sheet.proofs.Records.{Due, settings, tone, accent, row, list, component, finish, sound, tone_room, list_room}
+use Rattle.tonekit_sheet.proofs.Turns.{finished_is}
+use Rattle.tonekit_bytes.proofs.Files.{read_keeps}
 
 abbrev Short : List ℕ → List ℕ → ℕ → Type 0
 Short s before o = byte_at s (o + 6) ≤ 4
@@ -29,19 +31,14 @@ module _ (s : List ℕ) (at : ℕ) (st : Sst) where
   keep count (component d) b p = record { tones = p.tones; lists = p.lists }
   keep count (finish c) b p = record { tones = p.tones; lists = p.lists }
 
-keeps : (f : ℕ) (s : List ℕ) (at : ℕ) (st fin : Sst) (e : ℕ) → run s (refused CutShort (length s)) f at st ≡ loaded fin e → Fews s st → Fews s fin
-keeps zero s at st fin e h p = no_turns s at st fin CutShort (length s) e h
-keeps (suc f) s at st fin e h p =
-    let a = accepted s (refused CutShort (length s)) f at st fin e h in
-    split (eqb (byte_at s at) 23)
-    (λ b. let q = finished_is s st (at + 1) fin e (a.ended (eqb-true (byte_at s at) 23 b)) in rw (← q.same) p)
-    (λ b. keeps f s (at + size_of (byte_at s at)) (added (byte_at s at) at (byte_at s (at + 6)) st) fin e (a.goes (eqb-false (byte_at s at) 23 b))
-    (keep s at st (byte_at s (at + 6)) a.passes.due a.passes.body p))
-
 module _ (s : List ℕ) (st : Sst) (e : ℕ) (h : read_sheet s ≡ loaded st e) where
   few : Fews s st
   unfolding read_sheet
-  few = keeps (length s + 1) s 0 start.st st e h (record { tones = omega arith; lists = λ i l. absurd (omega arith) })
+  few =
+      read_keeps sheet_reader s st e (λ at x. Fews s x)
+      (λ n at x p v k g. let ok = sound s at x v in keep s at x (byte_at s (at + 6)) ok.due ok.body p)
+      (λ at x p v k g. rw (← (finished_is s x (at + 1) st e g).same) p)
+      h (record { tones = omega arith; lists = λ i l. absurd (omega arith) })
 
   pub tones_few : length st.tones ≤ 8
   tones_few = few.tones

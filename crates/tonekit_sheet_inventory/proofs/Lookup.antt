@@ -8,10 +8,11 @@ use Rattle.spec_lookup.specs.declared.Context.{Context}
 use Rattle.spec_lookup.specs.Lookup.{Found}
 use Rattle.std.specs.Prelude.{Some, None}
 use Rattle.tonekit_expect.proofs.Walk.{index_found}
-use Rattle.spec_sheet.specs.Reader.{Sst, Out, loaded, refused, row_at, read_sheet}
+use Rattle.spec_arithmetic.specs.Files.{Out, loaded, refused}
+use Rattle.spec_sheet.specs.Reader.{Sst, row_at, read_sheet}
 use Rattle.spec_sheet.specs.FromSheet.{list_numbered, row_place, final_place, prev_found, look_sheet}
 use Rattle.tonekit_sheet_read.specs.declared.Sheet.{Sheet}
-use Rattle.tonekit_sheet_read.specs.Held.{shown, ReadFrom}
+use Rattle.tonekit_sheet_read.specs.Held.{shown}
 use Rattle.tonekit_bytes.proofs.Stepped.{stepped_length}
 use Rattle.tonekit_sheet_inverse.proofs.Loads.{reads}
 use Rattle.tonekit_sheet_inventory.specs.Look.{list_place, sheet_in, Placed, told, ShortList, Looks}
@@ -47,7 +48,12 @@ module _ (s : List ℕ) (st : Sheet) (n : ℕ) where
   prev_held p e = omega (arith, prev_inside s (shown st) n p e, stepped_length 9 15 st.tones)
 
 -- ---- a sheet that is held was read from its bytes
-pub read_from : (s : List ℕ) (p : Sheet) (o : Out) → read_sheet s ≡ o → sheet_in o ≡ Some (shown p) → ReadFrom s p
+-- as its reader handed it back for these bytes, which load
+pub record ReadFrom (s : List ℕ) (p : Sheet) : Type 0 where
+  pub end : ℕ
+  pub reads : read_sheet s ≡ loaded (shown p) end
+
+pub read_from : (s : List ℕ) (p : Sheet) (o : Out Sst) → read_sheet s ≡ o → sheet_in o ≡ Some (shown p) → ReadFrom s p
 read_from s p (loaded st e) q h = let is : st ≡ shown p = cc in record { end = e; reads = q ∙ ap (λ (x : Sst). loaded x e) is }
 read_from s p (refused r place) q h = let n : ◌≡◌ {A = ℕ} 0 1 = cc in absurd (omega arith)
 

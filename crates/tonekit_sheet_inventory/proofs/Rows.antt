@@ -4,7 +4,8 @@ use Rattle.spec_arithmetic.specs.Fields.{byte_at}
 use Rattle.tonekit_core.proofs.Split.{split}
 use Rattle.spec_lookup.specs.declared.Context.{Context}
 use Rattle.spec_sheet.specs.Sheet.{row_count}
-use Rattle.spec_sheet.specs.Reader.{Sst, loaded, row_at, read_sheet}
+use Rattle.spec_arithmetic.specs.Files.{loaded}
+use Rattle.spec_sheet.specs.Reader.{Sst, row_at, read_sheet}
 use Rattle.spec_sheet.specs.FromSheet.{row_place, final_place}
 use Rattle.tonekit_sheet.proofs.RowPlaces.{rows_few}
 use Rattle.tonekit_sheet_inverse.proofs.Loads.{reads}

@@ -9,7 +9,8 @@ use Rattle.spec_lookup.specs.Source.{Carried, Source}
 use Rattle.spec_lookup.specs.declared.Context.{Context}
 use Rattle.spec_lookup.specs.Lookup.{Found}
 use Rattle.spec_judgement.specs.declared.Listed.{Listed}
-use Rattle.spec_sheet.specs.Reader.{Sst, Out, loaded, refused, load_sheet}
+use Rattle.spec_arithmetic.specs.Files.{Out, loaded, refused}
+use Rattle.spec_sheet.specs.Reader.{Sst, load_sheet}
 use Rattle.spec_sheet.specs.FromSheet.{carried_from, look_sheet, source_of_sheet}
 use Rattle.tonekit_sheet_read.specs.Held.{shown}
 use Rattle.tonekit_sheet_read.specs.declared.Sheet.{Sheet}
@@ -19,7 +20,7 @@ abbrev pub source_in : List ℕ → Sheet → Source
 source_in s p = source_of_sheet s (shown p)
 
 -- what the bytes of a sheet hold, or why they are none
-abbrev pub source_or : List ℕ → Out → Result Source Rejection
+abbrev pub source_or : List ℕ → Out Sst → Result Source Rejection
 source_or s (loaded st end) = Ok (source_of_sheet s st)
 source_or s (refused r place) = Err (record { why = r; place = place })
 
@@ -27,7 +28,7 @@ abbrev pub load_source : List ℕ → Result Source Rejection
 load_source s = source_or s (load_sheet s)
 
 -- the sheet that was read, if one was
-abbrev pub sheet_in : Out → Option Sst
+abbrev pub sheet_in : Out Sst → Option Sst
 sheet_in (loaded st end) = Some st
 sheet_in (refused r place) = None
 

@@ -5,7 +5,7 @@ use borrow.Author.Tests.{eqb-false}
 use Rattle.tonekit_core.proofs.Split.{split}
 use Rattle.spec_lookup.specs.Source.{Accent, accent_in}
 use Rattle.spec_sheet.specs.Sheet.{or_skip, asc_from, ascending, no_accent}
-use Rattle.tonekit_sheet_laws.proofs.Ascending.{accent_none}
+use Rattle.tonekit_sheet_laws.proofs.Ascending.{accent_none, asc_none}
 
 abbrev pub number_of : List Accent → ℕ → ℕ
 number_of l i = (get_or l i no_accent).number
@@ -23,11 +23,6 @@ asc_skip : (k n : ℕ) (a : Accent) (l : List Accent) → a.number < n → asc_f
 unfolding asc_from
 asc_skip zero n a l h = refl
 asc_skip (suc k) n a l h = rw (in_skip a l n (λ e. omega arith), asc_skip k (suc n) a l (omega arith))
-
-asc_none : (k n : ℕ) → asc_from k n [] ≡ []
-unfolding asc_from accent_in
-asc_none zero n = refl
-asc_none (suc k) n = asc_none k (suc n)
 
 asc_next : (k n : ℕ) (l : List Accent) → asc_from (suc k) n l ≡ or_skip (accent_in l n) (asc_from k (suc n) l)
 unfolding asc_from

@@ -3,8 +3,8 @@ use Rattle.std.proofs.Common.{ℕ, zero, suc, ◌+◌, ◌-◌, ◌≤◌, ◌<�
 use mathlib.Core.Option.{Option}
 use lib.ListN.{get_or-append}
 use lib.Seq.{get_or-append_seam}
-use Rattle.tonekit_core.specs.Loop.{range, range_done}
-use Rattle.tonekit_core.proofs.LoopLaws.{range_keeps}
+use Rattle.tonekit_core.specs.Loop.{range}
+use Rattle.tonekit_core.proofs.LoopLaws.{range_done, range_keeps}
 use Rattle.tonekit_core.proofs.Split.{split}
 use Rattle.spec_lookup.specs.Source.{Carried}
 use Rattle.spec_sheet.specs.Number.{seen_in, place_in, noted, number_in}

@@ -1,3 +1,4 @@
+pub mod Place
 pub mod Spans
 pub mod Tests
 pub mod Kept

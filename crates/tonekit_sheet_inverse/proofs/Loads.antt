@@ -1,16 +1,16 @@
 -- What a sheet that loads has: its records one behind the other up to its end, each of its kind, and nothing loose or out of order. Assumes nothing.
-use Rattle.std.proofs.Common.{ℕ, zero, suc, ◌+◌, ◌≤◌, ◌<◌, ◌≡◌, refl, List, arith, length, get_or, eqb, ltb, eqb-true, ltb-true, ltb-false}
-use borrow.Author.Tests.{eqb-false}
-use Rattle.tonekit_core.specs.declared.Refusal.TheVariants.{CutShort}
+use Rattle.std.proofs.Common.{ℕ, ◌+◌, ◌≤◌, ◌<◌, ◌≡◌, refl, List, arith, length, get_or, ltb, ltb-true, ltb-false}
 use Rattle.spec_arithmetic.specs.Fields.{byte_at}
 use Rattle.spec_arithmetic.specs.Places.{number_at}
 use Rattle.tonekit_core.proofs.Split.{split}
 use Rattle.tonekit_pack.proofs.Numbers.{none_before}
-use Rattle.spec_sheet.specs.Reader.{Sst, loaded, refused, rows_due, size_of, added, row_at, start, read_sheet, load_sheet}
-use Rattle.tonekit_sheet_inverse.specs.Place.{list_place, lists_from}
+use Rattle.spec_sheet.specs.Reader.{Sst, rows_due, row_at, read_sheet, load_sheet, sheet_reader}
+use Rattle.tonekit_sheet_inverse.proofs.Place.{list_place, lists_from}
+use Rattle.spec_arithmetic.specs.Files.{loaded}
 use Rattle.tonekit_sheet.proofs.Every.{Every}
-use Rattle.tonekit_sheet.proofs.Records.{Complete, rows_done, list_done, closes}
-use Rattle.tonekit_sheet.proofs.Turns.{run, accepted, no_turns, Finished, finished_is, loads_alone}
+use Rattle.tonekit_sheet.proofs.Records.{Complete, rows_done, list_done, sound, closes}
+use Rattle.tonekit_bytes.proofs.Files.{read_keeps}
+use Rattle.tonekit_sheet.proofs.Turns.{Finished, finished_is, loads_alone}
 use Rattle.tonekit_sheet_inverse.proofs.Kept.{ToneThere, AccentThere, ListThere, PartThere, Kept, keep}
 
 pub record Loads (s : List ℕ) (st : Sst) (e : ℕ) : Type 0 where
@@ -54,23 +54,16 @@ module _ (s : List ℕ) (at : ℕ) (st : Sst) (p : Kept s at st) where
         fine = f;
       }
 
-keeps : (f : ℕ) (s : List ℕ) (at : ℕ) (st fin : Sst) (e : ℕ) → run s (refused CutShort (length s)) f at st ≡ loaded fin e → Kept s at st → Loads s fin e
-keeps zero s at st fin e h p = no_turns s at st fin CutShort (length s) e h
-keeps (suc f) s at st fin e h p =
-    let a = accepted s (refused CutShort (length s)) f at st fin e h in
-    split (eqb (byte_at s at) 23)
-    (λ b. let k : byte_at s at ≡ 23 = eqb-true (byte_at s at) 23 b in
-    let q = finished_is s st (at + 1) fin e (a.ended k) in
-    let g : Finished s st (at + 1) st (at + 1) = rw (q.same, q.ends) (rw (q.same, q.ends) at q) in
-    rw (← q.same, ← q.ends) (close s at st p k a.passes.inside (closes st k a.passes.due) g))
-    (λ b. let n : byte_at s at ≡ 23 → ⊥ = eqb-false (byte_at s at) 23 b in
-    keeps f s (at + size_of (byte_at s at)) (added (byte_at s at) at (byte_at s (at + 6)) st) fin e (a.goes n)
-    (keep s at st p a.passes.due refl a.passes.body n))
-
 pub reads : (s : List ℕ) (st : Sst) (e : ℕ) → read_sheet s ≡ loaded st e → Loads s st e
 unfolding read_sheet
 reads s st e h =
-    keeps (length s + 1) s 0 start.st st e h
+    read_keeps sheet_reader s st e (Kept s)
+    (λ n at x p v k g. let ok = sound s at x v in keep s at x p ok.due refl ok.body k)
+    (λ at x p v k g. let ok = sound s at x v in
+    let q = finished_is s x (at + 1) st e g in
+    let f : Finished s x (at + 1) x (at + 1) = rw (q.same, q.ends) (rw (q.same, q.ends) at q) in
+    rw (← q.same, ← q.ends) (close s at x p k ok.inside (closes x k ok.due) f))
+    h
     (record {
       first = λ q. refl;
       begun = λ q. absurd (omega arith);

@@ -2,7 +2,8 @@
 use Rattle.std.proofs.lemmas.List.{get_or-map}
 use Rattle.std.proofs.Common.{ℕ, zero, suc, ◌+◌, ◌≤◌, ◌<◌, ◌≡◌, refl, sym, ap, ◌∙◌, cond, Bool, List, map, arith, add-one, length, get_or, eq-eqb, ne_eqb, Some, None}
 use lib.ListN.{length-map}
-use Rattle.tonekit_core.specs.Loop.{range_to, to_again, to_stop}
+use Rattle.tonekit_core.specs.Loop.{range_to}
+use Rattle.tonekit_core.proofs.LoopLaws.{to_again, to_stop}
 use Rattle.spec_arithmetic.specs.Fields.{byte_at}
 use Rattle.spec_arithmetic.specs.Places.{number_at, index_turn, index_of}
 use Rattle.spec_lookup.specs.Source.{Tone}

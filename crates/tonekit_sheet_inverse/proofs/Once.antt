@@ -2,11 +2,12 @@
 use Rattle.std.proofs.Common.{ℕ, ◌≡◌, refl, sym, ap, ◌∙◌, ◌↔◌, List}
 use Rattle.spec_lookup.specs.Source.{Source}
 use Rattle.spec_sheet.specs.Sheet.{sheet}
-use Rattle.spec_sheet.specs.Reader.{Sst, loaded, load_sheet}
+use Rattle.spec_arithmetic.specs.Files.{loaded}
+use Rattle.spec_sheet.specs.Reader.{Sst, load_sheet}
 use Rattle.spec_sheet.specs.FromSheet.{source_of_sheet}
 use Rattle.spec_sheet.specs.Agree.{Bytes, Agree}
 use Rattle.tonekit_sheet.specs.Fit.{Fit}
-use Rattle.tonekit_sheet_laws.specs.Place.{st_of}
+use Rattle.tonekit_sheet_laws.proofs.Place.{st_of}
 use Rattle.tonekit_sheet_laws.proofs.Round.{round}
 use Rattle.tonekit_sheet_laws.proofs.Exactly.{agree_same, loaded_same}
 use Rattle.tonekit_sheet_laws.proofs.Back.{read_back, settings_back, tones_back, accents_back, lookups_back}

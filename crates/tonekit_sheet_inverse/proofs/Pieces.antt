@@ -11,16 +11,12 @@ use Rattle.spec_sheet.specs.Agree.{Bytes}
 use Rattle.spec_sheet.specs.Sheet.{settings_bytes, tone_bytes, accent_bytes, row_bytes, bits_bytes, component_bytes, components_bytes, no_carried, list_bytes}
 use Rattle.spec_sheet.specs.Reader.{list_size, same_lists}
 use Rattle.spec_sheet.specs.FromSheet.{tone_at, accent_at, bits_at, carried_at, carried_from}
+use Rattle.tonekit_sheet.proofs.Components.{components_snoc}
 use Rattle.tonekit_sheet_inverse.proofs.Spans.{Spans, none_spans, one_spans, joined, half_spans, word_spans}
 use Rattle.tonekit_sheet_laws.proofs.Loops.{range_all}
 use Rattle.tonekit_sheet_inverse.proofs.Kept.{PartThere}
 
 -- ---- lists of components
-components_snoc : (cs : List Carried) (c : Carried) → components_bytes (cs ++ (c ∷ [])) ≡ components_bytes cs ++ component_bytes c
-unfolding components_bytes
-components_snoc [] c = append-nil (component_bytes c)
-components_snoc (x ∷ cs) c = ap (λ (r : List ℕ). component_bytes x ++ r) (components_snoc cs c) ∙ sym (append_assoc (component_bytes x) (components_bytes cs) (component_bytes c))
-
 module _ (s : List ℕ) (o : ℕ) where
   pub carried_length : (n : ℕ) → length (carried_from s o n) ≡ n
   unfolding carried_from

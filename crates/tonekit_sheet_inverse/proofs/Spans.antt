@@ -4,7 +4,8 @@ use lib.ListN.{get_or-append}
 use Rattle.spec_arithmetic.specs.Fields.{byte_at, u16_at, u32_at, le16, le32}
 use Rattle.tonekit_core.proofs.Split.{split}
 use Rattle.spec_sheet.specs.Agree.{Bytes}
-use Rattle.spec_sheet.specs.Pieces.{gather, gather_done, gather_step}
+use Rattle.spec_sheet.specs.Pieces.{gather}
+use Rattle.tonekit_sheet.proofs.Gather.{gather_done, gather_step}
 use Rattle.tonekit_bytes.proofs.Back.{le16_of, le32_of}
 
 -- bs are the bytes of s from o up to e

@@ -1,8 +1,8 @@
 -- Loops of tests: what a loop that found no fault has tested, what a loop that found one has met. Assumes nothing.
 use Rattle.std.proofs.Common.{ℕ, zero, suc, ◌+◌, ◌≤◌, ◌<◌, ◌≡◌, sym, ◌∙◌, Bool, true, false, cond, ◌||◌, arith, eqb, eqb-true, Option, Some, None}
 use borrow.Author.Tests.{eqb-false}
-use Rattle.tonekit_core.specs.Loop.{Turn, next, stop, range, range_done, range_to, to_again, to_stop}
-use Rattle.tonekit_core.proofs.LoopLaws.{range_keeps}
+use Rattle.tonekit_core.specs.Loop.{Turn, next, stop, range, range_to}
+use Rattle.tonekit_core.proofs.LoopLaws.{range_done, to_again, to_stop, range_keeps}
 use Rattle.tonekit_core.proofs.Split.{split, absurd_bool, either}
 use Rattle.tonekit_sheet_laws.proofs.Loops.{range_last, range_any}
 

@@ -3,12 +3,13 @@ use Rattle.std.proofs.Common.{ℕ, zero, suc, ◌+◌, ◌≤◌, ◌<◌, ◌�
 use borrow.Author.Tests.{lt-leb}
 use Rattle.spec_pack.specs.Ranges.{tolerances_fine}
 use Rattle.spec_arithmetic.specs.Places.{number_at}
+use Rattle.spec_arithmetic.specs.Files.{Out}
 use Rattle.spec_pack.specs.Pack.{holds}
 use Rattle.spec_lookup.specs.Source.{Accent, Source}
 use Rattle.spec_sheet.specs.Sheet.{View, no_accent, lists_of}
-use Rattle.spec_sheet.specs.Reader.{Sst, Out, size_of, due_next, accent_fine, accent_verdict, body_verdict, added}
+use Rattle.spec_sheet.specs.Reader.{Sst, size_of, due_next, accent_fine, accent_verdict, body_verdict, added}
 use Rattle.tonekit_sheet.specs.Fit.{AccentFit}
-use Rattle.tonekit_sheet_laws.specs.Place.{up_to, accent_at, read_to, last_of}
+use Rattle.tonekit_sheet_laws.proofs.Place.{up_to, accent_at, read_to, last_of}
 use Rattle.tonekit_sheet_laws.proofs.Placed.{up_to_length, holds_none}
 use Rattle.tonekit_sheet_laws.proofs.Records.{AccentThere, accent_there}
 use Rattle.tonekit_sheet_laws.proofs.Laid.{Laid}
@@ -27,7 +28,7 @@ tolerances_there s o a w f =
 accent_fine_lem : (s : List ℕ) (o : ℕ) (a : Accent) → AccentThere s o a → AccentFit a → accent_fine s o ≡ true
 accent_fine_lem s o a w f = rw (w.number, ne_eqb a.number 0 (λ e. omega (arith, f.least))) (tolerances_there s o a w f)
 
-module _ (s : List ℕ) (d : Out) (src : Source) (v : View) (fit : ViewFit src v) (laid : Laid s v (lists_of v)) where
+module _ (s : List ℕ) (d : Out Sst) (src : Source) (v : View) (fit : ViewFit src v) (laid : Laid s v (lists_of v)) where
   pub accent_read : (i : ℕ) → i < length v.accents → AccentThere s (accent_at v i) (get_or v.accents i no_accent)
   accent_read i h =
       let f = fit.accents i h in

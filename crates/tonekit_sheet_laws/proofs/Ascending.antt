@@ -133,7 +133,7 @@ one_more a more (suc k) n =
     (λ e. rw (e, past a more k (suc n) (omega (arith, eqb-true a.number n e))) (omega (arith, skip_less (accent_in more n) (asc_from k (suc n) more))))
     (λ e. rw e (skip_length (accent_in more n) (asc_from k (suc n) (a ∷ more)) (asc_from k (suc n) more) (one_more a more k (suc n))))
 
-asc_none : (k n : ℕ) → asc_from k n [] ≡ []
+pub asc_none : (k n : ℕ) → asc_from k n [] ≡ []
 unfolding asc_from accent_in
 asc_none zero n = refl
 asc_none (suc k) n = asc_none k (suc n)

@@ -6,12 +6,7 @@ use Rattle.spec_sheet.specs.Sheet.{no_tone, no_accent, row_count, accent_place, 
 use Rattle.spec_sheet.specs.Agree.{Held}
 use Rattle.tonekit_sheet_laws.proofs.Ascending.{ascending_held}
 use Rattle.tonekit_sheet.proofs.RowPlaces.{row_places}
-
-pub tone_found : (tones : List Tone) (i : ℕ) → i < length tones → tone_in tones (get_or tones i no_tone).number ≡ true
-unfolding tone_in
-tone_found [] i h = absurd (omega arith)
-tone_found (t ∷ tones) zero h = rw (eq-eqb t.number t.number refl)
-tone_found (t ∷ tones) (suc i) h = split (eqb t.number (get_or tones i no_tone).number) (λ e. rw e) (λ e. rw e (tone_found tones i (omega arith)))
+use Rattle.tonekit_expect.proofs.Held.{tone_found}
 
 -- a held tone is one of them
 pub tone_at_lem : (tones : List Tone) (n : ℕ) → tone_in tones n ≡ true → (i : ℕ) × (i < length tones) × ((get_or tones i no_tone).number ≡ n)
@@ -24,7 +19,7 @@ tone_at_lem (t ∷ tones) n h =
 
 prev_held : (tones : List Tone) (p : ℕ) → p ≤ length tones → (prev_number tones p ≡ 0) ⊎ (tone_in tones (prev_number tones p) ≡ true)
 prev_held tones zero h = inl refl
-prev_held tones (suc p) h = inr (tone_found tones p h)
+prev_held tones (suc p) h = inr (tone_found tones p no_tone h)
 
 -- what a row of a source's view asks
 pub row_asks : (src : Source) (r : ℕ) (last : Bool) → (view_of src).row r last ≡ src.look (row_context src.tones (ascending src.accents) r last)
@@ -40,7 +35,7 @@ module _ (src : Source) (some_tones : 1 ≤ length src.tones) where
       let p = row_places (length (ascending src.accents)) t r some_tones h in
       record {
         accent = (get_or (ascending src.accents) (accent_place t r) no_accent, ascending_held src.accents (accent_place t r) p.accent);
-        tone = tone_found src.tones (tone_place t r) p.tone;
+        tone = tone_found src.tones (tone_place t r) no_tone p.tone;
         prev = prev_held src.tones (prev_place t r) p.prev;
       }
 

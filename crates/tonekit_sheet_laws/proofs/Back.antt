@@ -7,12 +7,13 @@ use Rattle.spec_lookup.specs.Source.{Accent, Source, settings_at, accent_in, ton
 use Rattle.spec_arithmetic.specs.Places.{index_of}
 use Rattle.spec_lookup.specs.declared.Context.{Context}
 use Rattle.spec_sheet.specs.Sheet.{View, no_tone, no_accent, prev_number, row_context, ascending, view_of, rows_of, lists_of, sheet}
-use Rattle.spec_sheet.specs.Reader.{Sst, Out, refused}
+use Rattle.spec_arithmetic.specs.Files.{Out, refused}
+use Rattle.spec_sheet.specs.Reader.{Sst}
 use Rattle.spec_sheet.specs.FromSheet.{tone_at as tone_is_read, accent_at as accent_is_read, prev_found, look_sheet, source_of_sheet}
 use Rattle.spec_sheet.specs.Agree.{Held}
 use Rattle.tonekit_sheet.specs.Fit.{Fit, components_in}
 use Rattle.tonekit_core.specs.declared.Refusal.TheVariants.{CutShort}
-use Rattle.tonekit_sheet_laws.specs.Place.{up_to, tone_at, accent_at, read_to, last_of, st_of_view, st_of}
+use Rattle.tonekit_sheet_laws.proofs.Place.{up_to, tone_at, accent_at, read_to, last_of, st_of_view, st_of}
 use Rattle.tonekit_sheet_laws.proofs.Placed.{up_to_length, up_to_get}
 use Rattle.tonekit_sheet_laws.proofs.Ascending.{accent_at_lem}
 use Rattle.tonekit_sheet.proofs.RowPlaces.{place, accent_back, tone_back, prev_back}
@@ -32,7 +33,7 @@ all_read f g l d h =
     (λ i b. let c : i < length l = omega (arith, n) in
     get_or-map f (up_to g (length l)) i 0 d (rw (up_to_length g (length l)) c) ∙ ap f (up_to_get g (length l) i c) ∙ h i c)
 
-module _ (s : List ℕ) (d : Out) (src : Source) (v : View) (fit : ViewFit src v) (laid : Laid s v (lists_of v)) where
+module _ (s : List ℕ) (d : Out Sst) (src : Source) (v : View) (fit : ViewFit src v) (laid : Laid s v (lists_of v)) where
   settings_same : settings_at s 0 ≡ v.settings
   settings_same =
       let w = settings_read s d src v fit laid in
@@ -82,7 +83,7 @@ abbrev pub read_back : Source → Source
 read_back src = source_of_sheet (sheet src) (st_of src)
 
 module _ (src : Source) (fit : Fit src) where
-  abbrev d : Out
+  abbrev d : Out Sst
   d = refused CutShort 0
 
   pub settings_back : (read_back src).settings ≡ src.settings

@@ -1,7 +1,8 @@
 -- Pieces of bytes one behind the other, where they stand in others. Assumes nothing.
 use Rattle.std.proofs.Common.{ℕ, zero, suc, ◌+◌, ◌-◌, ◌*◌, ◌≤◌, ◌<◌, ◌≡◌, ap, ◌∙◌, List, [], ◌++◌, append_assoc, arith, length, length-append}
 use Rattle.tonekit_bytes.proofs.Stands.{Stands, stands_first, stands_then}
-use Rattle.spec_sheet.specs.Pieces.{gather, gather_done, gather_step, gather_length}
+use Rattle.spec_sheet.specs.Pieces.{gather}
+use Rattle.tonekit_sheet.proofs.Gather.{gather_done, gather_step, gather_length}
 
 -- ---- pieces
 module _ (f : ℕ → List ℕ) where

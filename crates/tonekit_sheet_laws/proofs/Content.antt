@@ -6,10 +6,11 @@ use Rattle.spec_arithmetic.specs.Fields.{byte_at, u32_at}
 use Rattle.tonekit_core.proofs.Split.{split}
 use Rattle.spec_lookup.specs.Source.{Carried, Source}
 use Rattle.spec_sheet.specs.Sheet.{View, no_carried, lists_of}
-use Rattle.spec_sheet.specs.Reader.{Out}
+use Rattle.spec_arithmetic.specs.Files.{Out}
+use Rattle.spec_sheet.specs.Reader.{Sst}
 use Rattle.spec_sheet.specs.FromSheet.{bits_at, carried_at, carried_from}
 use Rattle.tonekit_sheet.specs.Fit.{CarriedFit}
-use Rattle.tonekit_sheet_laws.specs.Place.{list_at}
+use Rattle.tonekit_sheet_laws.proofs.Place.{list_at}
 use Rattle.tonekit_sheet_laws.proofs.Records.{HeadThere, ComponentThere}
 use Rattle.tonekit_sheet_laws.proofs.Laid.{Laid}
 use Rattle.tonekit_sheet_laws.proofs.Fitting.{ViewFit}
@@ -58,7 +59,7 @@ component_back s o n first many j c h w f =
       points = points i;
     }
 
-module _ (s : List ℕ) (d : Out) (src : Source) (v : View) (fit : ViewFit src v) (laid : Laid s v (lists_of v)) where
+module _ (s : List ℕ) (d : Out Sst) (src : Source) (v : View) (fit : ViewFit src v) (laid : Laid s v (lists_of v)) where
   pub list_back : (i : ℕ) → i < length (lists_of v) → carried_from s (list_at v (lists_of v) i) (byte_at s (list_at v (lists_of v) i + 6)) ≡ get_or (lists_of v) i []
   list_back i h =
       let o = list_at v (lists_of v) i in

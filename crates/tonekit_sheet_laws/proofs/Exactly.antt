@@ -6,11 +6,12 @@ use Rattle.spec_lookup.specs.declared.Context.{Context}
 use Rattle.spec_sheet.specs.Number.{noted, number_in}
 use Rattle.spec_sheet.specs.Pieces.{gather}
 use Rattle.spec_sheet.specs.Sheet.{or_skip, asc_from, ascending, View, row_context, row_bytes, view_of, rows_of, note_turn, lists_of, row_piece, bytes_with, bytes_of, sheet}
-use Rattle.spec_sheet.specs.Reader.{Sst, loaded, load_sheet}
+use Rattle.spec_arithmetic.specs.Files.{loaded}
+use Rattle.spec_sheet.specs.Reader.{Sst, load_sheet}
 use Rattle.spec_sheet.specs.FromSheet.{source_of_sheet}
 use Rattle.spec_sheet.specs.Agree.{Held, Agree}
 use Rattle.tonekit_sheet.specs.Fit.{Fit}
-use Rattle.tonekit_sheet_laws.specs.Place.{st_of}
+use Rattle.tonekit_sheet_laws.proofs.Place.{st_of}
 use Rattle.tonekit_core.proofs.LoopLaws.{range_same}
 use Rattle.tonekit_sheet_laws.proofs.Bytes.{gather_same}
 use Rattle.tonekit_sheet.proofs.RowPlaces.{some_tone}

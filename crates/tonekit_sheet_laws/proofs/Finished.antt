@@ -8,10 +8,11 @@ use Rattle.tonekit_core.proofs.Split.{split}
 use Rattle.spec_lookup.specs.Source.{Carried, Source}
 use Rattle.spec_sheet.specs.Number.{number_in}
 use Rattle.spec_sheet.specs.Sheet.{View, no_tone, no_accent, accent_place, tone_place, prev_place, prev_number, rows_of, lists_of}
-use Rattle.spec_sheet.specs.Reader.{Sst, Out, loaded, loose_turn, loose_row, accent_turn, accent_down, prev_due, row_due, row_names, row_turn, row_wrong, named, list_size, same_lists, repeated, list_turn, list_wrong, finished}
+use Rattle.spec_arithmetic.specs.Files.{Out, loaded}
+use Rattle.spec_sheet.specs.Reader.{Sst, loose_turn, loose_row, accent_turn, accent_down, prev_due, row_due, row_names, row_turn, row_wrong, named, list_size, same_lists, repeated, list_turn, list_wrong, finished}
 use Rattle.spec_sheet.specs.Reader.{row_at as row_in}
 use Rattle.spec_sheet.specs.FromSheet.{carried_from}
-use Rattle.tonekit_sheet_laws.specs.Place.{up_to, tone_at, accent_at, row_at, list_at, read_to}
+use Rattle.tonekit_sheet_laws.proofs.Place.{up_to, tone_at, accent_at, row_at, list_at, read_to}
 use Rattle.tonekit_sheet_laws.proofs.Loops.{range_each, range_any, range_none, to_through}
 use Rattle.tonekit_sheet_laws.proofs.FirstUse.{so_far, half, so_none, row_numbers, lists_once, list_used, used_number, listed_first, listed_final}
 use Rattle.tonekit_sheet_laws.proofs.Placed.{up_to_length, up_to_get, zero_or_one, zero_or_zero}
@@ -30,7 +31,7 @@ or_right false b h = h
 or_left : (a b : Bool) → a ≡ true → (a || b) ≡ true
 or_left a b h = rw h
 
-module _ (s : List ℕ) (d : Out) (src : Source) (v : View) (fit : ViewFit src v) (laid : Laid s v (lists_of v)) (last total : ℕ) where
+module _ (s : List ℕ) (d : Out Sst) (src : Source) (v : View) (fit : ViewFit src v) (laid : Laid s v (lists_of v)) (last total : ℕ) where
   abbrev lists : List (List Carried)
   lists = lists_of v
 

@@ -1,3 +1,4 @@
+pub mod Place
 pub mod Loops
 pub mod Numbers
 pub mod FirstUse

@@ -4,13 +4,14 @@ use lib.Ieee.{binary32, of_bits}
 use borrow.Author.Tests.{eqb-false, lt-leb}
 use Rattle.spec_arithmetic.specs.Fields.{byte_at, f32_at}
 use Rattle.spec_pack.specs.Ranges.{weight_fine}
+use Rattle.spec_arithmetic.specs.Files.{Out}
 use Rattle.spec_pack.specs.Pack.{holds}
 use Rattle.tonekit_core.proofs.Split.{split}
 use Rattle.spec_lookup.specs.Source.{Carried, Source}
 use Rattle.spec_sheet.specs.Sheet.{View, no_carried, rows_of, lists_of}
-use Rattle.spec_sheet.specs.Reader.{Sst, Out, size_of, complete, due_next, list_crowded, list_fine, list_verdict, point_fine, points_fine, last_list, component_fine, component_verdict, body_verdict, added}
+use Rattle.spec_sheet.specs.Reader.{Sst, size_of, complete, due_next, list_crowded, list_fine, list_verdict, point_fine, points_fine, last_list, component_fine, component_verdict, body_verdict, added}
 use Rattle.tonekit_sheet.specs.Fit.{Bits, f32, ListFit}
-use Rattle.tonekit_sheet_laws.specs.Place.{up_to, components_before, accent_at, list_at, read_to, last_of}
+use Rattle.tonekit_sheet_laws.proofs.Place.{up_to, components_before, accent_at, list_at, read_to, last_of}
 use Rattle.tonekit_sheet_laws.proofs.Loops.{range_all}
 use Rattle.tonekit_sheet_laws.proofs.Placed.{up_to_length, up_to_get, holds_one, before_next, before_below}
 use Rattle.tonekit_sheet_laws.proofs.Records.{Ten, HeadThere, head_there, head_stands, ComponentThere, component_there, behind_head}
@@ -53,7 +54,7 @@ module _ (s : List ℕ) (o : ℕ) (c : Carried) (w : ComponentThere s o c) where
   unfolding points_fine
   points_fine_lem h = range_all (λ k. point_fine (f32_at s (o + 5 + 4 * k))) 0 10 (omega arith) (λ k _ l. ap (λ (x : ℕ). point_fine (of_bits binary32 x)) (w.points k l) ∙ h k l)
 
-module _ (s : List ℕ) (d : Out) (src : Source) (v : View) (fit : ViewFit src v) (laid : Laid s v (lists_of v)) where
+module _ (s : List ℕ) (d : Out Sst) (src : Source) (v : View) (fit : ViewFit src v) (laid : Laid s v (lists_of v)) where
   abbrev lists : List (List Carried)
   lists = lists_of v
 

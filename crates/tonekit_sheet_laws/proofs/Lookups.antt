@@ -2,7 +2,8 @@
 use Rattle.std.proofs.Common.{ℕ, zero, suc, ◌+◌, ◌*◌, ◌≤◌, ◌<◌, ◌≡◌, refl, sym, ap, ◌∙◌, Bool, true, false, List, arith, add-one, eqb, length, get_or, eq-eqb, ne_eqb, eqb-true, Option as Found, Some, None}
 use mathlib.Core.Option.{Option, none, some}
 use borrow.Author.Tests.{eqb-false}
-use Rattle.tonekit_core.specs.Loop.{range_to, to_again, to_stop}
+use Rattle.tonekit_core.specs.Loop.{range_to}
+use Rattle.tonekit_core.proofs.LoopLaws.{to_again, to_stop}
 use Rattle.spec_arithmetic.specs.Fields.{byte_at}
 use Rattle.tonekit_core.proofs.Split.{split}
 use Rattle.spec_lookup.specs.Source.{Carried, Source}
@@ -11,10 +12,11 @@ use Rattle.tonekit_expect.proofs.Walk.{index_found}
 use Rattle.spec_lookup.specs.declared.Context.{Context}
 use Rattle.spec_sheet.specs.Number.{place_in, number_in}
 use Rattle.spec_sheet.specs.Sheet.{View, no_tone, no_accent, prev_number, rows_of, lists_of}
-use Rattle.spec_sheet.specs.Reader.{Sst, Out}
+use Rattle.spec_arithmetic.specs.Files.{Out}
+use Rattle.spec_sheet.specs.Reader.{Sst}
 use Rattle.spec_sheet.specs.Reader.{row_at as row_in}
 use Rattle.spec_sheet.specs.FromSheet.{list_numbered, row_place, final_place, prev_found, look_placed}
-use Rattle.tonekit_sheet_laws.specs.Place.{up_to, tone_at, accent_at, list_at, read_to}
+use Rattle.tonekit_sheet_laws.proofs.Place.{up_to, tone_at, accent_at, list_at, read_to}
 use Rattle.tonekit_sheet_laws.proofs.FirstUse.{Listed, listed_first, listed_final}
 use Rattle.tonekit_sheet_laws.proofs.Placed.{up_to_length, up_to_get}
 use Rattle.tonekit_sheet.proofs.RowPlaces.{place_below}
@@ -51,7 +53,7 @@ pub record FoundAt (f : Found ℕ) (count : ℕ) (number : ℕ → ℕ) (n : ℕ
   pub there : at < count
   pub same : number at ≡ n
 
-module _ (s : List ℕ) (d : Out) (src : Source) (v : View) (fit : ViewFit src v) (laid : Laid s v (lists_of v)) (last total : ℕ) where
+module _ (s : List ℕ) (d : Out Sst) (src : Source) (v : View) (fit : ViewFit src v) (laid : Laid s v (lists_of v)) (last total : ℕ) where
   abbrev lists : List (List Carried)
   lists = lists_of v
 

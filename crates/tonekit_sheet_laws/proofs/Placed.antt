@@ -8,7 +8,7 @@ use Rattle.tonekit_core.proofs.Split.{split}
 use Rattle.tonekit_pack.proofs.Numbers.{held_at, not_held}
 use Rattle.spec_lookup.specs.Source.{Carried}
 use Rattle.tonekit_sheet.specs.Fit.{components_in}
-use Rattle.tonekit_sheet_laws.specs.Place.{up_to, components_before}
+use Rattle.tonekit_sheet_laws.proofs.Place.{up_to, components_before}
 
 module _ (f : ℕ → ℕ) where
   pub up_to_length : (n : ℕ) → length (up_to f n) ≡ n

@@ -6,6 +6,7 @@ use Rattle.spec_lookup.specs.Source.{Settings, Tone, Accent, Carried}
 use Rattle.spec_lookup.specs.declared.Context.{Context}
 use Rattle.spec_sheet.specs.Sheet.{settings_bytes, tone_bytes, accent_bytes, row_bytes, bits_bytes, component_bytes, components_bytes, no_carried, head_bytes, list_bytes}
 use Rattle.tonekit_sheet.specs.Fit.{Bits}
+use Rattle.tonekit_sheet.proofs.Components.{bits_length, component_length}
 use Rattle.tonekit_bytes.proofs.Back.{le16_back, le32_back}
 use Rattle.tonekit_bytes.proofs.Stands.{Stands, field16, field32, kind, stands_first, stands_then}
 
@@ -106,11 +107,6 @@ module _ (s : List ℕ) (o : ℕ) where
   }
 
 -- ---- components and their points
-pub bits_length : (xs : List ℕ) → length (bits_bytes xs) ≡ 4 * length xs
-unfolding bits_bytes
-bits_length [] = refl
-bits_length (x ∷ xs) = omega (arith, bits_length xs)
-
 pub bits_there : {s : List ℕ} {o : ℕ} (xs : List ℕ) → Stands s o (bits_bytes xs) → (k : ℕ) → k < length xs → Bits (get_or xs k 0) → u32_at s (o + 4 * k) ≡ get_or xs k 0
 unfolding bits_bytes
 bits_there {o = o} [] w k h b = absurd (omega arith)
@@ -118,9 +114,6 @@ bits_there {s = s} {o = o} (x ∷ xs) w zero h b = field32 w 0 (omega arith) ∙
 bits_there {s = s} {o = o} (x ∷ xs) w (suc k) h b =
     let e : o + 4 * suc k ≡ o + 4 + 4 * k = omega arith in
     rw e (bits_there {o = o + 4} xs (stands_then (le32 x) (bits_bytes xs) (o + 4) refl w) k (omega arith) b)
-
-pub component_length : (c : Carried) → length c.points ≡ 10 → length (component_bytes c) ≡ 45
-component_length c t = omega (arith, bits_length c.points)
 
 pub record ComponentThere (s : List ℕ) (o : ℕ) (c : Carried) : Type 0 where
   pub kind : byte_at s o ≡ 22

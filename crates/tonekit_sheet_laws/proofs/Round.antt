@@ -3,9 +3,10 @@ use Rattle.std.proofs.Common.{ℕ, ◌+◌, ◌*◌, ◌≤◌, ◌≡◌, refl,
 use Rattle.tonekit_core.specs.declared.Refusal.TheVariants.{CutShort}
 use Rattle.spec_lookup.specs.Source.{Carried, Source}
 use Rattle.spec_sheet.specs.Sheet.{View, view_of, rows_of, lists_of, bytes_of, sheet}
-use Rattle.spec_sheet.specs.Reader.{Sst, Out, loaded, refused, size_of, due_next, body_verdict, start, read_sheet, load_sheet, check_sheet}
+use Rattle.spec_arithmetic.specs.Files.{Out, loaded, refused}
+use Rattle.spec_sheet.specs.Reader.{Sst, size_of, due_next, body_verdict, start, read_sheet, load_sheet, check_sheet}
 use Rattle.tonekit_sheet.specs.Fit.{Fit}
-use Rattle.tonekit_sheet_laws.specs.Place.{components_before, tone_at, accent_at, row_at, list_at, read_to, last_of, st_of_view, st_of}
+use Rattle.tonekit_sheet_laws.proofs.Place.{components_before, tone_at, accent_at, row_at, list_at, read_to, last_of, st_of_view, st_of}
 use Rattle.tonekit_bytes.proofs.Stands.{kind}
 use Rattle.tonekit_sheet_laws.proofs.Placed.{before_none, before_all}
 use Rattle.tonekit_sheet_laws.proofs.Laid.{Laid, laid}
@@ -18,14 +19,14 @@ use Rattle.tonekit_sheet_laws.proofs.Lists.{ten, all_there, through_lists}
 use Rattle.tonekit_sheet_laws.proofs.Finished.{nothing_found}
 
 -- the same reading, from a place and a state that come to the same
-from : {s : List ℕ} {d : Out} {a b : ℕ} {x y : Sst} (c : ℕ) (z : Sst) → Reach s d a x b y → a ≡ c → x ≡ z → Reach s d c z b y
+from : {s : List ℕ} {d : Out Sst} {a b : ℕ} {x y : Sst} (c : ℕ) (z : Sst) → Reach s d a x b y → a ≡ c → x ≡ z → Reach s d c z b y
 from {s} {d} {a} {b} {x} {y} c z r e f = subst (λ (w : Sst). Reach s d c w b y) f (subst (λ (n : ℕ). Reach s d n x b y) e r)
 
 module _ (s : List ℕ) (src : Source) (v : View) (fit : ViewFit src v) (laid : Laid s v (lists_of v)) where
   abbrev lists : List (List Carried)
   lists = lists_of v
 
-  abbrev d : Out
+  abbrev d : Out Sst
   d = refused CutShort (length s)
 
   abbrev end : ℕ

@@ -1,13 +1,14 @@
 -- The reader goes through the rows of a sheet. Assumes nothing.
 use Rattle.std.proofs.Common.{ℕ, zero, suc, ◌+◌, ◌≤◌, ◌<◌, ◌≡◌, refl, sym, ◌∙◌, true, false, List, arith, add-one, length, get_or, ne_eqb, lt-ltb}
 use Rattle.spec_arithmetic.specs.Fields.{byte_at}
+use Rattle.spec_arithmetic.specs.Files.{Out}
 use Rattle.spec_pack.specs.Pack.{zero_or_held}
 use Rattle.spec_lookup.specs.Source.{Source}
 use Rattle.spec_lookup.specs.declared.Context.{Context}
 use Rattle.spec_sheet.specs.Number.{number_in}
 use Rattle.spec_sheet.specs.Sheet.{View, no_tone, no_accent, accent_place, tone_place, prev_place, prev_number, row_context, rows_of, lists_of}
-use Rattle.spec_sheet.specs.Reader.{Sst, Out, size_of, due_next, rows_due, row_fine, row_held, row_verdict, body_verdict, added}
-use Rattle.tonekit_sheet_laws.specs.Place.{up_to, tone_at, accent_at, row_at, read_to, last_of}
+use Rattle.spec_sheet.specs.Reader.{Sst, size_of, due_next, rows_due, row_fine, row_held, row_verdict, body_verdict, added}
+use Rattle.tonekit_sheet_laws.proofs.Place.{up_to, tone_at, accent_at, row_at, read_to, last_of}
 use Rattle.tonekit_sheet_laws.proofs.Placed.{up_to_length, holds_one, zero_or_one, zero_or_zero}
 use Rattle.tonekit_sheet_laws.proofs.Records.{RowThere, row_there}
 use Rattle.tonekit_sheet_laws.proofs.Laid.{Laid}
@@ -17,7 +18,7 @@ use Rattle.tonekit_sheet_laws.proofs.Turns.{all_pass, Passes, Reach, stay, then,
 use Rattle.tonekit_sheet_laws.proofs.Tones.{tone_read}
 use Rattle.tonekit_sheet_laws.proofs.Accents.{accent_read}
 
-module _ (s : List ℕ) (d : Out) (src : Source) (v : View) (fit : ViewFit src v) (laid : Laid s v (lists_of v)) where
+module _ (s : List ℕ) (d : Out Sst) (src : Source) (v : View) (fit : ViewFit src v) (laid : Laid s v (lists_of v)) where
   -- the context of row r
   abbrev pub asks : ℕ → Context
   asks r = row_context v.tones v.accents r false

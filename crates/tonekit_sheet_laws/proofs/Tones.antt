@@ -3,12 +3,13 @@ use Rattle.std.proofs.Common.{ℕ, zero, suc, ◌+◌, ◌≤◌, ◌<◌, ◌�
 use borrow.Author.Tests.{lt-leb}
 use Rattle.spec_pack.specs.Ranges.{region_fine}
 use Rattle.spec_arithmetic.specs.Places.{number_at}
+use Rattle.spec_arithmetic.specs.Files.{Out}
 use Rattle.spec_pack.specs.Pack.{holds, settings_verdict}
 use Rattle.spec_lookup.specs.Source.{Tone, Source}
 use Rattle.spec_sheet.specs.Sheet.{View, no_tone, lists_of}
-use Rattle.spec_sheet.specs.Reader.{Sst, Out, size_of, due_next, tone_fine, tone_verdict, body_verdict, added, start}
+use Rattle.spec_sheet.specs.Reader.{Sst, size_of, due_next, tone_fine, tone_verdict, body_verdict, added, start}
 use Rattle.tonekit_sheet.specs.Fit.{ToneFit, region_fits}
-use Rattle.tonekit_sheet_laws.specs.Place.{up_to, tone_at, read_to, last_of}
+use Rattle.tonekit_sheet_laws.proofs.Place.{up_to, tone_at, read_to, last_of}
 use Rattle.tonekit_sheet_laws.proofs.Placed.{up_to_length, holds_none}
 use Rattle.tonekit_sheet_laws.proofs.Records.{SettingsThere, settings_there, ToneThere, tone_there}
 use Rattle.tonekit_sheet_laws.proofs.Laid.{Laid}
@@ -27,7 +28,7 @@ tone_fine_lem : (s : List ℕ) (o : ℕ) (t : Tone) → ToneThere s o t → Tone
 tone_fine_lem s o t w f =
     rw (region_there s o t w, w.number, w.prior, ne_eqb t.number 0 (λ e. omega (arith, f.least)), f.prior) f.region
 
-module _ (s : List ℕ) (d : Out) (src : Source) (v : View) (fit : ViewFit src v) (laid : Laid s v (lists_of v)) where
+module _ (s : List ℕ) (d : Out Sst) (src : Source) (v : View) (fit : ViewFit src v) (laid : Laid s v (lists_of v)) where
   pub settings_read : SettingsThere s 0 v.settings
   settings_read = settings_there s 0 v.settings fit.settings.temperature_bits fit.settings.threshold_bits laid.settings
 

@@ -1,18 +1,17 @@
 -- The reader goes on from one place to the next, record by record. Assumes nothing.
 use Rattle.std.proofs.Common.{ℕ, ◌+◌, ◌-◌, ◌≤◌, ◌<◌, ◌≡◌, refl, sym, ◌∙◌, subst, Bool, true, false, List, arith, length, ne_eqb, le-ltb, Ok}
 use borrow.Author.Tests.{lt-leb}
-use Rattle.tonekit_core.specs.Loop.{loop_to, loop_again, loop_stop}
+use Rattle.tonekit_core.specs.Loop.{loop_stop}
+use Rattle.tonekit_core.proofs.LoopLaws.{loop_again}
 use Rattle.spec_arithmetic.specs.Fields.{byte_at}
+use Rattle.spec_arithmetic.specs.Files.{Out, record_turn}
+use Rattle.tonekit_bytes.proofs.Files.{run}
 use Rattle.spec_pack.specs.Pack.{in_turn}
-use Rattle.spec_sheet.specs.Reader.{Sst, Out, size_of, due_next, body_verdict, record_verdict, added, finished, record_turn}
+use Rattle.spec_sheet.specs.Reader.{Sst, size_of, due_next, body_verdict, record_verdict, added, finished, sheet_reader}
 
 -- each test in turn passes
 pub all_pass : (crowded fine new held : Bool) → crowded ≡ false → fine ≡ true → new ≡ true → held ≡ true → in_turn crowded fine new held ≡ Ok tt
 all_pass crowded fine new held c f n h = rw (c, f, n, h)
-
--- the rest of the reading, from a place on
-abbrev pub run : List ℕ → Out → ℕ → ℕ → Sst → Out
-run s d n at st = loop_to (record_turn s) d n (record { at = at; st = st })
 
 -- the record at `at`, of kind k and so many bytes, is whole, due and fine
 pub record Passes (s : List ℕ) (at : ℕ) (st : Sst) (k size : ℕ) : Type 0 where
@@ -30,13 +29,13 @@ passes_verdict {s} {at} {st} {k} {size} p =
     rw (lt-leb (length s) at (omega (arith, p.some, p.whole)), p.kind, p.due, le-ltb (length s) (at + size_of k) w, p.body)
 
 -- with turns enough, the reading from a is the reading from b, with turns enough
-pub record Reach (s : List ℕ) (d : Out) (a : ℕ) (x : Sst) (b : ℕ) (y : Sst) : Type 0 where
-  pub go : (n : ℕ) → length s < n + a → (m : ℕ) × (length s < m + b) × (run s d n a x ≡ run s d m b y)
+pub record Reach (s : List ℕ) (d : Out Sst) (a : ℕ) (x : Sst) (b : ℕ) (y : Sst) : Type 0 where
+  pub go : (n : ℕ) → length s < n + a → (m : ℕ) × (length s < m + b) × (run sheet_reader s d n a x ≡ run sheet_reader s d m b y)
 
-pub stay : (s : List ℕ) (d : Out) (a : ℕ) (x : Sst) → Reach s d a x a x
+pub stay : (s : List ℕ) (d : Out Sst) (a : ℕ) (x : Sst) → Reach s d a x a x
 stay s d a x = record { go = λ n h. (n, h, refl) }
 
-pub then : {s : List ℕ} {d : Out} {a b c : ℕ} {x y z : Sst} → Reach s d a x b y → Reach s d b y c z → Reach s d a x c z
+pub then : {s : List ℕ} {d : Out Sst} {a b c : ℕ} {x y z : Sst} → Reach s d a x b y → Reach s d b y c z → Reach s d a x c z
 then p q = record {
   go = λ n h. let u = p.go n h in
       let v = q.go u.0 u.1 in
@@ -44,22 +43,22 @@ then p q = record {
 }
 
 -- one record
-pub one : (s : List ℕ) (d : Out) (at : ℕ) (st : Sst) (k size : ℕ) → Passes s at st k size → (k ≡ 23 → ⊥) → Reach s d at st (at + size) (added k at (byte_at s (at + 6)) st)
+pub one : (s : List ℕ) (d : Out Sst) (at : ℕ) (st : Sst) (k size : ℕ) → Passes s at st k size → (k ≡ 23 → ⊥) → Reach s d at st (at + size) (added k at (byte_at s (at + 6)) st)
 one s d at st k size p ne = record {
   go = λ n h. let some : 0 < n = omega (arith, p.some, p.whole) in (
     n - 1,
     omega (arith, p.some),
-    sym (loop_again (record_turn s) d {t = record { at = at + size; st = added k at (byte_at s (at + 6)) st }} refl some
+    sym (loop_again (record_turn sheet_reader s) d {t = record { at = at + size; st = added k at (byte_at s (at + 6)) st }} refl some
         (rw (passes_verdict p, p.kind, ne_eqb k 23 ne, p.sized))),
   );
 }
 
-pub one_to : {s : List ℕ} (d : Out) {at : ℕ} {st : Sst} {k size : ℕ} (b : ℕ) (y : Sst) → Passes s at st k size → (k ≡ 23 → ⊥) → at + size ≡ b → added k at (byte_at s (at + 6)) st ≡ y
+pub one_to : {s : List ℕ} (d : Out Sst) {at : ℕ} {st : Sst} {k size : ℕ} (b : ℕ) (y : Sst) → Passes s at st k size → (k ≡ 23 → ⊥) → at + size ≡ b → added k at (byte_at s (at + 6)) st ≡ y
     → Reach s d at st b y
 one_to {s} d {at} {st} {k} {size} b y p ne e f = subst (λ (c : ℕ). Reach s d at st c y) e (subst (λ (z : Sst). Reach s d at st (at + size) z) f (one s d at st k size p ne))
 
 -- the end
-pub over : (s : List ℕ) (d : Out) (at : ℕ) (st : Sst) (n : ℕ) → Passes s at st 23 1 → length s < n + at → run s d n at st ≡ finished s st (at + 1)
+pub over : (s : List ℕ) (d : Out Sst) (at : ℕ) (st : Sst) (n : ℕ) → Passes s at st 23 1 → length s < n + at → run sheet_reader s d n at st ≡ finished s st (at + 1)
 over s d at st n p h =
     let some : 0 < n = omega (arith, p.whole) in
-    sym (loop_stop (record_turn s) d refl some (rw (passes_verdict p, p.kind)))
+    sym (loop_stop (record_turn sheet_reader s) d refl some (rw (passes_verdict p, p.kind)))

@@ -7,7 +7,7 @@ use Rattle.spec_lookup.specs.declared.Listing.{Listing}
 use Rattle.spec_lookup.specs.Knots.{first_points}
 use Rattle.spec_lookup.specs.Lookup.{component_of}
 use Rattle.spec_lookup.specs.Source.{Carried, carried, components}
-use Rattle.tonekit_expect.proofs.Carried.{named, part_number, components_length}
+use Rattle.tonekit_expect.proofs.Carried.{named, part_number, components_length, component_ten}
 use Rattle.spec_sheet.specs.Number.{same_numbers, same_carried, same}
 
 -- ---- points
@@ -124,16 +124,6 @@ module _ (s : List ℕ) (a : Listing) (r : List ℕ) (b : Listing) where
       let q : suc n + (m - suc n) ≡ m = omega arith in
       sym (ap same_first (sym q) ∙ still (m - suc n) (suc n) (first_more n ∙ rw e (and_false (same_first n))))
 
--- ---- every component has ten points
-points_length : (knots : List Float) (n : ℕ) → length (first_points knots n) ≡ n
-unfolding first_points
-points_length knots zero = refl
-points_length knots (suc n) = simp (length-append, points_length knots n, add-one)
-
-ten_points : (s : List ℕ) (l : Listing) (j : ℕ) → length (component_of s l j).points ≡ 10
-unfolding component_of
-ten_points s l j = split (eqb l.name.form 1) (λ t. rw t (points_length _ 10)) (λ t. rw t (points_length _ 10))
-
 -- ---- two components that were read, under one name
 module _ (s : List ℕ) (a : Listing) (r : List ℕ) (b : Listing) (j : ℕ) {x y : Component} (ex : x ≡ component_of s a j) (ey : y ≡ component_of r b j) (n : false ≡ not (same_name s a r b j)) where
   pub weights_differ : (to_bits binary32 x.weight ≡ to_bits binary32 y.weight → ⊥) → false ≡ same_carried (carried (component_of s a j)) (carried (component_of r b j))
@@ -146,4 +136,4 @@ module _ (s : List ℕ) (a : Listing) (r : List ℕ) (b : Listing) (j : ℕ) {x 
   weights_agree h = sym (names_agree s a r b j n ∙ rw (← ex, ← ey, eq-eqb _ _ h))
 
 pub points_ten : (s : List ℕ) (a : Listing) (j : ℕ) {x : Component} → x ≡ component_of s a j → length x.points ≡ 10
-points_ten s a j e = ap (λ (c : Component). length c.points) e ∙ ten_points s a j
+points_ten s a j e = ap (λ (c : Component). length c.points) e ∙ component_ten s a j

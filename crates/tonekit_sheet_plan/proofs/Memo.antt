@@ -1,5 +1,6 @@
 -- The planner's lists and memo: what one more of each keeps. Assumes nothing.
 use Rattle.std.proofs.Common.{ℕ, zero, suc, ◌+◌, ◌≤◌, ◌<◌, ◌≡◌, refl, sym, ◌∙◌, ap, subst, Bool, true, false, List, [], ◌∷◌, ◌++◌, map, length, get_or, length-append, arith, add-one, ltb-true, ltb-false, lt-ltb, le-ltb, ltb}
+use Rattle.std.proofs.lemmas.List.{get_or-map}
 use Rattle.std.proofs.Math.ListN.{get_or-append, length-map}
 use Rattle.std.proofs.Math.Seq.{get_or_at}
 use Rattle.std.proofs.Math.Option.{none, some}
@@ -12,7 +13,14 @@ use Rattle.tonekit_sheet_plan.specs.declared.Entry.{Entry}
 use Rattle.tonekit_sheet_plan.specs.declared.Known.{Known}
 use Rattle.tonekit_sheet_plan.specs.Listings.{carried_by, record_of, Kept}
 use Rattle.tonekit_sheet_plan.specs.Marks.{mark_of}
-use Rattle.tonekit_sheet_plan.specs.Entries.{entry_of, known_of, entry_listing, known_listing, no_entry, no_known, list_at, planned, Marked, Right, Sane, FirstPlace, Noted}
+use Rattle.tonekit_sheet_plan.specs.Entries.{entry_listing, known_listing, no_entry, no_known, list_at, planned, Marked, Right, Sane, FirstPlace, Noted}
+
+-- the list of a listing, under a mark, and what the memo says of a listing whose list has this number
+abbrev pub entry_of : Listing → ℕ → Entry
+entry_of l mark = record { at = record_of l; owner = l.name.owner; mark = mark }
+
+abbrev pub known_of : Listing → ℕ → Known
+known_of l number = record { at = record_of l; owner = l.name.owner; number = number }
 
 -- one more entry: what holds of the entries before it, and of it, holds of all
 entries_more : {A : Type 0} (d : A) (P : A → Type 0) (xs : List A) (x : A) → ((i : ℕ) → i < length xs → P (get_or xs i d)) → P x
@@ -27,17 +35,12 @@ map_more : {A B : Type 0} (f : A → B) (xs : List A) (x : A) → map f (xs ++ (
 map_more f [] x = refl
 map_more {B = B} f (y ∷ xs) x = ap (λ (r : List B). f y ∷ r) (map_more f xs x)
 
-map_at : {A B : Type 0} (f : A → B) (xs : List A) (k : ℕ) (d : A) (e : B) → k < length xs → get_or (map f xs) k e ≡ f (get_or xs k d)
-map_at f [] k d e h = absurd (omega arith)
-map_at f (x ∷ xs) zero d e h = refl
-map_at f (x ∷ xs) (suc k) d e h = map_at f xs k d e (omega arith)
-
 module _ (s : List ℕ) (lists : List Entry) where
   pub planned_length : length (planned s lists) ≡ length lists
   planned_length = length-map lists (λ e. carried_by s (entry_listing s e))
 
   pub planned_get : (i : ℕ) → i < length lists → get_or (planned s lists) i [] ≡ carried_by s (list_at s lists i)
-  planned_get i h = map_at (λ e. carried_by s (entry_listing s e)) lists i no_entry [] h
+  planned_get i h = get_or-map (λ e. carried_by s (entry_listing s e)) lists i no_entry [] h
 
   planned_more : (e : Entry) → planned s (lists ++ (e ∷ [])) ≡ planned s lists ++ (carried_by s (entry_listing s e) ∷ [])
   planned_more e = map_more (λ x. carried_by s (entry_listing s x)) lists e

@@ -3,7 +3,8 @@ use Rattle.std.proofs.Common.{ℕ, ◌+◌, ◌-◌, ◌≤◌, ◌<◌, ◌≡�
 use Rattle.tonekit_core.specs.declared.layout.TheConstants.{TONE_KNOT_COUNT, RULE_KIND, RULE_SIZE, RULE_FORM}
 use Rattle.spec_arithmetic.specs.Fields.{byte_at}
 use Rattle.spec_arithmetic.specs.Places.{index_of, number_at}
-use Rattle.spec_pack.specs.Pack.{Pst, loaded, read_pack}
+use Rattle.spec_arithmetic.specs.Files.{loaded}
+use Rattle.spec_pack.specs.Pack.{Pst, read_pack}
 use Rattle.tonekit_core.proofs.Split.{split}
 use Rattle.tonekit_pack.proofs.Loads.{RuleFine, Loads, loads, firsts_bound}
 use Rattle.std.specs.Prelude.{Some, None}
@@ -11,7 +12,7 @@ use Rattle.spec_lookup.specs.declared.Context.{Context}
 use Rattle.spec_lookup.specs.declared.Listing.{Listing}
 use Rattle.spec_lookup.specs.Lookup.{Found, Walked, to_rule, find_rule, rule_listing, citation, listed, look_at, look_up}
 use Rattle.tonekit_expect.proofs.Walk.{index_found, winner_is}
-use Rattle.tonekit_expect.proofs.Curves.{listed_fine}
+use Rattle.tonekit_expect.proofs.Curves.{listed_fine, rule_fine}
 use Rattle.tonekit_sheet_plan.specs.Listings.{record_of, listing_from, LookKept}
 
 -- found again
@@ -26,15 +27,6 @@ module _ (s : List ℕ) (st : Pst) (e : ℕ) (l : Loads s st e) (rules : (k : �
   -- one of the pack's rules, at an offset as offsets are held
   abbrev Own : ℕ → Type 0
   Own r = RuleFine s st.tones r × (r < 65536)
-
-  own : (i k : ℕ) → k < to_rule st i → Own (get_or st.rules k 0)
-  own i k h = (
-    l.kept.rules k
-        (split (ltb (i + 1) (length st.accents))
-        (λ t. let b = firsts_bound s st e l (i + 1) (ltb-true (i + 1) (length st.accents) t) in let g = rw t at h in omega (arith, b, g))
-        (λ t. rw t at h)),
-    rules k,
-  )
 
   of_rule : (owner r : ℕ) → Own r → Again s (rule_listing s owner r)
   unfolding listing_from
@@ -66,7 +58,7 @@ module _ (s : List ℕ) (st : Pst) (e : ℕ) (l : Loads s st e) (rules : (k : �
       let a = w.accent in
       let r = w.rule in
       let is : rule_listing s (number_at s (get_or st.accents a 0)) r ≡ m = cc in
-      subst (Again s) is (of_rule (number_at s (get_or st.accents a 0)) r (winner_is s st c Own own i a r hi q).1)
+      subst (Again s) is (of_rule (number_at s (get_or st.accents a 0)) r (winner_is s st c Own (λ j k h. (rule_fine s st e l j k h, rules k)) i a r hi q).1)
   of_winner m i t hi ht None q g =
       let o = get_or st.tones t 0 in
       split (eqb (byte_at s (o + TONE_KNOT_COUNT)) 0)

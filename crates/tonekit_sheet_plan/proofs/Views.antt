@@ -2,7 +2,8 @@
 use Rattle.std.proofs.Common.{ℕ, zero, suc, ◌+◌, ◌-◌, ◌≤◌, ◌<◌, ◌≡◌, refl, sym, ◌∙◌, ap, Bool, true, false, List, [], ◌∷◌, map, arith, length, length-append}
 use mathlib.Core.Option.{Option, none, some}
 use lib.ListN.{length-map}
-use Rattle.tonekit_core.specs.Loop.{turns, range, range_step}
+use Rattle.tonekit_core.specs.Loop.{turns, range}
+use Rattle.tonekit_core.proofs.LoopLaws.{range_step}
 use Rattle.spec_pack.specs.Pack.{Pst, read_pack}
 use Rattle.tonekit_pack.specs.Held.{shown}
 use Rattle.tonekit_pack.specs.declared.Pack.{Pack}

@@ -8,13 +8,6 @@ use Rattle.tonekit_sheet_plan.specs.declared.Known.{Known}
 use Rattle.tonekit_sheet_plan.specs.Listings.{carried_by, record_of, listing_from, Kept}
 use Rattle.tonekit_sheet_plan.specs.Marks.{mark_of}
 
--- the list of a listing, under a mark, and what the memo says of a listing whose list has this number
-abbrev pub entry_of : Listing → ℕ → Entry
-entry_of l mark = record { at = record_of l; owner = l.name.owner; mark = mark }
-
-abbrev pub known_of : Listing → ℕ → Known
-known_of l number = record { at = record_of l; owner = l.name.owner; number = number }
-
 -- the listing of each
 abbrev pub entry_listing : List ℕ → Entry → Listing
 entry_listing s e = listing_from s e.owner e.at

@@ -1,23 +1,21 @@
 -- The reader looks at no more than a sheet can hold: inputs with the same first 13,400 bytes give the same answer. Assumes nothing.
-use Rattle.std.proofs.Common.{ℕ, zero, suc, ◌+◌, ◌-◌, ◌*◌, ◌≤◌, ◌<◌, ◌≡◌, refl, sym, ap, ◌∙◌, Bool, true, false, ◌&&◌, ◌||◌, List, arith, length, get_or, take, eqb, leb, ltb, eqb-true, leb-true, leb-false, ltb-true, ltb-false, None}
+use Rattle.std.proofs.Common.{ℕ, zero, suc, ◌+◌, ◌-◌, ◌*◌, ◌≤◌, ◌<◌, ◌≡◌, refl, ap, ap₂, Bool, true, false, ◌&&◌, ◌||◌, List, arith, length, get_or, take, leb, ltb, leb-true, leb-false, ltb-true, ltb-false, None}
 use lib.Ieee.{Float}
-use borrow.Author.Tests.{eqb-false}
-use Rattle.tonekit_core.specs.Loop.{loop_to, loop_on}
 use Rattle.tonekit_core.proofs.LoopLaws.{range_same, to_same}
-use Rattle.tonekit_core.specs.declared.Refusal.TheVariants.{CutShort}
 use Rattle.spec_arithmetic.specs.Fields.{byte_at}
 use Rattle.tonekit_bytes.proofs.Agreeing.{Agree, taken_agrees, two, four, float}
 use Rattle.spec_arithmetic.specs.Places.{number_at}
 use Rattle.spec_pack.specs.Pack.{settings_verdict}
 use Rattle.tonekit_core.proofs.Split.{split}
-use Rattle.tonekit_pack.proofs.Turns.{by_verdict}
+use Rattle.tonekit_bytes.proofs.Files.{Alike, read_same, read_keeps, single_same}
 use Rattle.tonekit_pack.proofs.Front.{region_same, tolerances_same, holds_same, zero_or_same}
 use Rattle.spec_sheet.specs.Sheet.{accent_place, tone_place, prev_place}
-use Rattle.spec_sheet.specs.Reader.{Sst, Out, loaded, refused, rows_due, due_next, size_of, tone_verdict, accent_verdict, row_verdict, list_verdict, point_fine, point_turn, points_fine, last_list, component_verdict, body_verdict, record_verdict, added, row_at, loose_turn, loose_row, accent_turn, accent_down, prev_due, row_due, row_names, row_turn, row_wrong, names_turn, named, list_size, same_turn, same_lists, equal_turn, repeated, list_turn, list_wrong, finished, start, read_sheet, singly, load_sheet, said, check_sheet}
+use Rattle.spec_arithmetic.specs.Files.{loaded, said}
+use Rattle.spec_sheet.specs.Reader.{Sst, rows_due, due_next, size_of, tone_verdict, accent_verdict, row_verdict, list_verdict, point_fine, point_turn, points_fine, last_list, component_verdict, body_verdict, record_verdict, added, row_at, loose_turn, loose_row, accent_turn, accent_down, prev_due, row_due, row_names, row_turn, row_wrong, names_turn, named, list_size, same_turn, same_lists, equal_turn, repeated, list_turn, list_wrong, finished, sheet_reader, read_sheet, load_sheet, check_sheet}
 use Rattle.tonekit_sheet.proofs.RowPlaces.{rows_few, some_tone, row_places}
 use Rattle.tonekit_sheet.proofs.Records.{Complete, Due, due_is, settings, tone, accent, row, list, component, finish, sound, closes}
 use Rattle.tonekit_sheet_read.proofs.Reading.{after_list}
-use Rattle.tonekit_sheet.proofs.Turns.{run, run_refused, run_end, run_on, limit_idle, accepted, no_turns, finished_is}
+use Rattle.tonekit_sheet.proofs.Turns.{steady, finished_is}
 use Rattle.tonekit_sheet_read.proofs.Kept.{ListRead, Kept, kept_start, no_due, keep}
 
 -- the points of a component in both
@@ -174,50 +172,27 @@ module _ (n : ℕ) (t s : List ℕ) (a : Agree n t s) (at : ℕ) (st : Sst) (p :
     unfolding finished
     finished_same e = rw (loose_same, down_same, wrong_same, lists_same)
 
-no_turn : (s : List ℕ) (d : Out) (at : ℕ) (st : Sst) → run s d 0 at st ≡ d
-unfolding loop_to loop_on
-no_turn s d at st = refl
-
-run_same : (f n : ℕ) (t s : List ℕ) (a : Agree n t s) (d : Out) (at : ℕ) (st : Sst) → Kept s at st → 13400 ≤ n → run t d f at st ≡ run s d f at st
-run_same zero n t s a d at st p l = no_turn t d at st ∙ sym (no_turn s d at st)
-run_same (suc f) n t s a d at st p l =
-    let low = near s at st p in
-    let same = verdict_same n t s a at st p low l in
-    let here : byte_at t at ≡ byte_at s at = a.bytes at (omega arith) in
-    let count : byte_at t (at + 6) ≡ byte_at s (at + 6) = a.bytes (at + 6) (omega arith) in
-    by_verdict (record_verdict s at st)
-    (λ v. let ok = sound s at st v in
-    split (eqb (byte_at s at) 23)
-    (λ e. let k : byte_at s at ≡ 23 = eqb-true (byte_at s at) 23 e in
-    run_end t d (suc f) at st (omega arith) (same ∙ v) (here ∙ k) ∙ finished_same n t s a at st p low l (closes st k ok.due) (at + 1) ∙ sym (run_end s d (suc f) at st (omega arith) v k))
-    (λ e. let k : byte_at s at ≡ 23 → ⊥ = eqb-false (byte_at s at) 23 e in
-    let q : suc f - 1 ≡ f = omega arith in
-    rw (run_on t d (suc f) at st (omega arith) (same ∙ v) (λ x. k (sym here ∙ x)), run_on s d (suc f) at st (omega arith) v k, q, here, count)
-    (run_same f n t s a d (at + size_of (byte_at s at)) (added (byte_at s at) at (byte_at s (at + 6)) st) (keep s at st p ok.due ok.body k) l)))
-    (λ r v. run_refused t d (suc f) at st (omega arith) r (same ∙ v) ∙ sym (run_refused s d (suc f) at st (omega arith) r v))
+alike : (n : ℕ) (t s : List ℕ) → Agree n t s → 13400 ≤ n → Alike sheet_reader t s (Kept s)
+alike n t s a l =
+    record {
+      kind = λ at st p. a.bytes at (omega (arith, near s at st p));
+      verdict = λ at st p. verdict_same n t s a at st p (near s at st p) l;
+      added = λ at st p. ap₂ (λ k c. added k at c st) (a.bytes at (omega (arith, near s at st p))) (a.bytes (at + 6) (omega (arith, near s at st p)));
+      finish = λ at st p v k. finished_same n t s a at st p (near s at st p) l (closes st k (sound s at st v).due) (at + 1);
+      goes = λ at st p v k. let ok = sound s at st v in keep s at st p ok.due ok.body k;
+    }
 
 read_agrees : (n : ℕ) (t s : List ℕ) → Agree n t s → 13400 ≤ n → read_sheet t ≡ read_sheet s
-read_agrees n t s a l =
-    let d = refused CutShort 0 in
-    let m = length t + length s + 1 in
-    sym (limit_idle t d m (omega arith)) ∙ run_same m n t s a d 0 start.st (kept_start s) l ∙ limit_idle s d m (omega arith)
-
-single_agrees : (n : ℕ) (t s : List ℕ) (a : Agree n t s) (o : Out) → ((st : Sst) (e : ℕ) → o ≡ loaded st e → e < n) → singly t o ≡ singly s o
-single_agrees n t s a (loaded st e) h = rw (a.goes e (h st e refl))
-single_agrees n t s a (refused r place) h = refl
-
-run_near : (f : ℕ) (s : List ℕ) (at : ℕ) (st fin : Sst) (e : ℕ) → run s (refused CutShort (length s)) f at st ≡ loaded fin e → Kept s at st → e ≤ 13266
-run_near zero s at st fin e h p = no_turns s at st fin CutShort (length s) e h
-run_near (suc f) s at st fin e h p =
-    let a = accepted s (refused CutShort (length s)) f at st fin e h in
-    split (eqb (byte_at s at) 23)
-    (λ b. omega (arith, near s at st p, (finished_is s st (at + 1) fin e (a.ended (eqb-true (byte_at s at) 23 b))).ends))
-    (λ b. let n : byte_at s at ≡ 23 → ⊥ = eqb-false (byte_at s at) 23 b in
-    run_near f s (at + size_of (byte_at s at)) (added (byte_at s at) at (byte_at s (at + 6)) st) fin e (a.goes n) (keep s at st p a.passes.due a.passes.body n))
+unfolding read_sheet
+read_agrees n t s a l = read_same sheet_reader t s (Kept s) (alike n t s a l) steady refl (kept_start s)
 
 end_near : (s : List ℕ) (st : Sst) (e : ℕ) → read_sheet s ≡ loaded st e → e ≤ 13266
 unfolding read_sheet
-end_near s st e h = run_near (length s + 1) s 0 start.st st e h (kept_start s)
+end_near s st e h =
+    read_keeps sheet_reader s st e (Kept s)
+    (λ n at x p v k g. let ok = sound s at x v in keep s at x p ok.due ok.body k)
+    (λ at x p v k g. omega (arith, near s at x p, (finished_is s x (at + 1) st e g).ends))
+    h (kept_start s)
 
 -- what stands past the first 13,400 bytes is no matter but that it is there
 pub front_alone : (s : List ℕ) (n : ℕ) → 13400 ≤ n → load_sheet (take n s) ≡ load_sheet s
@@ -225,8 +200,4 @@ unfolding load_sheet
 front_alone s n l =
     let a = taken_agrees n s in
     rw (read_agrees n (take n s) s a l)
-    (single_agrees n (take n s) s a (read_sheet s) (λ st e h. omega (arith, end_near s st e h)))
-
-pub check_front_alone : (s : List ℕ) (n : ℕ) → 13400 ≤ n → check_sheet (take n s) ≡ check_sheet s
-unfolding check_sheet
-check_front_alone s n l = ap said (front_alone s n l)
+    (single_same (take n s) s (read_sheet s) (λ st e h. a.goes e (omega (arith, end_near s st e h))))

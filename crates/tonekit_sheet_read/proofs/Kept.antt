@@ -1,9 +1,10 @@
 -- What the reader keeps at every turn: every record read stands where the counts put it, and each list has as many components as it says. Assumes nothing.
-use Rattle.std.proofs.Common.{ℕ, ◌+◌, ◌-◌, ◌*◌, ◌≤◌, ◌<◌, ◌≡◌, refl, List, [], ◌∷◌, ◌++◌, arith, length, get_or, length-append, ltb, ltb-true, ltb-false, Ok}
+use Rattle.std.proofs.Common.{ℕ, ◌+◌, ◌-◌, ◌*◌, ◌≤◌, ◌<◌, ◌≡◌, refl, List, [], ◌∷◌, arith, length, get_or, length-append, ltb, ltb-true, ltb-false, Ok}
 use lib.ListN.{get_or-append}
-use lib.Seq.{get_or-append_seam}
 use Rattle.spec_arithmetic.specs.Fields.{byte_at}
 use Rattle.tonekit_core.proofs.Split.{split}
+use Rattle.tonekit_core.proofs.Lists.{last_snoc}
+use Rattle.tonekit_pack.proofs.Each.{last_snoc}
 use Rattle.spec_sheet.specs.Reader.{Sst, size_of, last_list, body_verdict, added, start}
 use Rattle.tonekit_sheet.proofs.Every.{every_snoc}
 use Rattle.tonekit_sheet.proofs.Records.{Complete, rows_done, list_done, Due, settings, tone, accent, row, list, component, finish, tone_room, accent_room, list_room, list_some, component_room}
@@ -47,11 +48,6 @@ kept_start s = record {
   here = λ l. absurd (omega arith);
   few_in_all = omega arith;
 }
-
-last_snoc : (os : List ℕ) (o : ℕ) → get_or (os ++ (o ∷ [])) (length (os ++ (o ∷ [])) - 1) 0 ≡ o
-last_snoc os o =
-    let q : length (os ++ (o ∷ [])) - 1 ≡ length os = simp length-append (omega arith) in
-    rw q (get_or-append_seam os o [] 0)
 
 pub no_due : {at : ℕ} {st : Sst} → Placed at st → Complete st → st.due ≡ 0
 no_due p (rows_done l e) = (p.no_lists (omega arith)).2

@@ -1,6 +1,7 @@
 -- Laws of tonekit_core's loops: a state that no turn changes, and a loop in two parts. Assumes nothing.
 use Rattle.std.proofs.Common.{ℕ, zero, suc, ◌+◌, ◌-◌, ◌≤◌, ◌<◌, ◌≡◌, refl, sym, ◌∙◌, Bool, true, false, arith}
-use Rattle.tonekit_core.specs.Loop.{turns, range, again}
+use Rattle.tonekit_core.specs.Loop.{turns, range}
+use Rattle.tonekit_core.proofs.LoopLaws.{again}
 use Rattle.tonekit_core.proofs.Split.{split}
 
 module _ {S : Type 0} (f : ℕ → S → S) where

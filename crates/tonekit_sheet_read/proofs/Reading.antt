@@ -1,11 +1,13 @@
 -- What the reader's loop keeps: from here it gives what it gives of the whole, and its place is the one that the counts give. Assumes nothing.
-use Rattle.std.proofs.Common.{ℕ, ◌+◌, ◌-◌, ◌*◌, ◌≤◌, ◌<◌, ◌≡◌, refl, List, arith, length, Result, length-append, leb, ltb, ne_eqb, leb-true, leb-false, Ok, Err}
-use Rattle.tonekit_core.specs.Loop.{loop_again, loop_stop}
-use Rattle.tonekit_core.specs.declared.Refusal.TheVariants.{CutShort}
+use Rattle.std.proofs.Common.{ℕ, ◌+◌, ◌*◌, ◌≤◌, ◌<◌, ◌≡◌, refl, List, arith, length, Result, length-append, leb, leb-true, leb-false, Ok}
+use Rattle.tonekit_core.proofs.LoopLaws.{loop_again}
 use Rattle.spec_arithmetic.specs.Fields.{byte_at}
 use Rattle.tonekit_core.proofs.Split.{split}
 use Rattle.tonekit_bytes.proofs.InOrder.{order_length}
-use Rattle.spec_sheet.specs.Reader.{Sst, refused, rows_due, size_of, added, finished, body_verdict, record_verdict, record_turn, start, read_sheet, load_sheet, check_sheet}
+use Rattle.tonekit_bytes.proofs.Files as files
+use Rattle.tonekit_pack.proofs.Reading.{answer_alone, answer_told}
+use Rattle.tonekit_sheet.proofs.Turns.{steady}
+use Rattle.spec_sheet.specs.Reader.{Sst, rows_due, size_of, added, finished, body_verdict, record_verdict, start, sheet_reader, read_sheet, load_sheet, check_sheet}
 use Rattle.tonekit_sheet_read.specs.declared.Sheet.{Sheet}
 use Rattle.tonekit_sheet_read.specs.Held.{shown, answered, Follows}
 use Rattle.tonekit_sheet_read.specs.Going.{Placed, Going}
@@ -14,7 +16,7 @@ use Rattle.tonekit_pack.specs.Format.{alone, told}
 use Rattle.tonekit_core.specs.declared.Rejection.{Rejection}
 use Rattle.tonekit_bytes.proofs.Stepped.{stepped_length}
 use Rattle.tonekit_sheet_read.proofs.Rows.{due_few}
-use Rattle.tonekit_sheet.proofs.Records.{Complete, rows_done, list_done, Due, settings, tone, accent, row, list, component, finish, Sound, sound, size_pos, tone_room, accent_room, list_room, component_room}
+use Rattle.tonekit_sheet.proofs.Records.{Complete, rows_done, list_done, Due, settings, tone, accent, row, list, component, finish, Sound, sound, tone_room, accent_room, list_room, component_room}
 
 pub placed_start : Placed 0 start.st
 placed_start = record {
@@ -178,7 +180,8 @@ module _ (s : List ℕ) (st : Sheet) (at : ℕ) (g : Going s st at) where
     ok = sound s at (shown st) v
 
     pub ends : byte_at s at ≡ 23 → finished s (shown st) (at + 1) ≡ read_sheet s
-    ends e = loop_stop (record_turn s) (refused CutShort (length s)) g.same (omega arith) (rw (v, e))
+    unfolding read_sheet
+    ends e = files.ends sheet_reader s at (shown st) g.onward v e
 
     pub follows : Follows (byte_at s at) at (byte_at s (at + 6)) st
     follows = follows_of ok.due ok.body
@@ -186,30 +189,18 @@ module _ (s : List ℕ) (st : Sheet) (at : ℕ) (g : Going s st at) where
     pub goes : (st' : Sheet) → (byte_at s at ≡ 23 → ⊥) → shown st' ≡ added (byte_at s at) at (byte_at s (at + 6)) (shown st) → Going s st' (at + size_of (byte_at s at))
     goes st' n e = record {
       placed = rw e (placed_next at (byte_at s (at + 6)) (shown st) ok.due n g.placed);
-      inside = ok.whole;
-      fuel = g.fuel - 1;
-      enough = omega (arith, size_pos (byte_at s at));
-      same = rw e (loop_again (record_turn s) (refused CutShort (length s)) g.same (omega arith) (rw (v, ne_eqb (byte_at s at) 23 n)));
+      onward = rw e (files.goes sheet_reader s at (shown st) g.onward v steady n);
     }
 
 -- before the first record
 pub begins : (s : List ℕ) (p : Sheet) → shown p ≡ start.st → Going s p 0
-unfolding read_sheet
-begins s p e = record {
-  placed = rw e placed_start;
-  inside = omega arith;
-  fuel = length s + 1;
-  enough = omega arith;
-  same = rw e refl;
-}
+begins s p e = record { placed = rw e placed_start; onward = files.begins sheet_reader refl s (shown p) e }
 
 -- an input that is one sheet, and the check of it
 pub alone_is : (s : List ℕ) (r : Result (Loaded Sheet) Rejection) → answered r ≡ read_sheet s → answered (alone (length s) r) ≡ load_sheet s
 unfolding load_sheet
-alone_is s (Ok l) e = rw (← e) (split (ltb l.end (length s)) (λ b. rw b refl) (λ b. rw b refl))
-alone_is s (Err x) e = rw (← e) refl
+alone_is s r e = answer_alone shown s r (read_sheet s) e
 
 pub told_is : (s : List ℕ) (r : Result (Loaded Sheet) Rejection) → answered r ≡ read_sheet s → told (alone (length s) r) ≡ check_sheet s
-unfolding check_sheet load_sheet
-told_is s (Ok l) e = rw (← e) (split (ltb l.end (length s)) (λ b. rw b refl) (λ b. rw b refl))
-told_is s (Err x) e = rw (← e) refl
+unfolding check_sheet
+told_is s r e = answer_told shown (alone (length s) r) (load_sheet s) (alone_is s r e)

@@ -1,6 +1,16 @@
 -- What every Sheet keeps, for lemmas that take it as one fact. Assumes nothing.
+use Rattle.std.specs.Prelude.{ℕ, ◌≤◌, ◌≡◌, length}
 use Rattle.tonekit_sheet_read.specs.declared.Sheet.{Sheet}
-use Rattle.tonekit_sheet_read.specs.Held.{Roomy}
+
+-- what every Sheet keeps: the format's limits, and the length of its array
+pub record Roomy (p : Sheet) : Type 0 where
+  pub few_tones : p.tones ≤ 8
+  pub few_accents : p.accents ≤ 8
+  pub few_rows : p.rows ≤ 576
+  pub few_lists : p.lists.count ≤ 128
+  pub few_due : p.due ≤ 4
+  pub few_in_all : p.total ≤ 192
+  pub list_slots : length p.lists.at ≡ 128
 
 pub roomy : (p : Sheet) → Roomy p
 roomy p = record {

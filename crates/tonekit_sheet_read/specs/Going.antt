@@ -1,11 +1,11 @@
 -- What the reader's loop keeps: from here it gives what it gives of the whole, and its place is the one that the counts give.
-use Rattle.std.specs.Prelude.{ℕ, ◌+◌, ◌*◌, ◌≤◌, ◌<◌, ◌≡◌, List, length, Err}
-use Rattle.std.proofs.Common.{refl, arith}
-use Rattle.tonekit_core.specs.Loop.{loop_to, loop_stop}
+use Rattle.std.specs.Prelude.{ℕ, ◌+◌, ◌*◌, ◌≤◌, ◌≡◌, List, length, Err}
+use Rattle.std.proofs.Common.{refl}
 use Rattle.tonekit_core.specs.declared.Refusal.{Refusal}
-use Rattle.tonekit_core.specs.declared.Refusal.TheVariants.{CutShort}
-use Rattle.tonekit_pack.specs.Format.{judged}
-use Rattle.spec_sheet.specs.Reader.{Sst, refused, rows_due, due_next, size_of, body_verdict, record_verdict, record_turn, read_sheet}
+use Rattle.spec_arithmetic.specs.Files.{judged, refused}
+use Rattle.tonekit_bytes.specs.Onward as onward
+use Rattle.tonekit_bytes.specs.Onward.{Onward}
+use Rattle.spec_sheet.specs.Reader.{Sst, rows_due, due_next, size_of, body_verdict, record_verdict, sheet_reader, read_sheet}
 use Rattle.tonekit_sheet_read.specs.declared.Sheet.{Sheet}
 use Rattle.tonekit_sheet_read.specs.Held.{shown}
 
@@ -27,10 +27,7 @@ pub record Placed (at : ℕ) (st : Sst) : Type 0 where
 -- from here the reader gives what it gives of the whole
 pub record Going (s : List ℕ) (st : Sheet) (at : ℕ) : Type 0 where
   pub placed : Placed at (shown st)
-  pub inside : at ≤ length s
-  pub fuel : ℕ
-  pub enough : length s < fuel + at
-  pub same : loop_to (record_turn s) (refused CutShort (length s)) fuel (record { at = at; st = shown st }) ≡ read_sheet s
+  pub onward : Onward sheet_reader s at (shown st)
 
 -- the verdict of a record is its tests in their order
 pub judges : (s : List ℕ) (o : ℕ) (st : Sst) → record_verdict s o st ≡ judged (due_next st) size_of (λ k. body_verdict k s o st) s o
@@ -39,4 +36,5 @@ judges s o st = refl
 
 -- a record that is refused ends the reading
 pub refuses : (s : List ℕ) (st : Sheet) (at : ℕ) → Going s st at → (r : Refusal) → record_verdict s at (shown st) ≡ Err r → refused r at ≡ read_sheet s
-refuses s st at g r v = loop_stop (record_turn s) (refused CutShort (length s)) g.same (omega arith) (rw v)
+unfolding read_sheet
+refuses s st at g r v = onward.refuses sheet_reader s at (shown st) g.onward r v

@@ -1,14 +1,16 @@
 -- What the reader's struct and answer stand for.
-use Rattle.std.specs.Prelude.{ℕ, ◌≤◌, ◌<◌, ◌≡◌, List, length, Result, Ok, Err}
+use Rattle.std.specs.Prelude.{ℕ, ◌≤◌, ◌<◌, ◌≡◌, List, length, Result}
 use Rattle.tonekit_core.specs.declared.Rejection.{Rejection}
 use Rattle.tonekit_core.specs.declared.layout.TheConstants.{SETTINGS_SIZE, SHEET_TONE_KIND, SHEET_TONE_SIZE, SHEET_ACCENT_KIND, SHEET_ACCENT_SIZE, SHEET_ROW_KIND}
 use Rattle.tonekit_core.specs.declared.layout.TheConstants.{SHEET_LIST_KIND, SHEET_COMPONENT_KIND}
 use Rattle.tonekit_core.specs.Layout.{sheet_tone_at, sheet_accent_at}
 use Rattle.spec_arithmetic.specs.Places.{in_order, stepped}
 use Rattle.tonekit_pack.specs.declared.Loaded.{Loaded}
+use Rattle.tonekit_pack.specs.Format.{answer}
 use Rattle.tonekit_sheet_read.specs.declared.Sheet.{Sheet}
 use Rattle.tonekit_sheet.specs.Kinds.{last_of}
-use Rattle.spec_sheet.specs.Reader.{Sst, Out, loaded, refused, read_sheet}
+use Rattle.spec_arithmetic.specs.Files.{Out, loaded}
+use Rattle.spec_sheet.specs.Reader.{Sst, read_sheet}
 
 -- tones and accents stand one behind the other, after the settings
 abbrev pub shown : Sheet → Sst
@@ -22,24 +24,8 @@ shown p = record {
   total = p.total;
 }
 
-abbrev pub answered : Result (Loaded Sheet) Rejection → Out
-answered (Ok l) = loaded (shown l.held) l.end
-answered (Err e) = refused e.why e.place
-
--- what every Sheet keeps: the format's limits, and the length of its array
-pub record Roomy (p : Sheet) : Type 0 where
-  pub few_tones : p.tones ≤ 8
-  pub few_accents : p.accents ≤ 8
-  pub few_rows : p.rows ≤ 576
-  pub few_lists : p.lists.count ≤ 128
-  pub few_due : p.due ≤ 4
-  pub few_in_all : p.total ≤ 192
-  pub list_slots : length p.lists.at ≡ 128
-
--- a sheet as its reader handed it back for these bytes, which load
-pub record ReadFrom (s : List ℕ) (p : Sheet) : Type 0 where
-  pub end : ℕ
-  pub reads : read_sheet s ≡ loaded (shown p) end
+abbrev pub answered : Result (Loaded Sheet) Rejection → Out Sst
+answered = answer shown
 
 -- the record of kind k at o, a list of so many components, may follow what was read: it stands where it is shown to, and there is room for it
 pub record Follows (k o count : ℕ) (p : Sheet) : Type 0 where

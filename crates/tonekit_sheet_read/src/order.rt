@@ -17,7 +17,7 @@ use tonekit_sheet::mix;
 const FIRST_WEIGHT: usize = layout::SHEET_LIST_SIZE + layout::SHEET_COMPONENT_WEIGHT;
 
 // A mark of the list at o, from its weights and points.
-#[tactic(auto, using(tonekit_core::specs::Loop::again, tonekit_core::specs::Loop::ended), unfolding(crate::specs::Marks::mark_at))]
+#[tactic(auto, using(tonekit_core::proofs::LoopLaws::again, tonekit_core::proofs::LoopLaws::ended), unfolding(crate::specs::Marks::mark_at))]
 fn mark_at(s: &[u8], o: usize) -> u32
     ensures { result ≡ mark_at s.now o }
 {
@@ -31,7 +31,7 @@ fn mark_at(s: &[u8], o: usize) -> u32
 
 // Whether the lists at two offsets are equal but for their numbers.
 // Stays: a byte behind the input reads as 0 on both sides; two slices with == would first have to be cut to the input, each by its own length.
-#[tactic(auto, using(tonekit_core::specs::Loop::again, tonekit_core::specs::Loop::ended, crate::proofs::Loops::settled), unfolding(spec_sheet::specs::Reader::same_lists))]
+#[tactic(auto, using(tonekit_core::proofs::LoopLaws::again, tonekit_core::proofs::LoopLaws::ended, crate::proofs::Loops::settled), unfolding(spec_sheet::specs::Reader::same_lists))]
 fn same_lists(s: &[u8], a: usize, b: usize) -> bool
     ensures { result ≡ same_lists s.now a b }
 {
@@ -47,7 +47,7 @@ fn same_lists(s: &[u8], a: usize, b: usize) -> bool
 
 // Whether one of the lists at these offsets, which have these marks, is equal to the one at o, which
 // has this mark. Lists of different marks are not compared.
-#[tactic(auto, using(tonekit_core::specs::Loop::again, tonekit_core::specs::Loop::ended, crate::proofs::Marks::marked_apart), unfolding(spec_sheet::specs::Reader::repeated))]
+#[tactic(auto, using(tonekit_core::proofs::LoopLaws::again, tonekit_core::proofs::LoopLaws::ended, crate::proofs::Marks::marked_apart), unfolding(spec_sheet::specs::Reader::repeated))]
 fn repeated(s: &[u8], lists: &[u16], marks: &[u32], o: usize, mark: u32) -> bool
     requires { (length lists.now ≡ length marks.now)
         × Marked s.now lists.now marks.now (length marks.now)
@@ -96,7 +96,7 @@ impl SheetView<'_> {
     }
 
     // The first row that names a list that is not there.
-    #[tactic(auto, using(tonekit_core::specs::Loop::to_again, tonekit_core::specs::Loop::to_ended), unfolding(spec_sheet::specs::Reader::loose_row))]
+    #[tactic(auto, using(tonekit_core::proofs::LoopLaws::to_again, tonekit_core::proofs::LoopLaws::to_ended), unfolding(spec_sheet::specs::Reader::loose_row))]
     pub fn loose_row(&self) -> Option<usize>
         ensures { result ≡ loose_row self.now.bytes.now (shown self.now.sheet) }
     {
@@ -112,7 +112,7 @@ impl SheetView<'_> {
     }
 
     // The first accent whose number is not above that of the one before it.
-    #[tactic(auto, using(tonekit_core::specs::Loop::to_again, tonekit_core::specs::Loop::to_ended, tonekit_bytes::proofs::Stepped::stepped_length, tonekit_bytes::proofs::Stepped::stepped_get), unfolding(spec_sheet::specs::Reader::accent_down))]
+    #[tactic(auto, using(tonekit_core::proofs::LoopLaws::to_again, tonekit_core::proofs::LoopLaws::to_ended, tonekit_bytes::proofs::Stepped::stepped_length, tonekit_bytes::proofs::Stepped::stepped_get), unfolding(spec_sheet::specs::Reader::accent_down))]
     pub fn accent_down(&self) -> Option<usize>
         ensures { result ≡ accent_down self.now.bytes.now (shown self.now.sheet) }
     {
@@ -177,7 +177,7 @@ impl SheetView<'_> {
     }
 
     // The first row that is not the one due, or names a list out of order. All rows are there.
-    #[tactic(auto, using(tonekit_core::specs::Loop::to_again, tonekit_core::specs::Loop::to_ended), unfolding(spec_sheet::specs::Reader::row_wrong))]
+    #[tactic(auto, using(tonekit_core::proofs::LoopLaws::to_again, tonekit_core::proofs::LoopLaws::to_ended), unfolding(spec_sheet::specs::Reader::row_wrong))]
     pub fn row_wrong(&self) -> Option<usize>
         requires { self.now.sheet.rows ≤ rows_due (shown self.now.sheet) }
         ensures { result ≡ row_wrong self.now.bytes.now (shown self.now.sheet) }
@@ -196,7 +196,7 @@ impl SheetView<'_> {
     }
 
     // The first row from a row on that names list n.
-    #[tactic(auto, using(tonekit_core::specs::Loop::again, tonekit_core::specs::Loop::ended, crate::proofs::Loops::settled))]
+    #[tactic(auto, using(tonekit_core::proofs::LoopLaws::again, tonekit_core::proofs::LoopLaws::ended, crate::proofs::Loops::settled))]
     fn use_from(&self, n: usize, from: usize) -> Option<usize>
         requires { from ≤ self.now.sheet.rows }
         ensures { IfSome result (λ r. r < self.now.sheet.rows)

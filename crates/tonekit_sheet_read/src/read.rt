@@ -16,7 +16,7 @@ use tonekit_pack::read::{in_turn, settings_verdict};
 use tonekit_sheet::{Kind, row_count};
 
 // Ten points from an offset on, each of size at most 128.
-#[tactic(auto, using(tonekit_core::specs::Loop::again, tonekit_core::specs::Loop::ended, crate::proofs::Bounds::point_within), unfolding(spec_sheet::specs::Reader::points_fine))]
+#[tactic(auto, using(tonekit_core::proofs::LoopLaws::again, tonekit_core::proofs::LoopLaws::ended, crate::proofs::Bounds::point_within), unfolding(spec_sheet::specs::Reader::points_fine))]
 fn points_fine(s: &[u8], o: usize) -> bool
     ensures { result ≡ points_fine s.now o }
 {

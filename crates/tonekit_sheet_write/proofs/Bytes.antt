@@ -1,5 +1,6 @@
 -- The pieces of a pack's sheet: from what each is written, and how long it is. Assumes nothing.
 use Rattle.std.proofs.Common.{ℕ, zero, suc, ◌+◌, ◌-◌, ◌*◌, ◌≤◌, ◌<◌, ◌≡◌, refl, sym, ◌∙◌, ap, ap₂, subst, true, false, List, [], ◌∷◌, ◌++◌, map, append_assoc, append-nil, arith, add-zero, zero-add, Float, to_bits, length, get_or, take, drop, length-append}
+use Rattle.std.proofs.lemmas.List.{get_or-map}
 use lib.Ieee.{binary32}
 use lib.ListN.{length-map}
 use lib.Seq.{sets, length-sets}
@@ -13,15 +14,16 @@ use Rattle.spec_lookup.specs.Source.{Tone, Accent, Carried, carried, components,
 use Rattle.spec_lookup.specs.declared.Component.{Component}
 use Rattle.spec_lookup.specs.declared.Context.{Context}
 use Rattle.spec_lookup.specs.declared.Listing.{Listing}
-use Rattle.tonekit_expect.proofs.Carried.{named, components_length, components_at}
-use Rattle.spec_sheet.specs.Pieces.{pieces, gather, gather_length, Wrote}
+use Rattle.tonekit_expect.proofs.Carried.{named, components_length, components_at, carried_ten}
+use Rattle.spec_sheet.specs.Pieces.{pieces, gather, Wrote}
+use Rattle.tonekit_sheet.proofs.Gather.{gather_length}
 use Rattle.spec_sheet.specs.Number.{number_in}
 use Rattle.spec_sheet.specs.Sheet.{no_carried, row_bytes, row_context, bits_bytes, component_bytes, components_bytes, list_bytes, row_piece}
+use Rattle.tonekit_sheet.proofs.Components.{bits_length, components_snoc}
 use Rattle.tonekit_sheet_plan.specs.declared.Entry.{Entry}
 use Rattle.tonekit_sheet_plan.specs.Rows.{pack_view, tones_of, accents_at, Ordered}
 use Rattle.tonekit_sheet_plan.specs.Listings.{carried_by, Kept}
 use Rattle.tonekit_sheet_plan.specs.Entries.{list_at, planned}
-use Rattle.tonekit_sheet_plan.proofs.Ascend.{map_get}
 use Rattle.tonekit_sheet_plan.proofs.Alike.{points_ten}
 use Rattle.tonekit_sheet_plan.proofs.Memo.{planned_get}
 use Rattle.tonekit_sheet_plan.proofs.Views.{view_tones, view_sorted}
@@ -49,7 +51,7 @@ module _ {A : Type 0} (of : ℕ → A) (none : A) (bytes : A → List ℕ) (os :
   made_is {xs} e =
       ap (λ (ys : List A). gather (λ i. bytes (get_or ys i none)) 0 (length ys)) e
       ∙ ap (gather (λ i. bytes (get_or (map of os) i none)) 0) (length-map os of)
-      ∙ gather_same (λ i. bytes (get_or (map of os) i none)) (λ i. bytes (of (get_or os i 0))) (length os) (λ j h. ap bytes (map_get of os j none h))
+      ∙ gather_same (λ i. bytes (get_or (map of os) i none)) (λ i. bytes (of (get_or os i 0))) (length os) (λ j h. ap bytes (get_or-map of os j 0 none h))
 
 -- ---- components
 pub bits_floats : (xs : List Float) → f32s_bytes xs ≡ bits_bytes (map (to_bits binary32) xs)
@@ -57,18 +59,9 @@ unfolding f32s_bytes bits_bytes
 bits_floats [] = refl
 bits_floats (x ∷ xs) = ap (λ (r : List ℕ). f32_bytes x ++ r) (bits_floats xs)
 
-bits_length : (xs : List ℕ) → length (bits_bytes xs) ≡ 4 * length xs
-unfolding bits_bytes
-bits_length [] = refl
-bits_length (x ∷ xs) = omega (arith, bits_length xs)
-
 module _ (s : List ℕ) (l : Listing) where
-  ten : (j : ℕ) → length (carried (component_of s l j)).points ≡ 10
-  unfolding carried
-  ten j = length-map (component_of s l j).points (to_bits binary32) ∙ points_ten s l j refl
-
   pub component_length : (j : ℕ) → length (component_piece s l j) ≡ SHEET_COMPONENT_SIZE
-  component_length j = omega (arith, bits_length (carried (component_of s l j)).points, ten j)
+  component_length j = omega (arith, bits_length (carried (component_of s l j)).points, carried_ten s l j)
 
   -- of a component that was read
   pub component_is : {c : Component} (j : ℕ) → c ≡ component_of s l j → component_bytes (carried c) ≡ component_piece s l j
@@ -90,16 +83,11 @@ module _ (f : ℕ → List ℕ) where
       ∙ sym (append_assoc (f i) (pieces f k (i + 1)) (f (i + 1 + k)))
       ∙ ap (λ (m : ℕ). (f i ++ pieces f k (i + 1)) ++ f m) (let q : i + 1 + k ≡ i + suc k = omega arith in q)
 
-bytes_snoc : (cs : List Carried) (c : Carried) → components_bytes (cs ++ (c ∷ [])) ≡ components_bytes cs ++ component_bytes c
-unfolding components_bytes
-bytes_snoc [] c = append-nil (component_bytes c)
-bytes_snoc (x ∷ cs) c = ap (λ (r : List ℕ). component_bytes x ++ r) (bytes_snoc cs c) ∙ sym (append_assoc (component_bytes x) (components_bytes cs) (component_bytes c))
-
 components_pieces : (s : List ℕ) (l : Listing) (n : ℕ) → components_bytes (components s l n) ≡ pieces (component_piece s l) n 0
 unfolding components components_bytes pieces
 components_pieces s l zero = refl
 components_pieces s l (suc n) =
-    bytes_snoc (components s l n) (carried (component_of s l n))
+    components_snoc (components s l n) (carried (component_of s l n))
     ∙ ap (λ (r : List ℕ). r ++ component_piece s l n) (components_pieces s l n)
     ∙ ap (λ (m : ℕ). pieces (component_piece s l) n 0 ++ component_piece s l m) (sym (zero-add n))
     ∙ sym (pieces_snoc (component_piece s l) n 0)

@@ -6,7 +6,8 @@ use Rattle.tonekit_bytes.proofs.InOrder.{order_length}
 use Rattle.tonekit_pack.specs.Held.{shown}
 use Rattle.tonekit_pack.specs.declared.Pack.{Pack}
 use Rattle.spec_lookup.specs.Source.{Carried, tone_at, accent_at, settings_at, source_of_pack}
-use Rattle.spec_sheet.specs.Pieces.{gather, gather_length, gather_more, gather_none, Wrote, joined, room_first, room_then}
+use Rattle.spec_sheet.specs.Pieces.{gather, Wrote}
+use Rattle.tonekit_sheet.proofs.Gather.{gather_length, gather_more, gather_none, joined, room_first, room_then}
 use Rattle.spec_sheet.specs.Sheet.{view_of, no_tone, no_accent, settings_bytes, tone_bytes, accent_bytes, row_piece, row_count, rows_of, lists_of, bytes_with, bytes_of, sheet}
 use Rattle.tonekit_sheet_plan.specs.Rows.{pack_view, Ordered}
 use Rattle.tonekit_sheet_plan.proofs.Views.{view_tones, view_sorted, view_rows}

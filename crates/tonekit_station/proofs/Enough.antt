@@ -10,7 +10,9 @@ use Rattle.tonekit_core.specs.declared.Rejection.{Rejection}
 use Rattle.spec_query.specs.declared.Query.{Query}
 use Rattle.tonekit_query.proofs.Laws.{load_reads, load_length, read_holds}
 use Rattle.tonekit_query.proofs.Enough.{load_enough}
-use Rattle.spec_pack.specs.Pack.{Out, load_pack}
+use Rattle.spec_arithmetic.specs.Files.{Out}
+use Rattle.spec_pack.specs.Pack.{Pst, load_pack}
+use Rattle.spec_arithmetic.specs.Files as files
 use Rattle.spec_pack.specs.Pack as pack
 use Rattle.spec_sheet.specs.Reader.{load_sheet}
 use Rattle.spec_sheet.specs.Reader as sheet
@@ -33,9 +35,9 @@ module _ (src : Source) (s : List ℕ) (n : ℕ) (h : 10287 ≤ n) where
 
 -- whatever the pack
 module _ (p s : List ℕ) (n : ℕ) (h : 10287 ≤ n) where
-  each_way : (o : Out) → on_pack p (take n s) o ≡ on_pack p s o
-  each_way (pack.refused r place) = refl
-  each_way (pack.loaded st e) = judgement_enough (source_of_pack p st) s n h
+  each_way : (o : Out Pst) → on_pack p (take n s) o ≡ on_pack p s o
+  each_way (files.refused r place) = refl
+  each_way (files.loaded st e) = judgement_enough (source_of_pack p st) s n h
 
   pub judge_enough : judge_outcome p (take n s) ≡ judge_outcome p s
   unfolding judge_outcome
@@ -43,9 +45,9 @@ module _ (p s : List ℕ) (n : ℕ) (h : 10287 ≤ n) where
 
 -- whatever the sheet
 module _ (p s : List ℕ) (n : ℕ) (h : 10287 ≤ n) where
-  sheet_way : (o : sheet.Out) → on_sheet p (take n s) o ≡ on_sheet p s o
-  sheet_way (sheet.refused r place) = refl
-  sheet_way (sheet.loaded st e) = judgement_enough (source_of_sheet p st) s n h
+  sheet_way : (o : files.Out sheet.Sst) → on_sheet p (take n s) o ≡ on_sheet p s o
+  sheet_way (files.refused r place) = refl
+  sheet_way (files.loaded st e) = judgement_enough (source_of_sheet p st) s n h
 
   pub judge_sheet_enough : judge_sheet_outcome p (take n s) ≡ judge_sheet_outcome p s
   unfolding judge_sheet_outcome

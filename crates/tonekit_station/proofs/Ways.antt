@@ -9,6 +9,7 @@ use Rattle.spec_query.specs.Query.{load_query, frames_of}
 use Rattle.spec_query.specs.declared.Query.{Query}
 use Rattle.tonekit_core.proofs.Split.{split}
 use Rattle.spec_pack.specs.Pack.{load_pack}
+use Rattle.spec_arithmetic.specs.Files as files
 use Rattle.spec_pack.specs.Pack as pack
 use Rattle.spec_sheet.specs.Reader.{load_sheet}
 use Rattle.spec_sheet.specs.Reader as sheet
@@ -73,17 +74,17 @@ query_bad src s r e = rw e
 
 -- what a pack or a sheet holds is judged as its call says
 module _ (p s : List ℕ) where
-  by_pack : (o : pack.Out) → on_held (of-pack.source_or p o) s ≡ on_pack p s o
-  by_pack (pack.refused r place) = refl
-  by_pack (pack.loaded st e) = refl
+  by_pack : (o : files.Out pack.Pst) → on_held (of-pack.source_or p o) s ≡ on_pack p s o
+  by_pack (files.refused r place) = refl
+  by_pack (files.loaded st e) = refl
 
   pub pack_held : on_held (of-pack.load_source p) s ≡ judge_outcome p s
   unfolding judge_outcome
   pack_held = by_pack (load_pack p)
 
-  by_sheet : (o : sheet.Out) → on_held (of-sheet.source_or p o) s ≡ on_sheet p s o
-  by_sheet (sheet.refused r place) = refl
-  by_sheet (sheet.loaded st e) = refl
+  by_sheet : (o : files.Out sheet.Sst) → on_held (of-sheet.source_or p o) s ≡ on_sheet p s o
+  by_sheet (files.refused r place) = refl
+  by_sheet (files.loaded st e) = refl
 
   pub sheet_held : on_held (of-sheet.load_source p) s ≡ judge_sheet_outcome p s
   unfolding judge_sheet_outcome

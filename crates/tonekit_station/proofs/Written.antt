@@ -7,7 +7,9 @@ use Rattle.tonekit_core.specs.declared.Refusal.{Refusal}
 use Rattle.tonekit_core.specs.declared.Rejection.{Rejection}
 use Rattle.spec_query.specs.Query.{load_query, frames_of}
 use Rattle.spec_query.specs.declared.Query.{Query}
-use Rattle.spec_pack.specs.Pack.{Out, load_pack}
+use Rattle.spec_arithmetic.specs.Files.{Out}
+use Rattle.spec_pack.specs.Pack.{Pst, load_pack}
+use Rattle.spec_arithmetic.specs.Files as files
 use Rattle.spec_pack.specs.Pack as pack
 use Rattle.spec_sheet.specs.Reader.{load_sheet}
 use Rattle.spec_sheet.specs.Reader as sheet
@@ -62,13 +64,13 @@ module _ (P : List ℕ → Type 0) (records : Records P) where
   held_writes (Err e) s = tt
   held_writes (Ok src) s = judgement_writes src s
 
-  pack_writes : (p s : List ℕ) (o : Out) → Writes P (on_pack p s o)
-  pack_writes p s (pack.refused r place) = tt
-  pack_writes p s (pack.loaded st e) = judgement_writes (source_of_pack p st) s
+  pack_writes : (p s : List ℕ) (o : Out Pst) → Writes P (on_pack p s o)
+  pack_writes p s (files.refused r place) = tt
+  pack_writes p s (files.loaded st e) = judgement_writes (source_of_pack p st) s
 
-  sheet_writes : (p s : List ℕ) (o : sheet.Out) → Writes P (on_sheet p s o)
-  sheet_writes p s (sheet.refused r place) = tt
-  sheet_writes p s (sheet.loaded st e) = judgement_writes (source_of_sheet p st) s
+  sheet_writes : (p s : List ℕ) (o : files.Out sheet.Sst) → Writes P (on_sheet p s o)
+  sheet_writes p s (files.refused r place) = tt
+  sheet_writes p s (files.loaded st e) = judgement_writes (source_of_sheet p st) s
 
   pub judge_writes : (p s : List ℕ) → Writes P (judge_outcome p s)
   unfolding judge_outcome

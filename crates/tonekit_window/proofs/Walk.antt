@@ -2,7 +2,8 @@
 use Rattle.std.proofs.Common.{ℕ, zero, suc, ◌+◌, ◌-◌, ◌^◌, ◌≤◌, ◌<◌, zero-le, ◌≡◌, refl, sym, ◌∙◌, ap, subst, ◌⊎◌, inl, inr, Bool, true, false, true≢false, cond, List, add-zero, arith, T, lit≤, Float, is_nan}
 use lib.Ieee.{binary64, add, le, lt, of_int, of_bits}
 use lib.Ieee.Scale.{finite}
-use Rattle.tonekit_core.specs.Loop.{while, while_again, while_ended, while_out}
+use Rattle.tonekit_core.specs.Loop.{while}
+use Rattle.tonekit_core.proofs.LoopLaws.{while_again, while_ended, while_out, while_ends}
 use Rattle.spec_arithmetic.specs.Pick.{lesser}
 use Rattle.spec_arithmetic.specs.Whole.{whole_part}
 use Rattle.tonekit_float.proofs.Order.{le_trans_float, le_refl_finite, le→not-lt}
@@ -11,7 +12,6 @@ use Rattle.tonekit_float.proofs.Exact.{whole_worth, whole_le, whole_add}
 use Rattle.tonekit_float.proofs.Whole.{part_le}
 use Rattle.tonekit_float.proofs.Nans.{finite_number}
 use Rattle.tonekit_float.proofs.Picked.{lesser_finite, le_lesser}
-use Rattle.tonekit_core.proofs.LoopLaws.{while_ends}
 use Rattle.spec_arithmetic.specs.Position.{whole64}
 use Rattle.spec_shape.specs.Chao.{one64}
 use Rattle.spec_shape.specs.declared.Sweep.{Sweep}

@@ -218,7 +218,7 @@ pub fn contour_at(values: &[f64], k: usize) -> f32
 }
 
 // How many of the part's frames in a range are voiced.
-#[tactic(auto, using(tonekit_core::specs::Loop::again, tonekit_core::specs::Loop::ended))]
+#[tactic(auto, using(tonekit_core::proofs::LoopLaws::again, tonekit_core::proofs::LoopLaws::ended))]
 fn voiced_in(frames: Frames<'_>, within: FrameRange) -> usize
     requires { within.to < 1024 }
     ensures { result ≡ voiced_in frames.entry.bytes.now frames.entry.first within.from within.to }

@@ -1,6 +1,7 @@
 -- `replay` meets its contract: what is left of the vectors, from here, gives what all give.
 use Rattle.std.proofs.Common.{◌+◌, drop, sym, ap, ◌∙◌, arith, rules}
-use Rattle.tonekit_core.specs.Loop.{fold, fold_step, fold_done}
+use Rattle.tonekit_core.specs.Loop.{fold}
+use Rattle.tonekit_core.proofs.LoopLaws.{fold_step, fold_done}
 use Rattle.arithmetic_vectors.specs.declared.Count.{Count}
 use Rattle.arithmetic_vectors.specs.Replay.{tally, replayed}
 use Rattle.arithmetic_vectors.proofs.replay.Goals as goal

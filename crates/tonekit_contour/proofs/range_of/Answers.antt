@@ -3,7 +3,7 @@ use Rattle.std.proofs.Common.{◌≡◌, ◌∙◌, sym, ap, map, get_or, rules,
 use Rattle.std.proofs.lemmas.List.{get_or-map}
 use Rattle.std.specs.Float.{nan}
 use lib.Ieee.{sub}
-use Rattle.tonekit_core.specs.Loop.{again, ended}
+use Rattle.tonekit_core.proofs.LoopLaws.{again, ended}
 use Rattle.spec_arithmetic.specs.Pick.{lesser, greater}
 use Rattle.spec_shape.specs.Range.{range_in}
 use Rattle.tonekit_contour.proofs.range_of.Goals as goal

@@ -1,5 +1,5 @@
 use Rattle.std.proofs.Common.{refl, sym}
-use Rattle.tonekit_core.specs.Loop.{again, ended}
+use Rattle.tonekit_core.proofs.LoopLaws.{again, ended}
 use Rattle.tonekit_expect.proofs.best_among.Goals as goal
 
 pub loop-k-preserved : goal.loop-k-preserved

@@ -1,5 +1,6 @@
 use Rattle.std.proofs.Common.{arith, refl, sym, ◌∙◌, ◌+◌, ◌-◌, ◌≡◌}
-use Rattle.tonekit_core.specs.Loop.{loop_again as onward, loop_stop}
+use Rattle.tonekit_core.specs.Loop.{loop_stop}
+use Rattle.tonekit_core.proofs.LoopLaws.{loop_again as onward}
 use Rattle.spec_lookup.specs.Lookup.{find_rule}
 use Rattle.tonekit_bytes.proofs.InOrder.{order_length}
 use Rattle.tonekit_expect.proofs.Walk.{index_found, climb_hit, climb_top, climb_on, loop_out}

@@ -1,6 +1,7 @@
 use Rattle.std.proofs.Common.{◌≡◌, ◌+◌, ◌-◌, ◌*◌, sym, ◌∙◌, arith}
 use Rattle.spec_pack.specs.Pack.{parts_from}
-use Rattle.tonekit_expect.proofs.Parts.{parts_hit, parts_miss, parts_none}
+use Rattle.tonekit_pack.proofs.Loads.{parts_miss, parts_none}
+use Rattle.tonekit_expect.proofs.Parts.{parts_hit}
 use Rattle.tonekit_expect.proofs.parts_from.Goals as goal
 
 pub loop-n-preserved : goal.loop-n-preserved

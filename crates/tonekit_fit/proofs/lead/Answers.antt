@@ -1,6 +1,6 @@
 -- A column that determines nothing ends the loop.
 use Rattle.std.proofs.Common.{rules}
-use Rattle.tonekit_core.specs.Loop.{to_stop}
+use Rattle.tonekit_core.proofs.LoopLaws.{to_stop}
 use Rattle.tonekit_fit.proofs.lead.Goals as goal
 
 pub returns-then-abs : goal.returns-then-abs

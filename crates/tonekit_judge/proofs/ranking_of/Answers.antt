@@ -1,6 +1,6 @@
 -- `ranking_of` meets its contract: a turn of the loop is a turn of the ranking, and the top stays a tone.
 use Rattle.std.proofs.Common.{rules, refl, ◌<◌, length}
-use Rattle.tonekit_core.specs.Loop.{again, ended}
+use Rattle.tonekit_core.proofs.LoopLaws.{again, ended}
 use Rattle.spec_judgement.specs.declared.Lead.{Lead}
 use Rattle.spec_judgement.specs.Judge.{rank_turn, ranking_of, ranked}
 use Rattle.tonekit_judge.proofs.Cells.{led_keeps}

@@ -1,5 +1,6 @@
 use Rattle.std.proofs.Common.{rules, ℕ, ◌+◌, ◌≡◌, ◌∙◌, ap, Ok, Err, arith}
-use Rattle.tonekit_core.specs.Loop.{next, to_again, to_stop, to_ended}
+use Rattle.tonekit_core.specs.Loop.{next}
+use Rattle.tonekit_core.proofs.LoopLaws.{to_again, to_stop, to_ended}
 use Rattle.spec_query.specs.Query.{end_of, frame_turn, fields_of}
 use Rattle.tonekit_query.proofs.read_frames.Goals as goal
 

@@ -1,6 +1,6 @@
 -- `squares_of` meets its contract: a turn of the loop is a turn of the sums.
 use Rattle.std.proofs.Common.{rules}
-use Rattle.tonekit_core.specs.Loop.{again, ended}
+use Rattle.tonekit_core.proofs.LoopLaws.{again, ended}
 use Rattle.spec_judgement.specs.Score.{squares_of}
 use Rattle.tonekit_score.proofs.squares_of.Goals as goal
 

@@ -1,5 +1,5 @@
 use Rattle.std.proofs.Common.{rules}
-use Rattle.tonekit_core.specs.Loop.{ended}
+use Rattle.tonekit_core.proofs.LoopLaws.{ended}
 use Rattle.spec_shape.specs.Extract.{confidence}
 use Rattle.tonekit_shape.proofs.confidence_of.Goals as goal
 

@@ -1,6 +1,6 @@
 use Rattle.std.proofs.Common.{ap, rules, Float}
 use lib.Ieee.{binary32, div}
-use Rattle.tonekit_core.specs.Loop.{ended}
+use Rattle.tonekit_core.proofs.LoopLaws.{ended}
 use Rattle.spec_shape.specs.Extract.{ten32, mean_of}
 use Rattle.tonekit_shape.proofs.mean_of.Goals as goal
 

@@ -1,6 +1,6 @@
 -- `main_weight` meets its contract: what is left of the loop, from here, gives what the whole gives.
 use Rattle.std.proofs.Common.{sym, ap, rules}
-use Rattle.tonekit_core.specs.Loop.{again, ended}
+use Rattle.tonekit_core.proofs.LoopLaws.{again, ended}
 use Rattle.std.specs.Float.{binary32}
 use Rattle.std.specs.Float.Ieee.{sub, add}
 use Rattle.spec_judgement.specs.Target.{one32, main_weight}

@@ -1,6 +1,6 @@
 -- `weights_fine` meets its contract: what is left of the loop, from here, gives what the whole gives.
 use Rattle.std.proofs.Common.{rules}
-use Rattle.tonekit_core.specs.Loop.{again, ended}
+use Rattle.tonekit_core.proofs.LoopLaws.{again, ended}
 use Rattle.spec_judgement.specs.Target.{weights_fine}
 use Rattle.tonekit_target.proofs.weights_fine.Goals as goal
 

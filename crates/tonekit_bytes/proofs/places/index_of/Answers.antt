@@ -1,5 +1,5 @@
 use Rattle.std.proofs.Common.{refl, eq-eqb, ne_eqb}
-use Rattle.tonekit_core.specs.Loop.{to_again, to_stop, to_ended}
+use Rattle.tonekit_core.proofs.LoopLaws.{to_again, to_stop, to_ended}
 use Rattle.spec_arithmetic.specs.Places.{index_of}
 use Rattle.tonekit_bytes.proofs.places.index_of.Goals as goal
 

@@ -1,6 +1,6 @@
 -- `over_voiced` meets its contract, for each function that the step computes.
 use Rattle.std.proofs.Common.{refl, sym, ◌∙◌, arith, rules}
-use Rattle.tonekit_core.specs.Loop.{again, ended}
+use Rattle.tonekit_core.proofs.LoopLaws.{again, ended}
 use Rattle.tonekit_fit.proofs.Part.over_voiced.Goals as goal
 use Rattle.tonekit_fit.proofs.Part.over_voiced.Goals.{else-voiced, then-voiced}
 

@@ -1,6 +1,6 @@
 -- `logliks` meets its contract: a turn of the loop is a turn of the definition.
 use Rattle.std.proofs.Common.{rules, refl}
-use Rattle.tonekit_core.specs.Loop.{again, ended}
+use Rattle.tonekit_core.proofs.LoopLaws.{again, ended}
 use Rattle.spec_judgement.specs.Judge.{logliks}
 use Rattle.tonekit_judge.proofs.Components.logliks.Goals as goal
 

@@ -1,6 +1,6 @@
 -- `mixed_terms` meets its contract: a turn of the loop is a turn of the mixture, whether its term counts or not.
 use Rattle.std.proofs.Common.{rules, ◌+◌, ◌*◌, Option, refl, sym, ap, ◌∙◌}
-use Rattle.tonekit_core.specs.Loop.{again, ended}
+use Rattle.tonekit_core.proofs.LoopLaws.{again, ended}
 use Rattle.spec_judgement.specs.Score.{mixed}
 use Rattle.spec_judgement.specs.declared.Term.{Term}
 use Rattle.spec_judgement.specs.Judge.{cell}

@@ -1,6 +1,6 @@
 -- `target_mixing` meets its contract: a turn of the loop is a turn of the mixture.
 use Rattle.std.proofs.Common.{rules, refl}
-use Rattle.tonekit_core.specs.Loop.{again, ended}
+use Rattle.tonekit_core.proofs.LoopLaws.{again, ended}
 use Rattle.spec_judgement.specs.Judge.{target_mixing}
 use Rattle.tonekit_judge.proofs.Components.target_mixing.Goals as goal
 

@@ -1,6 +1,7 @@
 -- What the reader handed back was read from the bytes.
 use Rattle.std.proofs.Common.{◌≡◌, sym, ap, ◌∙◌}
-use Rattle.spec_sheet.specs.Reader.{loaded, load_sheet}
+use Rattle.spec_arithmetic.specs.Files.{loaded}
+use Rattle.spec_sheet.specs.Reader.{load_sheet}
 use Rattle.tonekit_sheet.proofs.Turns.{loads_alone}
 use Rattle.tonekit_sheet_read.specs.Held.{shown, answered}
 use Rattle.tonekit_sheet_inventory.specs.Look.{sheet_in}

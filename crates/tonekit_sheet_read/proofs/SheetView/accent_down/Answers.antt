@@ -1,6 +1,6 @@
 -- The search stops at an accent whose number is not above that of the one before it. Assumes nothing.
 use Rattle.std.proofs.Common.{le-ltb, arith, ◌+◌, ◌*◌}
-use Rattle.tonekit_core.specs.Loop.{to_stop}
+use Rattle.tonekit_core.proofs.LoopLaws.{to_stop}
 use Rattle.tonekit_bytes.proofs.Stepped.{stepped_length, stepped_get}
 use Rattle.tonekit_sheet_read.proofs.SheetView.accent_down.Goals as goal
 

@@ -3,7 +3,7 @@ use Rattle.std.proofs.Common.{sym, ap, ◌∙◌, arith, length, length-append, 
 use Rattle.std.proofs.lemmas.List.{length-take-le}
 use Rattle.tonekit_bytes.proofs.InOrder.{order_length}
 use Rattle.spec_sheet.specs.Reader.{list_wrong}
-use Rattle.tonekit_core.specs.Loop.{to_again, to_stop, to_ended}
+use Rattle.tonekit_core.proofs.LoopLaws.{to_again, to_stop, to_ended}
 use Rattle.tonekit_sheet_read.specs.Held.{shown}
 use Rattle.tonekit_sheet_read.proofs.Lists.{list_turn_at}
 use Rattle.tonekit_sheet_read.proofs.Marks.{marked_more, marked_part}

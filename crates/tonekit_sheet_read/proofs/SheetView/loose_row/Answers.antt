@@ -1,5 +1,5 @@
 -- The search stops at a row that names a list that is not there. Assumes nothing.
-use Rattle.tonekit_core.specs.Loop.{to_stop}
+use Rattle.tonekit_core.proofs.LoopLaws.{to_stop}
 use Rattle.tonekit_sheet_read.proofs.SheetView.loose_row.Goals as goal
 
 pub returns-then-not-not_final-last : goal.returns-then-not-not_final-last

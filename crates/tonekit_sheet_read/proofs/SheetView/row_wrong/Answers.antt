@@ -1,5 +1,5 @@
 -- The search stops at a row that is not the one due, or names a list out of order. Assumes nothing.
-use Rattle.tonekit_core.specs.Loop.{to_stop}
+use Rattle.tonekit_core.proofs.LoopLaws.{to_stop}
 use Rattle.tonekit_sheet_read.proofs.SheetView.row_wrong.Goals as goal
 
 pub returns-then-not-row_due-row_names : goal.returns-then-not-row_due-row_names

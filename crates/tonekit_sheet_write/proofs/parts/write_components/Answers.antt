@@ -1,5 +1,5 @@
 use Rattle.std.proofs.Common.{rules, ◌<◌, arith}
-use Rattle.spec_sheet.specs.Pieces.{write_begun, write_room, write_next, write_ended}
+use Rattle.tonekit_sheet.proofs.Gather.{write_begun, write_room, write_next, write_ended}
 use Rattle.tonekit_sheet_write.proofs.Bytes.{component_length}
 use Rattle.tonekit_sheet_write.proofs.parts.write_components.Goals as goal
 use Rattle.tonekit_sheet_write.proofs.parts.write_components.Goals.{In-loop-j}

@@ -1,5 +1,5 @@
 use Rattle.std.proofs.Common.{◌≡◌}
-use Rattle.spec_sheet.specs.Pieces.{Writing}
+use Rattle.tonekit_sheet.proofs.Gather.{Writing}
 use Rattle.tonekit_sheet_write.specs.Pieces.{component_piece, components_part}
 use Rattle.tonekit_sheet_write.proofs.parts.write_components.Given as goal
 

@@ -1,5 +1,5 @@
 use Rattle.std.proofs.Common.{subst, List, ℕ}
-use Rattle.spec_sheet.specs.Pieces.{joined, room_then}
+use Rattle.tonekit_sheet.proofs.Gather.{joined, room_then}
 use Rattle.tonekit_sheet_plan.specs.Listings.{Kept}
 use Rattle.tonekit_sheet_write.specs.Pieces.{components_part}
 use Rattle.tonekit_sheet_write.proofs.Bytes.{wrote_as, list_is, list_room}

@@ -1,5 +1,5 @@
 use Rattle.std.proofs.Common.{arith, ◌<◌, length}
-use Rattle.spec_sheet.specs.Pieces.{write_begun, write_room, write_next, write_ended}
+use Rattle.tonekit_sheet.proofs.Gather.{write_begun, write_room, write_next, write_ended}
 use Rattle.tonekit_sheet_plan.proofs.Memo.{planned_length}
 use Rattle.tonekit_sheet_write.proofs.parts.write_lists.Goals as goal
 use Rattle.tonekit_sheet_write.proofs.parts.write_lists.Goals.{In-loop-i}

@@ -1,5 +1,5 @@
 use Rattle.std.proofs.Common.{length}
-use Rattle.spec_sheet.specs.Pieces.{Writing}
+use Rattle.tonekit_sheet.proofs.Gather.{Writing}
 use Rattle.tonekit_sheet_plan.specs.Plans.{planned_by}
 use Rattle.tonekit_sheet_write.specs.Pieces.{planned_list, lists_part}
 use Rattle.tonekit_sheet_write.proofs.parts.write_lists.Given as goal

@@ -1,5 +1,5 @@
 use Rattle.std.proofs.Common.{ap}
-use Rattle.spec_sheet.specs.Pieces.{write_room, write_next, write_ended}
+use Rattle.tonekit_sheet.proofs.Gather.{write_room, write_next, write_ended}
 use Rattle.tonekit_sheet_write.proofs.Bytes.{wrote_as}
 use Rattle.tonekit_sheet_write.proofs.parts.write_records.Goals as goal
 

@@ -1,5 +1,5 @@
 use Rattle.std.proofs.Common.{get_or, length}
-use Rattle.spec_sheet.specs.Pieces.{Writing}
+use Rattle.tonekit_sheet.proofs.Gather.{Writing}
 use Rattle.tonekit_sheet_write.specs.Pieces.{records_part}
 use Rattle.tonekit_sheet_write.proofs.parts.write_records.Given as goal
 

@@ -1,5 +1,5 @@
 use Rattle.std.proofs.Common.{◌<◌, arith}
-use Rattle.spec_sheet.specs.Pieces.{write_begun, write_room, write_next, write_ended}
+use Rattle.tonekit_sheet.proofs.Gather.{write_begun, write_room, write_next, write_ended}
 use Rattle.spec_sheet.specs.Sheet.{row_count}
 use Rattle.tonekit_sheet_write.proofs.parts.write_rows.Goals as goal
 use Rattle.tonekit_sheet_write.proofs.parts.write_rows.Goals.{In-loop-i}

@@ -1,5 +1,5 @@
 use Rattle.std.proofs.Common.{◌≡◌}
-use Rattle.spec_sheet.specs.Pieces.{Writing}
+use Rattle.tonekit_sheet.proofs.Gather.{Writing}
 use Rattle.spec_sheet.specs.Sheet.{row_count}
 use Rattle.tonekit_sheet_write.specs.Drafts.{row_of, rows_of}
 use Rattle.tonekit_sheet_write.proofs.parts.write_rows.Given as goal

@@ -1,6 +1,7 @@
 -- What the reader handed back was read from the bytes.
 use Rattle.std.proofs.Common.{◌≡◌, sym, ap, ◌∙◌}
-use Rattle.spec_pack.specs.Pack.{loaded, load_pack}
+use Rattle.spec_arithmetic.specs.Files.{loaded}
+use Rattle.spec_pack.specs.Pack.{load_pack}
 use Rattle.tonekit_pack.specs.Held.{shown, answered}
 use Rattle.tonekit_pack.proofs.Single.{loads_alone}
 use Rattle.tonekit_inventory.specs.OfPack.{pack_in}
