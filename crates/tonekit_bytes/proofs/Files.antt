@@ -2,7 +2,8 @@
 -- in which records say the same are read the same, and what a single file is. Assumes nothing.
 use Rattle.std.proofs.Common.{ℕ, zero, suc, ◌+◌, ◌-◌, ◌≤◌, ◌<◌, ◌≡◌, refl, sym, ◌∙◌, Bool, true, List, arith, length, eqb, leb, ltb, ne_eqb, eqb-true, eq-eqb, leb-false, ltb-false}
 use borrow.Author.Tests.{eqb-false}
-use Rattle.tonekit_core.specs.Loop.{loop_to, loop_on, loop_again, loop_stop}
+use Rattle.tonekit_core.specs.Loop.{loop_to, loop_on, loop_stop}
+use Rattle.tonekit_core.proofs.LoopLaws.{loop_again}
 use Rattle.tonekit_core.specs.declared.Refusal.{Refusal}
 use Rattle.tonekit_core.specs.declared.Refusal.TheVariants.{Misplaced, CutShort, Overrun}
 use Rattle.std.specs.Prelude.{Result, Ok, Err}
