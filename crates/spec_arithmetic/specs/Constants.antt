@@ -42,10 +42,3 @@ ROOT2 = from_bits binary64 0x3FF6_A09E_667F_3BCD
 -- 708
 abbrev pub bound : Float
 bound = from_bits binary64 0x4086_2000_0000_0000
-
--- 2 ^ 54, and the least f64 that is not subnormal
-abbrev pub scale : Float
-scale = from_bits binary64 0x4350_0000_0000_0000
-
-abbrev pub least : Float
-least = from_bits binary64 0x0010_0000_0000_0000

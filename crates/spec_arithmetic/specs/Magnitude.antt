@@ -1,17 +1,11 @@
 -- The Rust's `abs`, and its `total_cmp` among what `abs` gives.
-use Rattle.std.specs.Prelude.{Bool, true, false, not, ◌&&◌, ◌||◌, is_nan, Float}
-use Rattle.std.specs.Float.{nan, inf, fin, float_with_sign}
+use Rattle.std.specs.Prelude.{Bool, false, not, ◌&&◌, ◌||◌, is_nan, Float}
+use Rattle.std.specs.Float.{float_with_sign}
 use Rattle.std.specs.Float.Ieee.{le}
 
 -- `x.abs()`: the sign cleared, that of a zero too
 abbrev pub magnitude : Float → Float
 magnitude = float_with_sign false
-
--- a value whose sign is clear, or the NaN
-abbrev pub clear : Float → Bool
-clear nan = true
-clear (inf s) = not s
-clear (fin s m e) = not s
 
 -- `a.total_cmp(&b)` is not `Greater`, for a and b whose sign bit is clear: there a NaN is above infinity, and the order of the rest is that of numbers
 unfoldable pub total_le : Float → Float → Bool

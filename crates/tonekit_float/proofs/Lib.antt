@@ -1,3 +1,4 @@
+pub mod Fraction
 pub mod Order
 pub mod Nans
 pub mod Monotone

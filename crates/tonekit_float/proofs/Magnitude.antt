@@ -1,10 +1,10 @@
 -- What magnitudes are, and their patterns.
-use Rattle.std.proofs.Common.{ℕ, zero, suc, ◌<◌, Bool, true, false, T, ℤ, arith, Float, to_bits}
+use Rattle.std.proofs.Common.{not, ℕ, zero, suc, ◌<◌, Bool, true, false, T, ℤ, arith, Float, to_bits}
 use lib.Ieee.{Format, nan, inf, fin, top, fits}
 use lib.Ieee.Bits.{to_bits-lt}
 use Rattle.std.specs.Float.{float_with_sign}
-use Rattle.spec_arithmetic.specs.Magnitude.{magnitude, clear}
-use Rattle.spec_arithmetic.specs.Bounds.{Within}
+use Rattle.spec_arithmetic.specs.Magnitude.{magnitude}
+use Rattle.tonekit_float.proofs.Fraction.{Within}
 use Rattle.tonekit_float.proofs.Units.{to_bits_is}
 
 -- a format holds a value with either sign
@@ -12,6 +12,12 @@ fits_sign : (f : Format) (s t : Bool) (m : ℕ) (e : ℤ) → T (fits f (fin s m
 unfolding fits
 fits_sign f s t zero e h = h
 fits_sign f s t (suc m) e h = h
+
+-- a value whose sign is clear, or the NaN
+abbrev pub clear : Float → Bool
+clear nan = true
+clear (inf s) = not s
+clear (fin s m e) = not s
 
 -- with the sign clear the pattern is below the sign's weight
 pub clear_lt : (f : Format) (m : ℕ) (e : ℤ) → T (fits f (fin false m e)) → to_bits f (fin false m e) < top f

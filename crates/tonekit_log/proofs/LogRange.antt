@@ -7,8 +7,8 @@ use lib.Ieee.Fits.{and_l, and_r}
 use lib.Ieee.Order.{round_mono}
 use lib.Ieee.Positive.{den, den_pos}
 use lib.Ieee.Scale.{finite}
-use Rattle.spec_arithmetic.specs.Bounds as bounds
-use Rattle.spec_arithmetic.specs.Bounds.{In, Within, plus}
+use Rattle.spec_arithmetic.specs.Bounds.{In}
+use Rattle.tonekit_float.proofs.Fraction.{Within, pos_part, neg_part}
 use Rattle.tonekit_float.proofs.Units.{size_gt}
 use Rattle.tonekit_float.proofs.Order.{yes, le→under, neg_le, lt→le, not-lt→le, le_refl_finite, le_trans_float}
 use Rattle.tonekit_float.proofs.Monotone.{zero_f, mul_le_left, mul_comm_float, div_rounds, plus_pos}
@@ -19,9 +19,9 @@ use Rattle.tonekit_float.proofs.Patterns.{units_in, units_pos, units_lt}
 use Rattle.tonekit_float.proofs.Signs as signs
 use Rattle.spec_arithmetic.specs.declared.Parts.{Parts}
 use Rattle.spec_arithmetic.specs.Constants.{LN2, LOG2E, ROOT2, half, one64, two}
-use Rattle.spec_arithmetic.specs.Log.{recip, steps, ratio, series, parts_of, centred, ln_at, log2_at, log_by}
+use Rattle.spec_arithmetic.specs.Log.{recip, log_horner, series, parts_of, centred, log_by}
 use Rattle.tonekit_log.proofs.Powers.{minus_is, from_above}
-use Rattle.tonekit_log.proofs.LogCases.{number_is}
+use Rattle.tonekit_log.proofs.LogCases.{number_is, ln_at, log2_at}
 
 at_itself : (x : Float) → T (finite x) → In x x x
 at_itself x f = record { low = le_refl_finite x f; high = le_refl_finite x f }
@@ -76,8 +76,8 @@ in_quotient x y h k =
     let R = div_rounds binary64 x y X P in
     let b = le→under divisor y tt Y k.low in
     record {
-      low = rounds_over binary64 (div binary64 x y) minus_quarter _ _ _ D quarter_fits.1 tt R (quotient_down (plus x) (bounds.minus x) (den x) (plus y) (bounds.minus y) (den y) (le→under below1 x tt X h.low) b);
-      high = rounds_under binary64 (div binary64 x y) quarter _ _ _ D quarter_fits.0 tt R (quotient_up (plus x) (bounds.minus x) (den x) (plus y) (bounds.minus y) (den y) (le→under x above1 X tt h.high) b);
+      low = rounds_over binary64 (div binary64 x y) minus_quarter _ _ _ D quarter_fits.1 tt R (quotient_down (pos_part x) (neg_part x) (den x) (pos_part y) (neg_part y) (den y) (le→under below1 x tt X h.low) b);
+      high = rounds_under binary64 (div binary64 x y) quarter _ _ _ D quarter_fits.0 tt R (quotient_up (pos_part x) (neg_part x) (den x) (pos_part y) (neg_part y) (den y) (le→under x above1 X tt h.high) b);
     }
 
 -- ---- m after halving
@@ -99,6 +99,9 @@ add_ends = tt
 four_finite : T (finite low_m && finite ROOT2 && (finite one64 && finite one64))
 unfolding of_bits mul round
 four_finite = tt
+
+abbrev ratio : Float → Float
+ratio m = div binary64 (sub binary64 m one64) (add binary64 m one64)
 
 ratio_in : (m : Float) → In low_m ROOT2 m → In minus_quarter quarter (ratio m)
 ratio_in m h =
@@ -175,8 +178,8 @@ step_in j z p t hz hp =
     (in_add binary64 products (in_mul binary64 {a = zero_f} {b = two_f} {c = zero_f} {d = sixteenth} tt not_negative hp hz)
     (record { low = and_l (le zero_f (recip j)) (le (recip j) one_f) t; high = and_r (le zero_f (recip j)) (le (recip j) one_f) t }))
 
-steps_in : (j : ℕ) (z p : Float) → T (recips j) → In zero_f sixteenth z → In zero_f two_f p → In zero_f two_f (steps j z p)
-unfolding steps recips
+steps_in : (j : ℕ) (z p : Float) → T (recips j) → In zero_f sixteenth z → In zero_f two_f p → In zero_f two_f (log_horner j z p)
+unfolding log_horner recips
 steps_in zero z p t hz hp = hp
 steps_in (suc j) z p t hz hp =
     let ok = le zero_f (recip j) && le (recip j) one_f in
@@ -206,7 +209,7 @@ product_ends : T (le (neg one_f) (mul binary64 two_f (neg half_f)) && le (mul bi
 unfolding mul neg round le lt eq
 product_ends = tt
 
-series_is : (m : Float) → series m ≡ mul binary64 (mul binary64 two (ratio m)) (steps 11 (mul binary64 (ratio m) (ratio m)) (recip 11))
+series_is : (m : Float) → series m ≡ mul binary64 (mul binary64 two (ratio m)) (log_horner 11 (mul binary64 (ratio m) (ratio m)) (recip 11))
 unfolding series
 series_is m = refl
 
@@ -214,7 +217,7 @@ pub series_in : (m : Float) → In low_m ROOT2 m → In (neg one_f) one_f (serie
 series_in m h =
     let s = ratio m in
     let z = mul binary64 s s in
-    let p = steps 11 z (recip 11) in
+    let p = log_horner 11 z (recip 11) in
     let hs = ratio_in m h in
     let start : In zero_f two_f (recip 11) = record { low = and_l (le zero_f (recip 11)) (le (recip 11) two_f) recips_11.1; high = and_r (le zero_f (recip 11)) (le (recip 11) two_f) recips_11.1 } in
     let hp = steps_in 11 z (recip 11) recips_11.0 (square_in s hs) start in
@@ -346,13 +349,11 @@ unfolding of_bits neg of_int mul add sum round
 log2_ends = (within_lit 1076 (add binary64 (neg (W 1074)) (mul binary64 (neg one_f) LOG2E)) tt, within_lit 1076 (add binary64 (W 1024) (mul binary64 one_f LOG2E)) tt)
 
 pub ln_at_in : (p : Parts) → Centred p → Within 746 (ln_at p)
-unfolding ln_at
 ln_at_in p c =
     in_within ln_ends.0 ln_ends.1
     (in_add binary64 ln_finite4 (in_times (neg (W 1074)) (W 1024) LN2 ends.0 factors.0 factors.1 c.e_in) (series_in p.m c.m_in))
 
 pub log2_at_in : (p : Parts) → Centred p → Within 1076 (log2_at p)
-unfolding log2_at
 log2_at_in p c =
     in_within log2_ends.0 log2_ends.1
     (in_add binary64 log2_finite4 c.e_in (in_times (neg one_f) one_f LOG2E ends.1 factors.2 factors.3 (series_in p.m c.m_in)))

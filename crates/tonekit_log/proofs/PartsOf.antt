@@ -12,12 +12,13 @@ use lib.Ieee.Exact.{HasValue, round_exact}
 use lib.Ieee.Positive.{mul_at, positive_of_value}
 use lib.Ieee.Scale.{round_same}
 use Rattle.spec_arithmetic.specs.declared.Parts.{Parts}
-use Rattle.spec_arithmetic.specs.Constants.{whole64, scale, least}
-use Rattle.spec_arithmetic.specs.Log.{fields, parts_of, scaled}
+use Rattle.spec_arithmetic.specs.Constants.{whole64}
+use Rattle.spec_arithmetic.specs.Log.{parts_of}
 use Rattle.tonekit_float.proofs.Units.{units_value, unique, opened, sub_at, size_gt}
 use Rattle.tonekit_float.proofs.NarrowRound.{L}
 use Rattle.tonekit_float.proofs.Exact.{whole_value}
 use Rattle.tonekit_float.proofs.Patterns.{L-pos, rescale, normal_value, same_value, field_of, pattern_lt, units_are, units_pos, units_lt, size_shl}
+use Rattle.tonekit_log.specs.Found.{fields, scaled, scale, least}
 
 -- ---- D digits: D / 2 ^ 52 by its pattern, and rounded
 mant_pattern : (t : ℕ) → t < 4503599627370496 → (4607182418800017408 + t) / 4503599627370496 ≡ 1023

@@ -13,12 +13,17 @@ use Rattle.tonekit_float.proofs.Order.{neg_le, neg_finite}
 use Rattle.tonekit_float.proofs.Monotone.{Rounds, above, under, zero_f, add_rounds, mul_le_left, round_neg}
 use Rattle.tonekit_float.proofs.Exact.{round_own, whole, whole_le}
 use Rattle.tonekit_float.proofs.Size.{within_whole, within_neg, within_mul, within_lit}
-use Rattle.spec_arithmetic.specs.Bounds.{Within}
+use Rattle.tonekit_float.proofs.Fraction.{Within}
 use Rattle.spec_arithmetic.specs.declared.Parts.{Parts}
 use Rattle.spec_arithmetic.specs.Constants.{LN2, LOG2E, one64}
-use Rattle.spec_arithmetic.specs.Log.{Exponent, parts_of, centred, series, ln_at, log2_at, log_by}
+use Rattle.spec_arithmetic.specs.Log.{parts_of, centred, series, log_by}
 use Rattle.tonekit_log.proofs.PartsOf.{parts_of_is, shift_minus}
-use Rattle.tonekit_log.proofs.LogCases.{number_is}
+use Rattle.tonekit_log.proofs.LogCases.{number_is, ln_at, log2_at}
+
+-- the k for which 2 ^ k is an f64, subnormal or not: from -1074 to 1023
+abbrev pub Exponent : ℤ → Type 0
+Exponent (pos k) = k ≤ 1023
+Exponent (negsuc k) = suc k ≤ 1074
 
 -- ---- a number that is not 0, plus 0
 exact : (M D k d : ℕ) (s : Bool) → k ≡ M → d ≡ D → round binary64 s k d ≡ round binary64 s M D
@@ -191,9 +196,7 @@ at_power f (negsuc k) h =
 
 -- ---- both logarithms
 pub log2_at_one : (e : Float) → log2_at (record { m = one64; e = e }) ≡ add binary64 e (mul binary64 (series one64) LOG2E)
-unfolding log2_at
 log2_at_one e = refl
 
 pub ln_at_one : (e : Float) → ln_at (record { m = one64; e = e }) ≡ add binary64 (mul binary64 e LN2) (series one64)
-unfolding ln_at
 ln_at_one e = refl

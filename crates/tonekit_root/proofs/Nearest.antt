@@ -1,7 +1,8 @@
 -- The definition's whole root, and that it is the one number nearest to the root.
 use Rattle.std.proofs.Common.{ℕ, suc, zero, ◌+◌, ◌-◌, ◌*◌, ◌/◌, ◌^◌, ◌≤◌, ◌<◌, ◌≡◌, sym, ap, subst, Bool, true, false, not, cond, le_of_eq, lt_of_lt_of_le, mul-le-mul, lt_irrefl, le_antisymm, div-lt_iff_lt-mul, pow-suc, le_of_suc-le-suc, lt_of_not-le, arith, T, leb, ltb, leb→le, ltb→lt, nltb→le}
 use lib.Dec.{nleb→lt}
-use Rattle.spec_arithmetic.specs.Root.{isqrt, nearest_root, Near}
+use Rattle.spec_arithmetic.specs.Root.{isqrt, nearest_root}
+use Rattle.tonekit_root.specs.Nearest.{Near}
 use Rattle.tonekit_root.proofs.Squares.{twice_square, next_square, odd_square}
 
 abbrev Root : ℕ → ℕ → Type 0

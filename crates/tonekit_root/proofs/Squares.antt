@@ -1,7 +1,7 @@
 -- Squares, and the state of the loop that takes the digits of a root one by one. Assumes nothing.
 use Rattle.std.proofs.Common.{ℕ, suc, zero, ◌+◌, ◌-◌, ◌*◌, ◌^◌, ◌≤◌, ◌<◌, ◌≡◌, sym, ◌∙◌, ap, subst, le_trans, mul-le-mul, mul-le-mul_left, lt_irrefl, add-mul, mul-add, mul_assoc, pow-suc, add-one, arith, pow_mono}
 use native.Mathlib.Nat.{mul-mul-mul_comm}
-use Rattle.spec_arithmetic.specs.Root.{Near}
+use Rattle.tonekit_root.specs.Nearest.{Near}
 
 pub square_fits : (m : ℕ) → m ≤ 134217728 → m * m < 2 ^ 64
 square_fits m h = let k : m * m ≤ 134217728 * 134217728 = mul-le-mul h h in omega arith
