@@ -4,7 +4,8 @@ use Rattle.std.proofs.Common.{ℕ, zero, suc, ◌+◌, ◌-◌, ◌≤◌, ◌<�
 use borrow.Author.Tests.{eqb-false}
 use Rattle.tonekit_core.specs.Loop.{range_to, to_again, to_stop, loop_to, loop_again, loop_stop}
 use Rattle.spec_arithmetic.specs.Fields.{byte_at}
-use Rattle.spec_arithmetic.specs.Places.{index_turn, index_of, number_at}
+use Rattle.spec_arithmetic.specs.Places.{index_of, number_at}
+use Rattle.tonekit_bytes.specs.Places.{index_turn}
 use Rattle.spec_pack.specs.Pack.{Pst, loaded, read_pack}
 use Rattle.std.specs.Prelude.{Some, None}
 use Rattle.spec_lookup.specs.declared.Context.{Context}
