@@ -4,8 +4,8 @@ use Rattle.std.specs.Float.{binary32}
 use Rattle.std.specs.Float.Ieee.{is_nan, eq, neg, add, sub, mul, div, lt, le, round, of_int, of_bits, to_bits}
 use Rattle.tonekit_core.specs.Loop.{turns, range}
 use Rattle.spec_arithmetic.specs.Narrow.{narrowed}
-use Rattle.spec_arithmetic.specs.Log.{ln_of}
-use Rattle.spec_arithmetic.specs.Exp.{exp_of}
+use Rattle.spec_arithmetic.specs.Log.{ln_of, log_by, parts_of, centred, series, log_horner}
+use Rattle.spec_arithmetic.specs.Exp.{exp_of, exp_by, exp_series, exp_horner, floor_of}
 use Rattle.tonekit_core.specs.declared.layout.TheConstants.{JUDGEMENT_SIZE, JUDGEMENT_EXPECTED, JUDGEMENT_TONE_COUNT, JUDGEMENT_LOGLIK, JUDGEMENT_LLR, JUDGEMENT_DISTANCED}
 use Rattle.tonekit_core.specs.declared.layout.TheConstants.{JUDGEMENT_DISTANCE, JUDGEMENT_OWNER, JUDGEMENT_FORM, JUDGEMENT_LABEL, JUDGEMENT_PART, JUDGEMENT_HEARD}
 use Rattle.tonekit_core.specs.declared.layout.TheConstants.{JUDGEMENT_DELTA_COUNT, JUDGEMENT_FIRST_DELTA, JUDGEMENT_SECOND_DELTA, DELTA_AMOUNT, JUDGEMENT_MEASURED, JUDGEMENT_ISSUES}
@@ -48,7 +48,7 @@ abbrev two_tones : Inventory
 two_tones = record { items = likely 7 ∷ likely 9 ∷ [] }
 
 pub equal_tones : heard_of two_tones quarter (ranking_of two_tones (zero ∷ zero ∷ [])) ≡ Some 7
-unfolding heard_of ranking_of ranked range turns add_to value_of ln_of exp_of is_nan eq neg add sub mul div lt le round of_int of_bits
+unfolding heard_of ranking_of ranked range turns add_to value_of ln_of exp_of is_nan eq neg add sub mul div lt le round of_int of_bits log_by parts_of centred series log_horner exp_by exp_series exp_horner floor_of
 equal_tones = refl
 
 -- a name of this form

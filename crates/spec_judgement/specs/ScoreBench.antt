@@ -4,8 +4,8 @@ use Rattle.std.specs.Float.{nan, inf, binary32, binary64}
 use Rattle.std.specs.Float.Ieee.{is_nan, eq, neg, add, sub, mul, div, lt, le, round, of_int, of_bits}
 use Rattle.spec_arithmetic.specs.Narrow.{narrowed}
 use Rattle.spec_arithmetic.specs.Pick.{greater}
-use Rattle.spec_arithmetic.specs.Log.{ln_of}
-use Rattle.spec_arithmetic.specs.Exp.{exp_of}
+use Rattle.spec_arithmetic.specs.Log.{ln_of, log_by, parts_of, centred, series, log_horner}
+use Rattle.spec_arithmetic.specs.Exp.{exp_of, exp_by, exp_series, exp_horner, floor_of}
 use Rattle.spec_judgement.specs.Score.{zero64, zero32, million, neg_inf, widen_for, clamp_log, empty, add_to, value_of, excused, point_weight}
 
 -- LowSnr is bit 1, TooShort bit 3
@@ -36,7 +36,7 @@ unfolding add_to eq of_bits
 of_minus_infinity = refl
 
 pub of_two : value_of (add_to (add_to empty zero64) zero64) ≡ ln_of (of_bits binary64 0x4000_0000_0000_0000)
-unfolding value_of add_to ln_of exp_of is_nan eq neg add sub mul div lt le round of_int of_bits
+unfolding value_of add_to ln_of exp_of is_nan eq neg add sub mul div lt le round of_int of_bits log_by parts_of centred series log_horner exp_by exp_series exp_horner floor_of
 of_two = refl
 
 -- both ends belong to a region: point 9 of one that ends at 1, voiced 0.25

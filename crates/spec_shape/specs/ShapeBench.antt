@@ -13,7 +13,7 @@ use Rattle.spec_arithmetic.specs.Pick.{lesser, greater}
 use Rattle.spec_arithmetic.specs.Whole.{whole_part, round_up}
 use Rattle.spec_arithmetic.specs.Position.{position}
 use Rattle.spec_shape.specs.Turning.{greatest, first_near, last_near, extremum, stands, chosen, turning_point}
-use Rattle.spec_arithmetic.specs.Log.{log2_of}
+use Rattle.spec_arithmetic.specs.Log.{log2_of, log_by, parts_of, centred, series, log_horner}
 use Rattle.spec_query.specs.Frames.{frame_at}
 use Rattle.spec_query.specs.Query.{variant_fine, variants_fine, record_verdict, frame_verdict, fields_of, read_query, load_query}
 use Rattle.spec_shape.specs.Chao.{hz_to_st, width_of, st_to_chao}
@@ -83,7 +83,7 @@ level : shape_of (tone ++ (tone ++ tone)) (record { count = 3; first = 0; last =
       confidence = num 1;
       frames = 3;
     }
-unfolding shape_of drawn semitones holes_filled chao_curve mean_with list_of mean_of range_in confidence half_width reach curve_at step_of mean_over rounded position whole_part round_up narrowed lesser greater float_with_sign total_le range range_to while hz_to_st width_of st_to_chao log2_of line_slope point_added moments_of normal_equations first_unknown lead_of quadratic_coefficient greatest first_near last_near extremum stands chosen turning_point frame_at add sub mul div lt le eq neg of_int of_bits round is_nan
+unfolding shape_of drawn semitones holes_filled chao_curve mean_with list_of mean_of range_in confidence half_width reach curve_at step_of mean_over rounded position whole_part round_up narrowed lesser greater float_with_sign total_le range range_to while hz_to_st width_of st_to_chao log2_of line_slope point_added moments_of normal_equations first_unknown lead_of quadratic_coefficient greatest first_near last_near extremum stands chosen turning_point frame_at add sub mul div lt le eq neg of_int of_bits round is_nan log_by parts_of centred series log_horner
 level = refl
 
 -- "Fewer than 3 voiced frames: 11", at place 0; no bytes at all: 2 at 0

@@ -3,7 +3,8 @@ use Rattle.std.proofs.Common.{ℕ, zero, suc, ◌+◌, ◌-◌, ◌≡◌, refl,
 use mathlib.Core.Option.{Option, none, some}
 use Rattle.tonekit_core.specs.Loop.{Turn, next, stop, fold, turns, range, turns_to, range_to, loop_on, loop_to}
 use Rattle.spec_arithmetic.specs.Fields.{byte_at}
-use Rattle.spec_arithmetic.specs.Places.{index_of, index_turn, number_at}
+use Rattle.spec_arithmetic.specs.Places.{index_of, number_at}
+use Rattle.tonekit_bytes.specs.Places.{index_turn}
 use Rattle.spec_pack.specs.Pack.{Pst, parts_from}
 use Rattle.tonekit_core.proofs.Split.{split}
 use Rattle.spec_lookup.specs.declared.Context.{Context}

@@ -2,7 +2,7 @@
 use Rattle.std.proofs.Common.{ℕ, zero, suc, ◌+◌, ◌-◌, ◌≤◌, ◌<◌, ◌≡◌, refl, ◌∙◌, List, [], ◌∷◌, ◌++◌, arith, add-one, ltb, ltb-true, ltb-false, length, get_or, set, take, length-append, get_or-set_other, get_or-set_same, take-suc}
 use lib.ListN.{get_or-append}
 use lib.Seq.{get_or_at}
-use Rattle.spec_arithmetic.specs.Places.{in_order}
+use Rattle.tonekit_bytes.specs.Places.{in_order}
 use Rattle.tonekit_core.proofs.Split.{split}
 
 pub order_length : (xs : List ℕ) (n : ℕ) → length (in_order xs n) ≡ n

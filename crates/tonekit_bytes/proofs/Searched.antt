@@ -3,7 +3,8 @@ use Rattle.std.proofs.Common.{ℕ, zero, suc, ◌+◌, ◌-◌, ◌≡◌, refl,
 use Rattle.std.specs.Prelude.{Option, Some, None}
 use Rattle.tonekit_core.specs.Loop.{Turn, next, stop, turns_to, range_to}
 use Rattle.tonekit_core.proofs.Split.{split}
-use Rattle.spec_arithmetic.specs.Places.{number_at, index_turn, index_of}
+use Rattle.spec_arithmetic.specs.Places.{number_at, index_of}
+use Rattle.tonekit_bytes.specs.Places.{index_turn}
 
 -- what is said of the record that a search found: hit of its offset, or miss
 abbrev pub pick : {R : Type 0} → (ℕ → R) → R → List ℕ → Option ℕ → R

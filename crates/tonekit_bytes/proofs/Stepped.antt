@@ -4,7 +4,7 @@ use Rattle.std.proofs.Math.Nat.{mul-le-mul_left}
 use lib.ListN.{get_or-append}
 use lib.Seq.{get_or_at}
 use Rattle.tonekit_core.proofs.Split.{split}
-use Rattle.spec_arithmetic.specs.Places.{stepped}
+use Rattle.tonekit_bytes.specs.Places.{stepped}
 
 module _ (o step : ℕ) where
   pub stepped_length : (n : ℕ) → length (stepped o step n) ≡ n

@@ -1,6 +1,7 @@
 // The places of records in a list of bytes, and the search among them by number.
 ghost use Rattle.std.specs.Prelude.{◌≡◌, ◌≤◌, ◌<◌, ◌+◌, ◌-◌, ◌*◌, length, get_or, replicate, [], ◌∷◌, ◌++◌};
-ghost use Rattle.spec_arithmetic.specs.Places.{in_order, stepped, index_of};
+ghost use Rattle.spec_arithmetic.specs.Places.{index_of};
+ghost use Rattle.tonekit_bytes.specs.Places.{in_order, stepped};
 
 use crate::byte_at;
 use tonekit_core::layout;
@@ -17,7 +18,7 @@ pub struct Offsets<const N: usize> {
 
 impl<const N: usize> Offsets<N> {
     // None yet.
-    #[tactic(auto, unfolding(spec_arithmetic::specs::Places::in_order))]
+    #[tactic(auto, unfolding(crate::specs::Places::in_order))]
     pub fn none() -> Offsets<N>
         ensures empty { in_order result.at result.count ≡ [] }
         ensures count { result.count ≡ 0 }

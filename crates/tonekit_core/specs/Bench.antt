@@ -1,7 +1,14 @@
--- Worked examples, computed: what an outcome of three bytes, and a refusal, mean for a lent buffer.
+-- Worked examples, computed: the union of issues, and what an outcome of three bytes, and a refusal, mean for a lent buffer.
 use Rattle.std.specs.Prelude.{ℕ, ◌≡◌, refl, List, [], ◌∷◌, Ok, Err}
 use Rattle.tonekit_core.specs.declared.Refusal.TheVariants.{ShortBuffer, Loose}
+use Rattle.tonekit_core.specs.declared.MeasureIssue.TheVariants.{LowSnr}
+use Rattle.tonekit_core.specs.Words.{with_issue}
 use Rattle.tonekit_core.specs.Calls.{refused, written, answer_in, buffer_after}
+
+-- "the union": an issue joins those that are there, once
+joined : (with_issue 1 LowSnr ≡ 3) × (with_issue 3 LowSnr ≡ 3)
+unfolding with_issue
+joined = (refl, refl)
 
 abbrev three : List ℕ
 three = 1 ∷ 2 ∷ 3 ∷ []

@@ -2,7 +2,7 @@
 use Rattle.std.proofs.Common.{ℕ, ◌≤◌, ◌≡◌, sym, subst, List, get_or, ltb-true, ltb-false, ltb}
 use Rattle.std.proofs.Math.ListN.{get_or-eq_default}
 use Rattle.tonekit_core.proofs.Split.{split}
-use Rattle.spec_arithmetic.specs.Places.{in_order}
+use Rattle.tonekit_bytes.specs.Places.{in_order}
 use Rattle.tonekit_bytes.proofs.InOrder.{order_length, order_get}
 
 order_past : (xs : List ℕ) (n i : ℕ) → n ≤ i → get_or (in_order xs n) i 0 ≡ 0

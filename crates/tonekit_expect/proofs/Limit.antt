@@ -5,9 +5,10 @@ use borrow.Author.Tests.{eqb-false}
 use Rattle.tonekit_core.specs.Loop.{range_to, loop_to, loop_stop}
 use Rattle.tonekit_core.proofs.LoopLaws.{to_again, to_stop, loop_again}
 use Rattle.spec_arithmetic.specs.Fields.{byte_at}
-use Rattle.spec_arithmetic.specs.Places.{index_turn, index_of, number_at}
+use Rattle.spec_arithmetic.specs.Places.{index_of, number_at}
 use Rattle.spec_arithmetic.specs.Files.{loaded}
 use Rattle.spec_pack.specs.Pack.{Pst, read_pack}
+use Rattle.tonekit_bytes.specs.Places.{index_turn}
 use Rattle.std.specs.Prelude.{Some, None}
 use Rattle.spec_lookup.specs.declared.Context.{Context}
 use Rattle.spec_lookup.specs.Lookup.{Found, Walked, best_rule, parent_of, climb_turn, find_rule}

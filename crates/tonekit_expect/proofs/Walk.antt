@@ -1,7 +1,8 @@
 -- The search by number, and one step of the walk up the parents.
 use Rattle.std.proofs.Common.{ℕ, zero, suc, ◌+◌, ◌-◌, ◌≤◌, ◌<◌, ◌≡◌, refl, sym, ◌∙◌, ap, subst, ◌&&◌, List, arith, eqb, length, get_or, eqb-true}
 use Rattle.tonekit_core.specs.Loop.{Turn, next, stop, turns, range, turns_to, range_to, loop_on, loop_to}
-use Rattle.spec_arithmetic.specs.Places.{index_turn, index_of, number_at}
+use Rattle.spec_arithmetic.specs.Places.{index_of, number_at}
+use Rattle.tonekit_bytes.specs.Places.{index_turn}
 use Rattle.spec_pack.specs.Pack.{Pst}
 use Rattle.tonekit_core.proofs.Split.{split}
 use Rattle.std.specs.Prelude.{Some, None}

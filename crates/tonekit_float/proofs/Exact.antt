@@ -13,7 +13,7 @@ use Rattle.tonekit_float.proofs.Order.{Cross, le→under, flipped, neg_finite, l
 use Rattle.tonekit_float.proofs.Monotone.{Rounds, above, under, rounds_le, whole_rounds, add_rounds, mul_rounds, mul_le_left, zero_f, no_minus, sub_times}
 use Rattle.tonekit_float.proofs.Bounds.{in_finite}
 use Rattle.spec_arithmetic.specs.Bounds.{In}
-use Rattle.tonekit_float.proofs.Fraction.{plus, minus}
+use Rattle.tonekit_float.proofs.Fraction.{pos_part, neg_part}
 
 -- ---- what it takes to fit
 pub record Held (f : Format) (m : ℕ) (e : ℤ) : Type 0 where
@@ -63,7 +63,7 @@ pub round_own : (f : Format) (s : Bool) (m : ℕ) (e : ℤ) → T (fits f (fin s
 round_own f s m e h =
     unique f (round f s (m * up e) (down e)) (fin s m e) s (m * up e) (down e) (down_pos e) (round-fits f s (m * up e) (down e)) h (own_value f s m e (held f s m e h)) (refl, refl)
 
-pub own_rounds : (f : Format) (x : Float) → T (fits f x) → T (finite x) → Rounds f x (plus x) (minus x) (den x)
+pub own_rounds : (f : Format) (x : Float) → T (fits f x) → T (finite x) → Rounds f x (pos_part x) (neg_part x) (den x)
 own_rounds f nan h p = absurd p
 own_rounds f (inf s) h p = absurd p
 own_rounds f (fin false m e) h p = above (omega arith) (sym (round_own f false m e h) ∙ ap (λ (z : ℕ). round f false z (down e)) (omega arith))
@@ -80,8 +80,8 @@ whole_value f n h = round_whole f false n h
 -- the fraction of a float with a value that is not negative
 pub record Worth (x : Float) (a : ℕ) : Type 0 where
   pub real : T (finite x)
-  pub plus_is : plus x ≡ a * den x
-  pub minus_is : minus x ≡ 0
+  pub plus_is : pos_part x ≡ a * den x
+  pub minus_is : neg_part x ≡ 0
 
 worth : (x : Float) (a : ℕ) → HasValue x false a 1 → Worth x a
 worth nan a v = absurd v
@@ -122,24 +122,24 @@ one_times f (fin s m e) h p =
     same false = refl
 
 -- ---- a fraction that is no larger than a value that fits rounds to no more than it, and one that is no smaller to no less
-pub rounds_under : (f : Format) (x z : Float) (p n d : ℕ) → 0 < d → T (fits f z) → T (finite z) → Rounds f x p n d → Cross p n d (plus z) (minus z) (den z) → T (le x z)
-rounds_under f x z p n d D h q r c = rounds_le f x z p n d (plus z) (minus z) (den z) D (den_pos z) r (own_rounds f z h q) c
+pub rounds_under : (f : Format) (x z : Float) (p n d : ℕ) → 0 < d → T (fits f z) → T (finite z) → Rounds f x p n d → Cross p n d (pos_part z) (neg_part z) (den z) → T (le x z)
+rounds_under f x z p n d D h q r c = rounds_le f x z p n d (pos_part z) (neg_part z) (den z) D (den_pos z) r (own_rounds f z h q) c
 
-pub rounds_over : (f : Format) (x z : Float) (p n d : ℕ) → 0 < d → T (fits f z) → T (finite z) → Rounds f x p n d → Cross (plus z) (minus z) (den z) p n d → T (le z x)
-rounds_over f x z p n d D h q r c = rounds_le f z x (plus z) (minus z) (den z) p n d (den_pos z) D (own_rounds f z h q) r c
+pub rounds_over : (f : Format) (x z : Float) (p n d : ℕ) → 0 < d → T (fits f z) → T (finite z) → Rounds f x p n d → Cross (pos_part z) (neg_part z) (den z) p n d → T (le z x)
+rounds_over f x z p n d D h q r c = rounds_le f z x (pos_part z) (neg_part z) (den z) p n d (den_pos z) D (own_rounds f z h q) r c
 
 zero_fits : (f : Format) → T (fits f zero_f)
 unfolding fits
 zero_fits f = tt
 
 sub_rounds : (f : Format) (x y : Float) → T (finite x) → T (finite y)
-    → Rounds f (sub f x y) (plus x * den y + minus y * den x) (minus x * den y + plus y * den x) (den x * den y)
+    → Rounds f (sub f x y) (pos_part x * den y + neg_part y * den x) (neg_part x * den y + pos_part y * den x) (den x * den y)
 unfolding sub
 sub_rounds f x y p q =
     let F = flipped y in
-    subst (λ (k : ℕ). Rounds f (add f x (neg y)) (plus x * den y + k * den x) (minus x * den y + plus y * den x) (den x * den y)) F.up
-    (subst (λ (k : ℕ). Rounds f (add f x (neg y)) (plus x * den y + plus (neg y) * den x) (minus x * den y + k * den x) (den x * den y)) F.below
-    (subst (λ (k : ℕ). Rounds f (add f x (neg y)) (plus x * k + plus (neg y) * den x) (minus x * k + minus (neg y) * den x) (den x * k)) F.over
+    subst (λ (k : ℕ). Rounds f (add f x (neg y)) (pos_part x * den y + k * den x) (neg_part x * den y + pos_part y * den x) (den x * den y)) F.up
+    (subst (λ (k : ℕ). Rounds f (add f x (neg y)) (pos_part x * den y + pos_part (neg y) * den x) (neg_part x * den y + k * den x) (den x * den y)) F.below
+    (subst (λ (k : ℕ). Rounds f (add f x (neg y)) (pos_part x * k + pos_part (neg y) * den x) (neg_part x * k + neg_part (neg y) * den x) (den x * k)) F.over
     (add_rounds f x (neg y) p (neg_finite y q))))
 
 -- y ≤ x gives 0 ≤ x - y; 0 ≤ y gives x - y ≤ x
@@ -156,19 +156,19 @@ less_cross p n d q o c h =
 pub sub_no_more : (f : Format) (x y : Float) → T (fits f x) → T (finite x) → T (finite y) → T (le zero_f y) → T (le (sub f x y) x)
 sub_no_more f x y h p q k =
     let z = le→under zero_f y tt q k in
-    rounds_under f (sub f x y) x _ _ _ (mul-pos (den_pos x) (den_pos y)) h p (sub_rounds f x y p q) (less_cross (plus x) (minus x) (den x) (plus y) (minus y) (den y) (omega arith))
+    rounds_under f (sub f x y) x _ _ _ (mul-pos (den_pos x) (den_pos y)) h p (sub_rounds f x y p q) (less_cross (pos_part x) (neg_part x) (den x) (pos_part y) (neg_part y) (den y) (omega arith))
 
 -- sums and products of values that are not negative
 pub add_nonneg : (f : Format) (x y : Float) → T (finite x) → T (finite y) → T (le zero_f x) → T (le zero_f y) → T (le zero_f (add f x y))
 add_nonneg f x y p q h k =
-    let a : minus x * den y ≡ 0 = ap (λ (z : ℕ). z * den y) (no_minus x p h) ∙ zero-mul (den y) in
-    let b : minus y * den x ≡ 0 = ap (λ (z : ℕ). z * den x) (no_minus y q k) ∙ zero-mul (den x) in
+    let a : neg_part x * den y ≡ 0 = ap (λ (z : ℕ). z * den y) (no_minus x p h) ∙ zero-mul (den y) in
+    let b : neg_part y * den x ≡ 0 = ap (λ (z : ℕ). z * den x) (no_minus y q k) ∙ zero-mul (den x) in
     rounds_over f (add f x y) zero_f _ _ _ (mul-pos (den_pos x) (den_pos y)) (zero_fits f) tt (add_rounds f x y p q) (omega arith)
 
 pub mul_nonneg : (f : Format) (x y : Float) → T (finite x) → T (finite y) → T (le zero_f x) → T (le zero_f y) → T (le zero_f (mul f x y))
 mul_nonneg f x y p q h k =
-    let a : minus x * plus y ≡ 0 = ap (λ (z : ℕ). z * plus y) (no_minus x p h) ∙ zero-mul (plus y) in
-    let b : plus x * minus y ≡ 0 = ap (λ (z : ℕ). plus x * z) (no_minus y q k) ∙ mul-zero (plus x) in
+    let a : neg_part x * pos_part y ≡ 0 = ap (λ (z : ℕ). z * pos_part y) (no_minus x p h) ∙ zero-mul (pos_part y) in
+    let b : pos_part x * neg_part y ≡ 0 = ap (λ (z : ℕ). pos_part x * z) (no_minus y q k) ∙ mul-zero (pos_part x) in
     rounds_over f (mul f x y) zero_f _ _ _ (mul-pos (den_pos x) (den_pos y)) (zero_fits f) tt (mul_rounds f x y p q) (omega arith)
 
 -- a part c, from 0 to 1, of x: from 0 to x
@@ -261,8 +261,8 @@ difference_exact f m n e d hx hy lo hi =
 -- a float that is not negative, by the fraction a / c
 pub record Valued (x : Float) (a c : ℕ) : Type 0 where
   pub real : T (finite x)
-  pub plus_is : plus x * c ≡ a * den x
-  pub minus_is : minus x ≡ 0
+  pub plus_is : pos_part x * c ≡ a * den x
+  pub minus_is : neg_part x ≡ 0
 
 valued : (x : Float) (a c : ℕ) → HasValue x false a c → Valued x a c
 valued nan a c v = absurd v
@@ -270,8 +270,8 @@ valued (inf s) a c v = absurd v
 valued (fin true m e) a c v = absurd (true≢false v.0)
 valued (fin false m e) a c v = record { real = tt; plus_is = v.1; minus_is = refl }
 
-pub sub_exact : (f : Format) (x y : Float) → T (fits f x) → T (fits f y) → T (positive x) → T (positive y) → plus y * den x ≤ plus x * den y → plus x * den y ≤ 2 * (plus y * den x)
-    → Valued (sub f x y) (plus x * den y - plus y * den x) (den x * den y)
+pub sub_exact : (f : Format) (x y : Float) → T (fits f x) → T (fits f y) → T (positive x) → T (positive y) → pos_part y * den x ≤ pos_part x * den y → pos_part x * den y ≤ 2 * (pos_part y * den x)
+    → Valued (sub f x y) (pos_part x * den y - pos_part y * den x) (den x * den y)
 sub_exact f nan y h k p q lo hi = absurd p
 sub_exact f (inf s) y h k p q lo hi = absurd p
 sub_exact f (fin true m e) y h k p q lo hi = absurd p
@@ -288,7 +288,7 @@ sub_exact f (fin false m e) (fin false n d) h k p q lo hi =
     (subst (λ (z : Float). HasValue z false (A - B) C) (sym (sub_at f (fin false m e) (fin false n d) A B C (mul-pos (down_pos e) (down_pos d)) lo (refl, a) (refl, b)))
     (difference_exact f m n e d (held f false m e h) (held f false n d k) lo hi))
 
-pub plus→positive : (y : Float) (c : ℕ) → T (finite y) → 0 < plus y * c → T (positive y)
+pub plus→positive : (y : Float) (c : ℕ) → T (finite y) → 0 < pos_part y * c → T (positive y)
 plus→positive nan c p h = absurd p
 plus→positive (inf s) c p h = absurd p
 plus→positive (fin true m e) c p h = absurd (lt_irrefl 0 (lt_of_lt_of_le h (le_of_eq (zero-mul c))))
@@ -310,39 +310,39 @@ near X W N dx dw Z dz R dr S P h k e =
     le_of_mul-le-mul_right g P
 
 pub add_within : (f : Format) (x w z : Float) → T (fits f x) → T (fits f z) → T (finite x) → T (finite w) → T (finite z) → T (le zero_f x) → T (le x z) → T (le w x) → T (le w (sub f z x)) → T (le (add f x w) z)
-add_within f x w z fx fz p q r x0 xz wx wr = go (leb (2 * (plus x * den z)) (plus z * den x)) (leb→le (2 * (plus x * den z)) (plus z * den x)) (nleb→lt (2 * (plus x * den z)) (plus z * den x))
+add_within f x w z fx fz p q r x0 xz wx wr = go (leb (2 * (pos_part x * den z)) (pos_part z * den x)) (leb→le (2 * (pos_part x * den z)) (pos_part z * den x)) (nleb→lt (2 * (pos_part x * den z)) (pos_part z * den x))
   where
-    X0 : minus x ≡ 0
+    X0 : neg_part x ≡ 0
     X0 = no_minus x p x0
 
-    Z0 : minus z ≡ 0
+    Z0 : neg_part z ≡ 0
     Z0 = no_minus z r (le_trans_float zero_f x z x0 xz)
 
-    close : (plus x * den w + plus w * den x) * den z ≤ plus z * (den x * den w) + minus w * den x * den z → T (le (add f x w) z)
+    close : (pos_part x * den w + pos_part w * den x) * den z ≤ pos_part z * (den x * den w) + neg_part w * den x * den z → T (le (add f x w) z)
     close h =
         let a = X0 in
         let b = Z0 in
-        let c : minus x * den w ≡ 0 = ap (λ (k : ℕ). k * den w) X0 ∙ zero-mul (den w) in
-        let d : minus z * (den x * den w) ≡ 0 = ap (λ (k : ℕ). k * (den x * den w)) Z0 ∙ zero-mul (den x * den w) in
-        let e : (minus x * den w + minus w * den x) * den z ≡ minus w * den x * den z = ap (λ (k : ℕ). (k + minus w * den x) * den z) c ∙ ap (λ (k : ℕ). k * den z) (zero-add (minus w * den x)) in
+        let c : neg_part x * den w ≡ 0 = ap (λ (k : ℕ). k * den w) X0 ∙ zero-mul (den w) in
+        let d : neg_part z * (den x * den w) ≡ 0 = ap (λ (k : ℕ). k * (den x * den w)) Z0 ∙ zero-mul (den x * den w) in
+        let e : (neg_part x * den w + neg_part w * den x) * den z ≡ neg_part w * den x * den z = ap (λ (k : ℕ). (k + neg_part w * den x) * den z) c ∙ ap (λ (k : ℕ). k * den z) (zero-add (neg_part w * den x)) in
         rounds_under f (add f x w) z _ _ _ (mul-pos (den_pos x) (den_pos w)) fz r (add_rounds f x w p q) (omega arith)
 
-    go : (b : Bool) → (T b → 2 * (plus x * den z) ≤ plus z * den x) → (T (not b) → plus z * den x < 2 * (plus x * den z)) → T (le (add f x w) z)
+    go : (b : Bool) → (T b → 2 * (pos_part x * den z) ≤ pos_part z * den x) → (T (not b) → pos_part z * den x < 2 * (pos_part x * den z)) → T (le (add f x w) z)
     go true i j =
         let h = le→under w x q p wx in
-        let c : minus x * den w ≡ 0 = ap (λ (k : ℕ). k * den w) X0 ∙ zero-mul (den w) in
-        close (far (plus x) (plus w) (minus w) (den x) (den w) (plus z) (den z) (omega arith) (i tt))
+        let c : neg_part x * den w ≡ 0 = ap (λ (k : ℕ). k * den w) X0 ∙ zero-mul (den w) in
+        close (far (pos_part x) (pos_part w) (neg_part w) (den x) (den w) (pos_part z) (den z) (omega arith) (i tt))
     go false i j =
         let u = le→under x z p r xz in
-        let c : minus x * den z ≡ 0 = ap (λ (k : ℕ). k * den z) X0 ∙ zero-mul (den z) in
-        let d : minus z * den x ≡ 0 = ap (λ (k : ℕ). k * den x) Z0 ∙ zero-mul (den x) in
+        let c : neg_part x * den z ≡ 0 = ap (λ (k : ℕ). k * den z) X0 ∙ zero-mul (den z) in
+        let d : neg_part z * den x ≡ 0 = ap (λ (k : ℕ). k * den x) Z0 ∙ zero-mul (den x) in
         let l = j tt in
-        let lo : plus x * den z ≤ plus z * den x = omega arith in
-        let xp : 0 < plus x * den z = omega arith in
-        let zp : 0 < plus z * den x = omega arith in
+        let lo : pos_part x * den z ≤ pos_part z * den x = omega arith in
+        let xp : 0 < pos_part x * den z = omega arith in
+        let zp : 0 < pos_part z * den x = omega arith in
         let ex = sub_exact f z x fz fx (plus→positive z (den x) r zp) (plus→positive x (den z) p xp) lo (le_of_lt l) in
         let R = sub f z x in
         let h = le→under w R q ex.real wr in
-        let g : minus R * den w ≡ 0 = ap (λ (k : ℕ). k * den w) ex.minus_is ∙ zero-mul (den w) in
-        let S = plus z * den x - plus x * den z in
-        close (near (plus x) (plus w) (minus w) (den x) (den w) (plus z) (den z) (plus R) (den R) S (den_pos R) (omega arith) ex.plus_is (omega arith))
+        let g : neg_part R * den w ≡ 0 = ap (λ (k : ℕ). k * den w) ex.minus_is ∙ zero-mul (den w) in
+        let S = pos_part z * den x - pos_part x * den z in
+        close (near (pos_part x) (pos_part w) (neg_part w) (den x) (den w) (pos_part z) (den z) (pos_part R) (den R) S (den_pos R) (omega arith) ex.plus_is (omega arith))

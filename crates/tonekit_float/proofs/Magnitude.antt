@@ -1,5 +1,5 @@
 -- What magnitudes are, and their patterns.
-use Rattle.std.proofs.Common.{ℕ, zero, suc, ◌<◌, Bool, true, false, not, T, ℤ, arith, Float, to_bits}
+use Rattle.std.proofs.Common.{not, ℕ, zero, suc, ◌<◌, Bool, true, false, T, ℤ, arith, Float, to_bits}
 use lib.Ieee.{Format, nan, inf, fin, top, fits}
 use lib.Ieee.Bits.{to_bits-lt}
 use Rattle.std.specs.Float.{float_with_sign}
@@ -13,6 +13,12 @@ unfolding fits
 fits_sign f s t zero e h = h
 fits_sign f s t (suc m) e h = h
 
+-- a value whose sign is clear, or the NaN
+abbrev pub clear : Float → Bool
+clear nan = true
+clear (inf s) = not s
+clear (fin s m e) = not s
+
 -- with the sign clear the pattern is below the sign's weight
 pub clear_lt : (f : Format) (m : ℕ) (e : ℤ) → T (fits f (fin false m e)) → to_bits f (fin false m e) < top f
 clear_lt f m e h =
@@ -20,12 +26,6 @@ clear_lt f m e h =
     let b = to_bits_is f true m e in
     let c = to_bits_is f false m e in
     omega arith
-
--- a value whose sign is clear, or the NaN
-abbrev pub clear : Float → Bool
-clear nan = true
-clear (inf s) = not s
-clear (fin s m e) = not s
 
 -- ---- what magnitudes are
 pub magnitude_clear : (x : Float) → T (clear (magnitude x))

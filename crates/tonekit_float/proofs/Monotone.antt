@@ -9,7 +9,7 @@ use lib.Ieee.Order.{round_mono}
 use lib.Ieee.Positive.{den, den_pos, positive}
 use lib.Ieee.Scale.{finite, round_same}
 use Rattle.spec_arithmetic.specs.Narrow.{narrowed}
-use Rattle.tonekit_float.proofs.Fraction.{plus, minus}
+use Rattle.tonekit_float.proofs.Fraction.{pos_part, neg_part}
 use Rattle.tonekit_float.proofs.Order.{Cross, le→under, le_trans_float, neg_finite, neg_le}
 
 -- ---- `neg` of a rounded fraction
@@ -141,7 +141,7 @@ abbrev move : (f : Format) {x y : Float} {p n d : ℕ} → x ≡ y → Rounds f 
 move f {x} {y} {p} {n} {d} e r = subst (λ (z : Float). Rounds f z p n d) (sym e) r
 
 pub add_rounds : (f : Format) (x y : Float) → T (finite x) → T (finite y)
-    → Rounds f (add f x y) (plus x * den y + plus y * den x) (minus x * den y + minus y * den x) (den x * den y)
+    → Rounds f (add f x y) (pos_part x * den y + pos_part y * den x) (neg_part x * den y + neg_part y * den x) (den x * den y)
 add_rounds f nan y p q = absurd p
 add_rounds f (inf s) y p q = absurd p
 add_rounds f (fin s m e) nan p q = absurd q
@@ -152,7 +152,7 @@ add_rounds f (fin true m e) (fin false n d) p q = move f (add_is f true false m 
 add_rounds f (fin true m e) (fin true n d) p q = move f (add_is f true true m n e d ∙ both_same f true _ _ _) (rounds_down f _ _ _ _ (omega arith) (omega arith))
 
 pub mul_rounds : (f : Format) (x y : Float) → T (finite x) → T (finite y)
-    → Rounds f (mul f x y) (plus x * plus y + minus x * minus y) (plus x * minus y + minus x * plus y) (den x * den y)
+    → Rounds f (mul f x y) (pos_part x * pos_part y + neg_part x * neg_part y) (pos_part x * neg_part y + neg_part x * pos_part y) (den x * den y)
 unfolding mul
 mul_rounds f nan y p q = absurd p
 mul_rounds f (inf s) y p q = absurd p
@@ -163,7 +163,7 @@ mul_rounds f (fin false m e) (fin true n d) p q = rounds_down f _ _ _ _ (omega a
 mul_rounds f (fin true m e) (fin false n d) p q = rounds_down f _ _ _ _ (omega arith) (omega arith)
 mul_rounds f (fin true m e) (fin true n d) p q = rounds_up f _ _ _ _ (omega arith) (omega arith)
 
-pub narrow_rounds : (x : Float) → T (finite x) → Rounds binary32 (narrowed x) (plus x) (minus x) (den x)
+pub narrow_rounds : (x : Float) → T (finite x) → Rounds binary32 (narrowed x) (pos_part x) (neg_part x) (den x)
 unfolding narrowed
 narrow_rounds nan p = absurd p
 narrow_rounds (inf s) p = absurd p
@@ -185,7 +185,7 @@ add_cross p n d p' n' d' q o c q' o' c' h k =
 pub add_le : (f : Format) (x x' y y' : Float) → T (finite x) → T (finite x') → T (finite y) → T (finite y') → T (le x x') → T (le y y') → T (le (add f x y) (add f x' y'))
 add_le f x x' y y' p p' q q' h k =
     rounds_le f (add f x y) (add f x' y') _ _ _ _ _ _ (mul-pos (den_pos x) (den_pos y)) (mul-pos (den_pos x') (den_pos y')) (add_rounds f x y p q) (add_rounds f x' y' p' q')
-    (add_cross (plus x) (minus x) (den x) (plus x') (minus x') (den x') (plus y) (minus y) (den y) (plus y') (minus y') (den y') (le→under x x' p p' h) (le→under y y' q q' k))
+    (add_cross (pos_part x) (neg_part x) (den x) (pos_part x') (neg_part x') (den x') (pos_part y) (neg_part y) (den y) (pos_part y') (neg_part y') (den y') (le→under x x' p p' h) (le→under y y' q q' k))
 
 pub sub_le : (f : Format) (x x' y y' : Float) → T (finite x) → T (finite x') → T (finite y) → T (finite y') → T (le x x') → T (le y' y) → T (le (sub f x y) (sub f x' y'))
 unfolding sub
@@ -195,7 +195,7 @@ sub_le f x x' y y' p p' q q' h k = add_le f x x' (neg y) (neg y') p p' (neg_fini
 abbrev pub zero_f : Float
 zero_f = fin false 0 (pos 0)
 
-pub no_minus : (x : Float) → T (finite x) → T (le zero_f x) → minus x ≡ 0
+pub no_minus : (x : Float) → T (finite x) → T (le zero_f x) → neg_part x ≡ 0
 no_minus nan p h = absurd p
 no_minus (inf s) p h = absurd p
 no_minus (fin false m e) p h = refl
@@ -209,8 +209,8 @@ mul_cross r b p n d q o c h =
 pub mul_le_right : (f : Format) (z x y : Float) → T (finite z) → T (finite x) → T (finite y) → T (le zero_f z) → T (le x y) → T (le (mul f z x) (mul f z y))
 mul_le_right f z x y r p q c h =
     rounds_le f (mul f z x) (mul f z y) _ _ _ _ _ _ (mul-pos (den_pos z) (den_pos x)) (mul-pos (den_pos z) (den_pos y)) (mul_rounds f z x r p) (mul_rounds f z y r q)
-    (subst (λ (k : ℕ). Cross (plus z * plus x + k * minus x) (plus z * minus x + k * plus x) (den z * den x) (plus z * plus y + k * minus y) (plus z * minus y + k * plus y) (den z * den y))
-    (sym (no_minus z r c)) (mul_cross (plus z) (den z) (plus x) (minus x) (den x) (plus y) (minus y) (den y) (le→under x y p q h)))
+    (subst (λ (k : ℕ). Cross (pos_part z * pos_part x + k * neg_part x) (pos_part z * neg_part x + k * pos_part x) (den z * den x) (pos_part z * pos_part y + k * neg_part y) (pos_part z * neg_part y + k * pos_part y) (den z * den y))
+    (sym (no_minus z r c)) (mul_cross (pos_part z) (den z) (pos_part x) (neg_part x) (den x) (pos_part y) (neg_part y) (den y) (le→under x y p q h)))
 
 flip : (s t : Bool) → unlike s t ≡ unlike t s
 flip true true = refl
@@ -238,7 +238,7 @@ mul_le_left f x y z p q r c h =
     subst (λ (w : Float). T (le w (mul f y z))) (mul_comm_float f z x) (subst (λ (w : Float). T (le (mul f z x) w)) (mul_comm_float f z y) (mul_le_right f z x y r p q c h))
 
 -- a factor that is not positive turns the order round
-pub no_plus : (x : Float) → T (finite x) → T (le x zero_f) → plus x ≡ 0
+no_plus : (x : Float) → T (finite x) → T (le x zero_f) → pos_part x ≡ 0
 no_plus nan p h = absurd p
 no_plus (inf s) p h = absurd p
 no_plus (fin true m e) p h = refl
@@ -252,11 +252,11 @@ mul_cross_neg r b p n d q o c h =
 pub mul_ge_left : (f : Format) (x y z : Float) → T (finite x) → T (finite y) → T (finite z) → T (le z zero_f) → T (le x y) → T (le (mul f y z) (mul f x z))
 mul_ge_left f x y z p q r c h =
     rounds_le f (mul f y z) (mul f x z) _ _ _ _ _ _ (mul-pos (den_pos y) (den_pos z)) (mul-pos (den_pos x) (den_pos z)) (mul_rounds f y z q r) (mul_rounds f x z p r)
-    (subst (λ (k : ℕ). Cross (plus y * k + minus y * minus z) (plus y * minus z + minus y * k) (den y * den z) (plus x * k + minus x * minus z) (plus x * minus z + minus x * k) (den x * den z))
-    (sym (no_plus z r c)) (mul_cross_neg (minus z) (den z) (plus x) (minus x) (den x) (plus y) (minus y) (den y) (le→under x y p q h)))
+    (subst (λ (k : ℕ). Cross (pos_part y * k + neg_part y * neg_part z) (pos_part y * neg_part z + neg_part y * k) (den y * den z) (pos_part x * k + neg_part x * neg_part z) (pos_part x * neg_part z + neg_part x * k) (den x * den z))
+    (sym (no_plus z r c)) (mul_cross_neg (neg_part z) (den z) (pos_part x) (neg_part x) (den x) (pos_part y) (neg_part y) (den y) (le→under x y p q h)))
 
 -- ---- a quotient by a positive value
-pub plus_pos : (y : Float) → T (positive y) → 0 < plus y
+pub plus_pos : (y : Float) → T (positive y) → 0 < pos_part y
 plus_pos nan p = absurd p
 plus_pos (inf s) p = absurd p
 plus_pos (fin true m e) p = absurd p
@@ -267,7 +267,7 @@ unfolding div
 div_is f s m n e d =
     ap (λ (b : Bool). cond b (cond (eqb m 0) nan (inf (unlike s false))) (round f (unlike s false) (m * up e * down d) (suc n * up d * down e))) (eqb-suc-zero n)
 
-pub div_rounds : (f : Format) (x y : Float) → T (finite x) → T (positive y) → Rounds f (div f x y) (plus x * den y) (minus x * den y) (plus y * den x)
+pub div_rounds : (f : Format) (x y : Float) → T (finite x) → T (positive y) → Rounds f (div f x y) (pos_part x * den y) (neg_part x * den y) (pos_part y * den x)
 div_rounds f nan y p q = absurd p
 div_rounds f (inf s) y p q = absurd p
 div_rounds f (fin s m e) nan p q = absurd q
@@ -285,7 +285,7 @@ div_cross r b p n d q o c h =
 pub div_le : (f : Format) (x y z : Float) → T (finite x) → T (finite y) → T (positive z) → T (le x y) → T (le (div f x z) (div f y z))
 div_le f x y z p q r h =
     rounds_le f (div f x z) (div f y z) _ _ _ _ _ _ (mul-pos (plus_pos z r) (den_pos x)) (mul-pos (plus_pos z r) (den_pos y)) (div_rounds f x z p r) (div_rounds f y z q r)
-    (div_cross (plus z) (den z) (plus x) (minus x) (den x) (plus y) (minus y) (den y) (le→under x y p q h))
+    (div_cross (pos_part z) (den z) (pos_part x) (neg_part x) (den x) (pos_part y) (neg_part y) (den y) (le→under x y p q h))
 
 -- ---- narrowing
 pub narrow_le : (x y : Float) → T (finite x) → T (finite y) → T (le x y) → T (le (narrowed x) (narrowed y))

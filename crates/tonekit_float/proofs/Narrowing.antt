@@ -174,3 +174,7 @@ at_nan (fin false (suc m) e) a b c =
     let p : 0 < suc m * up e = mul-pos (zero-lt-suc m) (up_pos e) in
     let k = nltb→le (0 * down e) (suc m * up e * 1) (no a) in
     absurd (lt_irrefl 0 (omega arith))
+
+pub positive : (x : Float) → lt (of_bits binary64 0) x ≡ true → T (lt zero_f x)
+unfolding of_bits
+positive x h = yes h

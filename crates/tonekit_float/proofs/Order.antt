@@ -1,4 +1,4 @@
--- The order of floats, of any sign, and the operations that keep it. A finite value is the fraction (plus - minus) / den.
+-- The order of floats, of any sign, and the operations that keep it. A finite value is the fraction (pos_part - neg_part) / den.
 -- Every law is stated with the library's `le`, which computes at closed values: to bound a result, compute the operation at the bounds.
 use Rattle.std.proofs.Common.{◌≡◌, ℕ, ◌+◌, ◌*◌, ◌<◌, ◌≤◌, Bool, true, false, not, ◌&&◌, ◌||◌, T, eqb, ltb, leb, ◌⊎◌, ℤ, sym, refl, subst, inl, inr, ⊎_elim, le_of_eq, le_refl, lt_irrefl, mul-le-mul_right, mul_assoc, mul_comm, add-mul, le_of_mul-le-mul_right, mul_left_comm, arith, eqb→eq, ltb→lt, leb→le, nltb→le, Float}
 use lib.Dec.{nleb→lt}
@@ -6,7 +6,7 @@ use lib.Ieee.{nan, inf, fin, up, down, neg, lt, le, eq}
 use lib.Ieee.Fits.{and_l, and_r, and_i, eq→eqb}
 use lib.Ieee.Positive.{den, den_pos}
 use lib.Ieee.Scale.{finite}
-use Rattle.tonekit_float.proofs.Fraction.{plus, minus}
+use Rattle.tonekit_float.proofs.Fraction.{pos_part, neg_part}
 
 pub yes : {b : Bool} → b ≡ true → T b
 yes h = subst T (sym h) tt
@@ -20,7 +20,7 @@ abbrev pub Cross : ℕ → ℕ → ℕ → ℕ → ℕ → ℕ → Type 0
 Cross p n d q o c = p * c + o * d ≤ q * d + n * c
 
 abbrev pub Under : Float → Float → Type 0
-Under x y = Cross (plus x) (minus x) (den x) (plus y) (minus y) (den y)
+Under x y = Cross (pos_part x) (neg_part x) (den x) (pos_part y) (neg_part y) (den y)
 
 -- ---- `le` of two finite values is the order of their fractions
 either_le : (a b : ℕ) (c : Bool) → T (ltb a b || (eqb a b && c)) → a ≤ b
@@ -109,14 +109,14 @@ cross_total p n d q o c = go (leb (p * c + o * d) (q * d + n * c)) (leb→le (p 
 
 -- ---- the order of all floats that are no NaN
 pub under_trans : (x y z : Float) → Under x y → Under y z → Under x z
-under_trans x y z h k = cross_trans (plus x) (minus x) (den x) (plus y) (minus y) (den y) (plus z) (minus z) (den z) (den_pos y) h k
+under_trans x y z h k = cross_trans (pos_part x) (neg_part x) (den x) (pos_part y) (neg_part y) (den y) (pos_part z) (neg_part z) (den z) (den_pos y) h k
 
 pub le_refl_finite : (x : Float) → T (finite x) → T (le x x)
-le_refl_finite x p = under→le x x p p (le_refl (plus x * den x + minus x * den x))
+le_refl_finite x p = under→le x x p p (le_refl (pos_part x * den x + neg_part x * den x))
 
 -- of two finite values one is at most the other
 pub le_total : (x y : Float) → T (finite x) → T (finite y) → T (le x y) ⊎ T (le y x)
-le_total x y p q = ⊎_elim (λ h. inl (under→le x y p q h)) (λ h. inr (under→le y x q p h)) (cross_total (plus x) (minus x) (den x) (plus y) (minus y) (den y))
+le_total x y p q = ⊎_elim (λ h. inl (under→le x y p q h)) (λ h. inr (under→le y x q p h)) (cross_total (pos_part x) (neg_part x) (den x) (pos_part y) (neg_part y) (den y))
 
 pub le_trans_float : (x y z : Float) → T (le x y) → T (le y z) → T (le x z)
 unfolding le lt eq
@@ -167,8 +167,8 @@ neg_finite (inf s) p = p
 neg_finite (fin s m e) p = tt
 
 pub record Flipped (x : Float) : Type 0 where
-  pub up : plus (neg x) ≡ minus x
-  pub below : minus (neg x) ≡ plus x
+  pub up : pos_part (neg x) ≡ neg_part x
+  pub below : neg_part (neg x) ≡ pos_part x
   pub over : den (neg x) ≡ den x
 
 pub flipped : (x : Float) → Flipped x
@@ -225,7 +225,7 @@ is_false true f = absurd (f tt)
 is_false false f = refl
 
 -- strictly below: the fractions' order is strict
-pub lt→cross : (x y : Float) → T (finite x) → T (finite y) → T (lt x y) → plus x * den y + minus y * den x < plus y * den x + minus x * den y
+pub lt→cross : (x y : Float) → T (finite x) → T (finite y) → T (lt x y) → pos_part x * den y + neg_part y * den x < pos_part y * den x + neg_part x * den y
 unfolding lt
 lt→cross nan y p q h = absurd p
 lt→cross (inf s) y p q h = absurd p

@@ -8,7 +8,7 @@ use lib.Ieee.Positive.{den, den_pos, positive, positive-finite}
 use lib.Ieee.Scale.{finite}
 use Rattle.spec_arithmetic.specs.Narrow.{narrowed}
 use Rattle.spec_arithmetic.specs.Bounds.{In}
-use Rattle.tonekit_float.proofs.Fraction.{plus, minus, Within}
+use Rattle.tonekit_float.proofs.Fraction.{pos_part, neg_part, Within}
 use Rattle.tonekit_float.proofs.Order.{le→under, under→le, between_finite, flipped, neg_finite, le_trans_float}
 use Rattle.tonekit_float.proofs.Monotone.{Rounds, above, under, round_neg, zero_is, zero_f, no_minus, plus_pos, add_rounds, mul_rounds, div_rounds, narrow_rounds}
 use Rattle.tonekit_float.proofs.Exact.{whole, whole_worth, plus→positive}
@@ -16,8 +16,8 @@ use Rattle.tonekit_core.proofs.LoopLaws.{range_keeps}
 use Rattle.tonekit_core.specs.Loop.{range}
 
 -- ---- written out, or a whole number
-pub within_lit : (n : ℕ) (x : Float) → T (finite x && leb (plus x + minus x) (n * den x)) → Within n x
-within_lit n x t = record { real = and_l (finite x) (leb (plus x + minus x) (n * den x)) t; small = leb→le (plus x + minus x) (n * den x) (and_r (finite x) (leb (plus x + minus x) (n * den x)) t) }
+pub within_lit : (n : ℕ) (x : Float) → T (finite x && leb (pos_part x + neg_part x) (n * den x)) → Within n x
+within_lit n x t = record { real = and_l (finite x) (leb (pos_part x + neg_part x) (n * den x)) t; small = leb→le (pos_part x + neg_part x) (n * den x) (and_r (finite x) (leb (pos_part x + neg_part x) (n * den x)) t) }
 
 pub within_whole : (f : Format) (n : ℕ) → n ≤ 2 ^ prec f → Within n (whole f n)
 within_whole f n h = let w = whole_worth f n h in let a = w.plus_is in let b = w.minus_is in record { real = w.real; small = omega arith }
@@ -45,11 +45,11 @@ within_up f a b n B k h =
     let R = between_finite zero_f (whole f n) r tt w.real lo hi in
     let u = le→under r (whole f n) R w.real hi in
     let z = no_minus r R lo in
-    let y : minus (whole f n) * den r ≡ 0 = ap (λ (i : ℕ). i * den r) w.minus_is ∙ zero-mul (den r) in
-    let x : plus (whole f n) * den r ≡ n * den r * den (whole f n) = ap (λ (i : ℕ). i * den r) w.plus_is ∙ mul_right_comm n (den (whole f n)) (den r) in
-    let q : minus r * den (whole f n) ≡ 0 = ap (λ (i : ℕ). i * den (whole f n)) z ∙ zero-mul (den (whole f n)) in
-    let l : plus r * den (whole f n) ≤ n * den r * den (whole f n) = omega arith in
-    let s : plus r ≤ n * den r = le_of_mul-le-mul_right l (den_pos (whole f n)) in
+    let y : neg_part (whole f n) * den r ≡ 0 = ap (λ (i : ℕ). i * den r) w.minus_is ∙ zero-mul (den r) in
+    let x : pos_part (whole f n) * den r ≡ n * den r * den (whole f n) = ap (λ (i : ℕ). i * den r) w.plus_is ∙ mul_right_comm n (den (whole f n)) (den r) in
+    let q : neg_part r * den (whole f n) ≡ 0 = ap (λ (i : ℕ). i * den (whole f n)) z ∙ zero-mul (den (whole f n)) in
+    let l : pos_part r * den (whole f n) ≤ n * den r * den (whole f n) = omega arith in
+    let s : pos_part r ≤ n * den r = le_of_mul-le-mul_right l (den_pos (whole f n)) in
     record { real = R; small = omega arith }
 
 pub rounds_within : (f : Format) (x : Float) (p n d k : ℕ) → 0 < d → k ≤ 2 ^ prec f → Rounds f x p n d → p ≤ k * d → n ≤ k * d → Within k x
@@ -72,8 +72,8 @@ part_r p n k h = omega arith
 pub within_add : (f : Format) {a b : ℕ} {x y : Float} → a + b ≤ 2 ^ prec f → Within a x → Within b y → Within (a + b) (add f x y)
 within_add f {a} {b} {x} {y} k v w =
     rounds_within f (add f x y) _ _ _ (a + b) (mul-pos (den_pos x) (den_pos y)) k (add_rounds f x y v.real w.real)
-    (sum_small (plus x) (plus y) (den x) (den y) a b (part_l (plus x) (minus x) (a * den x) v.small) (part_l (plus y) (minus y) (b * den y) w.small))
-    (sum_small (minus x) (minus y) (den x) (den y) a b (part_r (plus x) (minus x) (a * den x) v.small) (part_r (plus y) (minus y) (b * den y) w.small))
+    (sum_small (pos_part x) (pos_part y) (den x) (den y) a b (part_l (pos_part x) (neg_part x) (a * den x) v.small) (part_l (pos_part y) (neg_part y) (b * den y) w.small))
+    (sum_small (neg_part x) (neg_part y) (den x) (den y) a b (part_r (pos_part x) (neg_part x) (a * den x) v.small) (part_r (pos_part y) (neg_part y) (b * den y) w.small))
 
 pub within_sub : (f : Format) {a b : ℕ} {x y : Float} → a + b ≤ 2 ^ prec f → Within a x → Within b y → Within (a + b) (sub f x y)
 unfolding sub
@@ -88,7 +88,7 @@ product_small p n q o d c a b h k =
 
 pub within_mul : (f : Format) {a b : ℕ} {x y : Float} → a * b ≤ 2 ^ prec f → Within a x → Within b y → Within (a * b) (mul f x y)
 within_mul f {a} {b} {x} {y} k v w =
-    let s = product_small (plus x) (minus x) (plus y) (minus y) (den x) (den y) a b v.small w.small in
+    let s = product_small (pos_part x) (neg_part x) (pos_part y) (neg_part y) (den x) (den y) a b v.small w.small in
     rounds_within f (mul f x y) _ _ _ (a * b) (mul-pos (den_pos x) (den_pos y)) k (mul_rounds f x y v.real w.real) (part_l _ _ _ s) (part_r _ _ _ s)
 
 -- a quotient by a y that is 1 / c or more: z, written out, shows it
@@ -105,21 +105,21 @@ reaches c p d q w D h k =
     let e : c * (p * w) ≤ c * q * d = le_trans (mul-le-mul_left c k) (le_of_eq (sym (mul_assoc c q d))) in
     le_of_mul-le-mul_right (le_trans a (le_trans (le_of_eq b) e)) D
 
-positive_up : (c : ℕ) (y : Float) → T (finite y) → den y ≤ c * plus y → T (positive y)
-positive_up c y p h = plus→positive y c p (lt_of_lt_of_le (den_pos y) (le_trans h (le_of_eq (mul_comm c (plus y)))))
+positive_up : (c : ℕ) (y : Float) → T (finite y) → den y ≤ c * pos_part y → T (positive y)
+positive_up c y p h = plus→positive y c p (lt_of_lt_of_le (den_pos y) (le_trans h (le_of_eq (mul_comm c (pos_part y)))))
 
-pub within_div : (f : Format) (c : ℕ) (z : Float) {a : ℕ} {x : Float} (y : Float) → T (positive z && leb (den z) (c * plus z)) → a * c ≤ 2 ^ prec f → Within a x → T (finite y) → T (le z y) → Within (a * c) (div f x y)
+pub within_div : (f : Format) (c : ℕ) (z : Float) {a : ℕ} {x : Float} (y : Float) → T (positive z && leb (den z) (c * pos_part z)) → a * c ≤ 2 ^ prec f → Within a x → T (finite y) → T (le z y) → Within (a * c) (div f x y)
 within_div f c z {a} {x} y t k v p h =
-    let Z = positive-finite z (and_l (positive z) (leb (den z) (c * plus z)) t) in
-    let z0 = positive_nonneg z (and_l (positive z) (leb (den z) (c * plus z)) t) in
+    let Z = positive-finite z (and_l (positive z) (leb (den z) (c * pos_part z)) t) in
+    let z0 = positive_nonneg z (and_l (positive z) (leb (den z) (c * pos_part z)) t) in
     let u = le→under z y Z p h in
-    let m : minus y * den z ≡ 0 = ap (λ (i : ℕ). i * den z) (no_minus y p (le_trans_float zero_f z y z0 h)) ∙ zero-mul (den z) in
-    let n : minus z * den y ≡ 0 = ap (λ (i : ℕ). i * den y) (no_minus z Z z0) ∙ zero-mul (den y) in
-    let r : den y ≤ c * plus y = reaches c (plus z) (den z) (plus y) (den y) (den_pos z) (leb→le (den z) (c * plus z) (and_r (positive z) (leb (den z) (c * plus z)) t)) (omega arith) in
+    let m : neg_part y * den z ≡ 0 = ap (λ (i : ℕ). i * den z) (no_minus y p (le_trans_float zero_f z y z0 h)) ∙ zero-mul (den z) in
+    let n : neg_part z * den y ≡ 0 = ap (λ (i : ℕ). i * den y) (no_minus z Z z0) ∙ zero-mul (den y) in
+    let r : den y ≤ c * pos_part y = reaches c (pos_part z) (den z) (pos_part y) (den y) (den_pos z) (leb→le (den z) (c * pos_part z) (and_r (positive z) (leb (den z) (c * pos_part z)) t)) (omega arith) in
     let q = positive_up c y p r in
     rounds_within f (div f x y) _ _ _ (a * c) (mul-pos (plus_pos y q) (den_pos x)) k (div_rounds f x y v.real q)
-    (quotient_small (plus x) (plus y) (den x) (den y) a c (part_l (plus x) (minus x) (a * den x) v.small) r)
-    (quotient_small (minus x) (plus y) (den x) (den y) a c (part_r (plus x) (minus x) (a * den x) v.small) r)
+    (quotient_small (pos_part x) (pos_part y) (den x) (den y) a c (part_l (pos_part x) (neg_part x) (a * den x) v.small) r)
+    (quotient_small (neg_part x) (pos_part y) (den x) (den y) a c (part_r (pos_part x) (neg_part x) (a * den x) v.small) r)
   where
     positive_nonneg : (z : Float) → T (positive z) → T (le zero_f z)
     positive_nonneg nan p = absurd p
@@ -129,7 +129,7 @@ within_div f c z {a} {x} y t k v p h =
 
 pub within_narrow : {a : ℕ} {x : Float} → a ≤ 2 ^ 24 → Within a x → Within a (narrowed x)
 within_narrow {a} {x} k v =
-    rounds_within binary32 (narrowed x) _ _ _ a (den_pos x) k (narrow_rounds x v.real) (part_l (plus x) (minus x) (a * den x) v.small) (part_r (plus x) (minus x) (a * den x) v.small)
+    rounds_within binary32 (narrowed x) _ _ _ a (den_pos x) k (narrow_rounds x v.real) (part_l (pos_part x) (neg_part x) (a * den x) v.small) (part_r (pos_part x) (neg_part x) (a * den x) v.small)
 
 -- ---- sizes and bounds
 one_side : (n p q o d c : ℕ) → 0 < c → p * c + o * d ≤ q * d + 0 * c → q + o ≤ n * c → p ≤ n * d
@@ -138,17 +138,17 @@ one_side n p q o d c C h k =
     let b : q * d ≤ n * c * d = mul-le-mul_right d (part_l q o (n * c) k) in
     le_of_mul-le-mul_right (le_trans a (le_trans b (le_of_eq (mul_right_comm n c d)))) C
 
-side : (n : ℕ) (lo hi x : Float) → Within n lo → Within n hi → In lo hi x → T (finite x) → plus x + minus x ≤ n * den x
+side : (n : ℕ) (lo hi x : Float) → Within n lo → Within n hi → In lo hi x → T (finite x) → pos_part x + neg_part x ≤ n * den x
 side n lo hi nan v w h p = absurd p
 side n lo hi (inf s) v w h p = absurd p
 side n lo hi (fin false m e) v w h p =
     let u = le→under (fin false m e) hi tt w.real h.high in
-    let k = one_side n (m * up e) (plus hi) (minus hi) (down e) (den hi) (den_pos hi) (omega arith) w.small in
+    let k = one_side n (m * up e) (pos_part hi) (neg_part hi) (down e) (den hi) (den_pos hi) (omega arith) w.small in
     omega arith
 side n lo hi (fin true m e) v w h p =
     let u = le→under lo (fin true m e) v.real tt h.low in
     let s = v.small in
-    let k = one_side n (m * up e) (minus lo) (plus lo) (down e) (den lo) (den_pos lo) (omega arith) (omega arith) in
+    let k = one_side n (m * up e) (neg_part lo) (pos_part lo) (down e) (den lo) (den_pos lo) (omega arith) (omega arith) in
     omega arith
 
 pub in_within : {n : ℕ} {lo hi x : Float} → Within n lo → Within n hi → In lo hi x → Within n x
@@ -162,14 +162,14 @@ within_in f {n} {x} h v =
     let F = flipped (whole f n) in
     let s = v.small in
     let D = den (whole f n) in
-    let x1 : (plus x + minus x) * D ≤ n * den x * D = mul-le-mul_right D s in
-    let x2 : (plus x + minus x) * D ≡ plus x * D + minus x * D = add-mul (plus x) (minus x) D in
-    let x3 : plus (whole f n) * den x ≡ n * den x * D = ap (λ (k : ℕ). k * den x) w.plus_is ∙ mul_right_comm n D (den x) in
-    let x4 : minus (whole f n) * den x ≡ 0 = ap (λ (k : ℕ). k * den x) w.minus_is ∙ zero-mul (den x) in
-    let y1 : plus (neg (whole f n)) * den x ≡ 0 = ap (λ (k : ℕ). k * den x) (F.up ∙ w.minus_is) ∙ zero-mul (den x) in
-    let y2 : minus (neg (whole f n)) * den x ≡ n * den x * D = ap (λ (k : ℕ). k * den x) F.below ∙ x3 in
-    let y3 : minus x * den (neg (whole f n)) ≡ minus x * D = ap (λ (k : ℕ). minus x * k) F.over in
-    let y4 : plus x * den (neg (whole f n)) ≡ plus x * D = ap (λ (k : ℕ). plus x * k) F.over in
+    let x1 : (pos_part x + neg_part x) * D ≤ n * den x * D = mul-le-mul_right D s in
+    let x2 : (pos_part x + neg_part x) * D ≡ pos_part x * D + neg_part x * D = add-mul (pos_part x) (neg_part x) D in
+    let x3 : pos_part (whole f n) * den x ≡ n * den x * D = ap (λ (k : ℕ). k * den x) w.plus_is ∙ mul_right_comm n D (den x) in
+    let x4 : neg_part (whole f n) * den x ≡ 0 = ap (λ (k : ℕ). k * den x) w.minus_is ∙ zero-mul (den x) in
+    let y1 : pos_part (neg (whole f n)) * den x ≡ 0 = ap (λ (k : ℕ). k * den x) (F.up ∙ w.minus_is) ∙ zero-mul (den x) in
+    let y2 : neg_part (neg (whole f n)) * den x ≡ n * den x * D = ap (λ (k : ℕ). k * den x) F.below ∙ x3 in
+    let y3 : neg_part x * den (neg (whole f n)) ≡ neg_part x * D = ap (λ (k : ℕ). neg_part x * k) F.over in
+    let y4 : pos_part x * den (neg (whole f n)) ≡ pos_part x * D = ap (λ (k : ℕ). pos_part x * k) F.over in
     record {
       low = under→le (neg (whole f n)) x (neg_finite (whole f n) w.real) v.real (omega arith);
       high = under→le x (whole f n) v.real w.real (omega arith);
@@ -183,12 +183,12 @@ pub within_mean : (f : Format) (n m : ℕ) {x : Float} → 0 < n → n ≤ 2 ^ p
 within_mean f n m {x} N hn hm v =
     let w = whole_worth f n hn in
     let W = whole f n in
-    let c : den W ≤ plus W = le_trans (le_trans (le_of_eq (sym (one-mul (den W)))) (mul-le-mul_right (den W) N)) (le_of_eq (sym w.plus_is)) in
-    let q = positive_up 1 W w.real (le_trans c (le_of_eq (sym (one-mul (plus W))))) in
-    let e : m * (n * den W * den x) ≡ m * (plus W * den x) = ap (λ (k : ℕ). m * (k * den x)) (sym w.plus_is) in
+    let c : den W ≤ pos_part W = le_trans (le_trans (le_of_eq (sym (one-mul (den W)))) (mul-le-mul_right (den W) N)) (le_of_eq (sym w.plus_is)) in
+    let q = positive_up 1 W w.real (le_trans c (le_of_eq (sym (one-mul (pos_part W))))) in
+    let e : m * (n * den W * den x) ≡ m * (pos_part W * den x) = ap (λ (k : ℕ). m * (k * den x)) (sym w.plus_is) in
     rounds_within f (div f x W) _ _ _ m (mul-pos (plus_pos W q) (den_pos x)) hm (div_rounds f x W v.real q)
-    (le_trans (mean_small (plus x) (den x) (den W) n m (part_l (plus x) (minus x) (n * m * den x) v.small)) (le_of_eq e))
-    (le_trans (mean_small (minus x) (den x) (den W) n m (part_r (plus x) (minus x) (n * m * den x) v.small)) (le_of_eq e))
+    (le_trans (mean_small (pos_part x) (den x) (den W) n m (part_l (pos_part x) (neg_part x) (n * m * den x) v.small)) (le_of_eq e))
+    (le_trans (mean_small (neg_part x) (den x) (den W) n m (part_r (pos_part x) (neg_part x) (n * m * den x) v.small)) (le_of_eq e))
 
 pub sum_within : (f : Format) (g : ℕ → Float) (n m : ℕ) (z : Float) → n * m ≤ 2 ^ prec f → Within 0 z → ((i : ℕ) → i < n → Within m (g i)) → Within (n * m) (range (λ i t. add f t (g i)) 0 n z)
 sum_within f g n m z h o each =

@@ -7,10 +7,9 @@ use lib.Ieee.Digits.{size-lt, size-le, size_reaches}
 use lib.Ieee.Fits.{two, down_pos, kept-lt}
 use lib.Ieee.Nearest.{div_mono}
 use Rattle.spec_arithmetic.specs.Magnitude.{total_le}
-use Rattle.tonekit_float.proofs.Magnitude.{clear}
 use Rattle.tonekit_float.proofs.Order.{yes, no, le→under, le_total, le_trans_float}
 use Rattle.tonekit_float.proofs.Units.{units_of, bits_of, to_bits_is}
-use Rattle.tonekit_float.proofs.Magnitude.{clear_lt}
+use Rattle.tonekit_float.proofs.Magnitude.{clear, clear_lt}
 
 -- of a NaN every comparison is false
 pub nan_le : (a b : Float) → le a b ≡ not (is_nan a) && le a b

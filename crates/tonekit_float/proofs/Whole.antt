@@ -7,7 +7,7 @@ use lib.Ieee.Exact.{HasValue}
 use lib.Ieee.Positive.{den, den_pos}
 use lib.Ieee.Scale.{finite}
 use Rattle.spec_arithmetic.specs.Bounds.{In}
-use Rattle.tonekit_float.proofs.Fraction.{plus, minus}
+use Rattle.tonekit_float.proofs.Fraction.{pos_part, neg_part}
 use Rattle.spec_arithmetic.specs.Whole.{whole_part, round_up}
 use Rattle.tonekit_float.proofs.Order.{yes, no, le→under, under→le, lt→cross, lt→le, not-lt→le, le_refl_finite}
 use Rattle.tonekit_float.proofs.Monotone.{zero_f, no_minus, sub_le}
@@ -95,7 +95,7 @@ module _ (q m : ℕ) (e : ℤ) (small : q ≤ 2 ^ 53) where
   abbrev w : Float
   w = whole binary64 q
 
-  scaled : plus w * down e ≡ q * down e * den w
+  scaled : pos_part w * down e ≡ q * down e * den w
   scaled = let W = whole_worth binary64 q small in ap (λ (k : ℕ). k * down e) W.plus_is ∙ mul_right_comm q (den w) (down e)
 
   lt_cross : T (lt w (fin false m e)) → q * down e < m * up e
@@ -103,7 +103,7 @@ module _ (q m : ℕ) (e : ℤ) (small : q ≤ 2 ^ 53) where
       let W = whole_worth binary64 q small in
       let c = lt→cross w (fin false m e) W.real tt h in
       let s = scaled in
-      let z : minus w * down e ≡ 0 = ap (λ (k : ℕ). k * down e) W.minus_is ∙ zero-mul (down e) in
+      let z : neg_part w * down e ≡ 0 = ap (λ (k : ℕ). k * down e) W.minus_is ∙ zero-mul (down e) in
       lt_of_mul-lt-mul_right (den w) (omega arith)
 
   le_cross : T (le (fin false m e) w) → m * up e ≤ q * down e
@@ -168,7 +168,7 @@ part_le (fin true m e) n h p z k =
 part_le (fin false m e) n h p z k =
     let W = whole_worth binary64 n h in
     let c = le→under (fin false m e) (whole binary64 n) tt W.real k in
-    let a : plus (whole binary64 n) * down e ≡ n * down e * den (whole binary64 n) = ap (λ (z : ℕ). z * down e) W.plus_is ∙ mul_right_comm n (den (whole binary64 n)) (down e) in
+    let a : pos_part (whole binary64 n) * down e ≡ n * down e * den (whole binary64 n) = ap (λ (z : ℕ). z * down e) W.plus_is ∙ mul_right_comm n (den (whole binary64 n)) (down e) in
     let b : m * up e * den (whole binary64 n) ≤ n * down e * den (whole binary64 n) = omega arith in
     let l : m * up e ≤ n * down e = le_of_mul-le-mul_right b (den_pos (whole binary64 n)) in
     let d : (n + 1) * down e ≡ n * down e + down e = add-mul n 1 (down e) ∙ ap (λ (z : ℕ). n * down e + z) (one-mul (down e)) in
@@ -187,9 +187,9 @@ part_whole n h = go (whole binary64 n) (whole_value binary64 n h)
 
 -- ---- a value from 0 up lies between its whole part and the next whole number, and what is left of it is from 0 to 1
 pub record Parted (x : Float) : Type 0 where
-  pub at_least : whole_part x * den x ≤ plus x
-  pub less_than : plus x < (whole_part x + 1) * den x
-  pub minus_is : minus x ≡ 0
+  pub at_least : whole_part x * den x ≤ pos_part x
+  pub less_than : pos_part x < (whole_part x + 1) * den x
+  pub minus_is : neg_part x ≡ 0
 
 pub parted : (x : Float) → T (finite x) → T (le zero_f x) → Parted x
 unfolding whole_part
@@ -217,9 +217,9 @@ module _ (x : Float) (p : T (finite x)) (h : T (le zero_f x)) (small : whole_par
       let P = parted x p h in
       let w = whole_worth binary64 q (le_of_lt small) in
       let D = den (whole binary64 q) in
-      let a : q * den x * D ≤ plus x * D = mul-le-mul_right D P.at_least in
-      let b : plus (whole binary64 q) * den x ≡ q * den x * D = ap (λ (k : ℕ). k * den x) w.plus_is ∙ mul_right_comm q D (den x) in
-      let c : minus x * D ≡ 0 = ap (λ (k : ℕ). k * D) P.minus_is ∙ zero-mul D in
+      let a : q * den x * D ≤ pos_part x * D = mul-le-mul_right D P.at_least in
+      let b : pos_part (whole binary64 q) * den x ≡ q * den x * D = ap (λ (k : ℕ). k * den x) w.plus_is ∙ mul_right_comm q D (den x) in
+      let c : neg_part x * D ≡ 0 = ap (λ (k : ℕ). k * D) P.minus_is ∙ zero-mul D in
       under→le (whole binary64 q) x w.real p (omega arith)
 
   pub part_over : T (le x (whole binary64 (q + 1)))
@@ -228,9 +228,9 @@ module _ (x : Float) (p : T (finite x)) (h : T (le zero_f x)) (small : whole_par
       let n = q + 1 in
       let w = whole_worth binary64 n (suc_le q small) in
       let D = den (whole binary64 n) in
-      let a : plus x * D ≤ n * den x * D = mul-le-mul_right D (le_of_lt P.less_than) in
-      let b : plus (whole binary64 n) * den x ≡ n * den x * D = ap (λ (k : ℕ). k * den x) w.plus_is ∙ mul_right_comm n D (den x) in
-      let c : minus (whole binary64 n) * den x ≡ 0 = ap (λ (k : ℕ). k * den x) w.minus_is ∙ zero-mul (den x) in
+      let a : pos_part x * D ≤ n * den x * D = mul-le-mul_right D (le_of_lt P.less_than) in
+      let b : pos_part (whole binary64 n) * den x ≡ n * den x * D = ap (λ (k : ℕ). k * den x) w.plus_is ∙ mul_right_comm n D (den x) in
+      let c : neg_part (whole binary64 n) * den x ≡ 0 = ap (λ (k : ℕ). k * den x) w.minus_is ∙ zero-mul (den x) in
       under→le x (whole binary64 n) p w.real (omega arith)
 
   pub rest_in : In zero_f one_f (sub binary64 x (whole binary64 q))

@@ -3,7 +3,8 @@ use Rattle.std.proofs.Common.{ℕ, zero, suc, ◌+◌, ◌-◌, ◌<◌, ◌≡�
 use Rattle.std.specs.Prelude.{Some, None}
 use mathlib.Core.Option.{none, some}
 use Rattle.tonekit_core.specs.Loop.{Turn, next, stop, turns_to, range_to}
-use Rattle.spec_arithmetic.specs.Places.{number_at, index_turn, index_of}
+use Rattle.spec_arithmetic.specs.Places.{number_at, index_of}
+use Rattle.tonekit_bytes.specs.Places.{index_turn}
 use Rattle.tonekit_pack.specs.declared.Pack.{Pack}
 use Rattle.tonekit_pack.specs.Held.{shown}
 use Rattle.tonekit_core.proofs.Split.{or_cond}

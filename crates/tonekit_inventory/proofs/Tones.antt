@@ -4,7 +4,7 @@ use Rattle.std.proofs.Common.{ℕ, ◌+◌, ◌≤◌, ◌<◌, ◌≡◌, ap, �
 use Rattle.std.proofs.lemmas.List.{length-map}
 use Rattle.spec_arithmetic.specs.Fields.{byte_at, f32_at}
 use Rattle.tonekit_pack.specs.declared.Pack.{Pack}
-use Rattle.spec_arithmetic.specs.Places.{in_order}
+use Rattle.tonekit_bytes.specs.Places.{in_order}
 use Rattle.tonekit_bytes.proofs.InOrder.{order_length, order_get}
 use Rattle.spec_lookup.specs.Source.{Carried, components, tone_at, source_of_pack}
 use Rattle.spec_lookup.specs.declared.Listing.{Listing}

@@ -9,7 +9,8 @@ use Rattle.tonekit_float.proofs.NarrowRound.{L}
 use Rattle.tonekit_float.proofs.Order.{yes}
 use Rattle.tonekit_float.proofs.Patterns.{power_value}
 use Rattle.spec_arithmetic.specs.Constants.{LN2, bound}
-use Rattle.spec_arithmetic.specs.Exp.{exp_series, turns, floor_of, exp_by, exp_of}
+use Rattle.spec_arithmetic.specs.Exp.{exp_series, floor_of, exp_by, exp_of}
+use Rattle.tonekit_log.proofs.Turns.{by_log2e}
 
 fits_up : (k : ℕ) → k ≤ 1023 → T (fits binary64 (fin false 1 (pos k)))
 unfolding fits
@@ -53,7 +54,7 @@ power_down k h =
     join k h = omega arith
 
 -- ---- what exp returns
-pub exp_is : (v : Float) → is_nan v ≡ false → lt v (neg bound) ≡ false → lt bound v ≡ false → exp_of v ≡ exp_by v (floor_of (turns v))
+pub exp_is : (v : Float) → is_nan v ≡ false → lt v (neg bound) ≡ false → lt bound v ≡ false → exp_of v ≡ exp_by v (floor_of (by_log2e v))
 unfolding exp_of
 exp_is v a b c = rw (a, b, c)
 
@@ -105,7 +106,7 @@ kept_is : (n : ℤ) → Small n → kept n ≡ n
 kept_is (pos n) h = let z = up_small n h.1 in to_z_pos w64 {n = n} (omega arith)
 kept_is (negsuc k) h = let z = down_small k h.0 in to_z-of_z {w = w64} {z = negsuc k} (record { sfits = omega arith })
 
-pub result_is : (v : Float) (n : ℤ) → is_nan v ≡ false → lt v (neg bound) ≡ false → lt bound v ≡ false → n ≡ floor_of (turns v) → Small n
+pub result_is : (v : Float) (n : ℤ) → is_nan v ≡ false → lt v (neg bound) ≡ false → lt bound v ≡ false → n ≡ floor_of (by_log2e v) → Small n
     → Result v (of_int binary64 (kept n)) (of_bits binary64 (field_of n * 2 ^ 52)) ≡ exp_of v
 result_is v n a b c f h =
     ap (λ (z : ℤ). Result v (of_int binary64 z) (of_bits binary64 (field_of n * 2 ^ 52))) (kept_is n h)

@@ -8,17 +8,17 @@ use lib.Ieee.Fits.{and_l, and_r, down_pos, round-fits}
 use lib.Ieee.Positive.{den, den_pos, positive}
 use lib.Ieee.Scale.{finite}
 use Rattle.spec_arithmetic.specs.Bounds.{In}
-use Rattle.tonekit_float.proofs.Fraction.{Within, plus, minus}
+use Rattle.tonekit_float.proofs.Fraction.{Within, pos_part, neg_part}
 use Rattle.tonekit_float.proofs.Size.{within_lit, within_whole, within_neg, within_more, within_mul}
 use Rattle.tonekit_float.proofs.Order.{yes, lt→le, le→under, under→le, neg_finite, flipped, le_trans_float}
-use Rattle.tonekit_float.proofs.Monotone.{Rounds, zero_f, add_rounds, mul_rounds, mul_comm_float, no_plus}
+use Rattle.tonekit_float.proofs.Monotone.{Rounds, zero_f, add_rounds, mul_rounds, mul_comm_float}
 use Rattle.tonekit_float.proofs.Bounds.{in_wider, in_add, in_mul, in_div, in_scale, finite4, about0}
 use Rattle.tonekit_float.proofs.Exact.{rounds_under, rounds_over, whole, whole_worth}
-use Rattle.spec_arithmetic.specs.Constants.{LN2, LOG2E, half, one, bound, num}
+use Rattle.spec_arithmetic.specs.Constants.{LN2, LOG2E, half, one64, bound, whole64}
 use Rattle.tonekit_log.proofs.Powers.{minus_is}
-use Rattle.tonekit_log.proofs.Turns.{inside, keeps, v_finite, times_finite, turns_finite, no_deeper}
+use Rattle.tonekit_log.proofs.Turns.{by_log2e, inside, keeps, v_finite, times_finite, turns_finite, no_deeper}
 use Rattle.tonekit_log.proofs.ExpCases.{exp_is, low_result}
-use Rattle.spec_arithmetic.specs.Exp.{steps, exp_series, turns, rest, floor_of, exp_by, exp_of}
+use Rattle.spec_arithmetic.specs.Exp.{exp_horner, exp_series, floor_of, exp_by, exp_of}
 
 -- ---- -n / 2 ^ b, exactly
 shl_lt : (n c : ℕ) → n < 2 ^ 53 → c ≤ 1074 → n * 2 ^ c < 2 ^ 2098
@@ -38,8 +38,8 @@ dyadic n b c e h =
 
 record Minus (z : Float) (n B : ℕ) : Type 0 where
   real : T (finite z)
-  none : plus z ≡ 0
-  is : minus z * B ≡ n * den z
+  none : pos_part z ≡ 0
+  is : neg_part z * B ≡ n * den z
 
 minus_of : (z : Float) (n B : ℕ) → HasValue z true n B → Minus z n B
 minus_of nan n B v = absurd v
@@ -70,30 +70,30 @@ module _ (x : Float) (p q d n b c : ℕ) (e : c + b ≡ 1074) (small : n < 2 ^ 5
   Z : Minus z n (2 ^ b)
   Z = minus_of z n (2 ^ b) (dyadic n b c e small)
 
-  at_most_lem : p * 2 ^ b + n * d ≤ q * 2 ^ b → plus x * 2 ^ b + n * den x ≤ minus x * 2 ^ b
+  at_most_lem : p * 2 ^ b + n * d ≤ q * 2 ^ b → pos_part x * 2 ^ b + n * den x ≤ neg_part x * 2 ^ b
   at_most_lem h =
-      let k = swap_le p q d n (2 ^ b) (minus z) (den z) (pow_pos b) Z.is h in
-      let o : plus z * d ≡ 0 = ap (λ (i : ℕ). i * d) Z.none ∙ zero-mul d in
-      let o' : plus z * den x ≡ 0 = ap (λ (i : ℕ). i * den x) Z.none ∙ zero-mul (den x) in
+      let k = swap_le p q d n (2 ^ b) (neg_part z) (den z) (pow_pos b) Z.is h in
+      let o : pos_part z * d ≡ 0 = ap (λ (i : ℕ). i * d) Z.none ∙ zero-mul d in
+      let o' : pos_part z * den x ≡ 0 = ap (λ (i : ℕ). i * den x) Z.none ∙ zero-mul (den x) in
       let l = rounds_under binary64 x z p q d D (round-fits binary64 true n (2 ^ b)) Z.real R (omega arith) in
       let u = le→under x z F Z.real l in
-      swap_le (plus x) (minus x) (den x) (minus z) (den z) n (2 ^ b) (den_pos z) (sym Z.is) (omega arith)
+      swap_le (pos_part x) (neg_part x) (den x) (neg_part z) (den z) n (2 ^ b) (den_pos z) (sym Z.is) (omega arith)
 
-  at_least : q * 2 ^ b ≤ p * 2 ^ b + n * d → minus x * 2 ^ b ≤ plus x * 2 ^ b + n * den x
+  at_least : q * 2 ^ b ≤ p * 2 ^ b + n * d → neg_part x * 2 ^ b ≤ pos_part x * 2 ^ b + n * den x
   at_least h =
-      let k = swap_ge p q d n (2 ^ b) (minus z) (den z) (pow_pos b) Z.is h in
-      let o : plus z * d ≡ 0 = ap (λ (i : ℕ). i * d) Z.none ∙ zero-mul d in
-      let o' : plus z * den x ≡ 0 = ap (λ (i : ℕ). i * den x) Z.none ∙ zero-mul (den x) in
+      let k = swap_ge p q d n (2 ^ b) (neg_part z) (den z) (pow_pos b) Z.is h in
+      let o : pos_part z * d ≡ 0 = ap (λ (i : ℕ). i * d) Z.none ∙ zero-mul d in
+      let o' : pos_part z * den x ≡ 0 = ap (λ (i : ℕ). i * den x) Z.none ∙ zero-mul (den x) in
       let l = rounds_over binary64 x z p q d D (round-fits binary64 true n (2 ^ b)) Z.real R (omega arith) in
       let u = le→under z x Z.real F l in
-      swap_ge (plus x) (minus x) (den x) (minus z) (den z) n (2 ^ b) (den_pos z) (sym Z.is) (omega arith)
+      swap_ge (pos_part x) (neg_part x) (den x) (neg_part z) (den z) n (2 ^ b) (den_pos z) (sym Z.is) (omega arith)
 
 -- ---- n = -k is the whole number at or below t
 record FloorAt (t : Float) (k : ℕ) : Type 0 where
   floor : floor_of t ≡ neg_ℤ (pos k)
   few : k ≤ 1022
-  low : minus t ≤ plus t + k * den t
-  high : k * den t + plus t < den t + minus t
+  low : neg_part t ≤ pos_part t + k * den t
+  high : k * den t + pos_part t < den t + neg_part t
 
 record Floored (t : Float) : Type 0 where
   k : ℕ
@@ -131,54 +131,54 @@ constants : (LOG2E ≡ fin false l2e (negsuc 50)) × (half ≡ fin false 1 (negs
 unfolding of_bits
 constants = (refl, refl, refl)
 
-times_rounds : (v : Float) → T (finite v) → Rounds binary64 (mul binary64 v LOG2E) (plus v * l2e + minus v * 0) (plus v * 0 + minus v * l2e) (den v * 2 ^ 51)
+times_rounds : (v : Float) → T (finite v) → Rounds binary64 (mul binary64 v LOG2E) (pos_part v * l2e + neg_part v * 0) (pos_part v * 0 + neg_part v * l2e) (den v * 2 ^ 51)
 times_rounds v f =
-    subst (λ (y : Float). Rounds binary64 (mul binary64 v y) (plus v * l2e + minus v * 0) (plus v * 0 + minus v * l2e) (den v * 2 ^ 51)) (sym constants.0)
+    subst (λ (y : Float). Rounds binary64 (mul binary64 v y) (pos_part v * l2e + neg_part v * 0) (pos_part v * 0 + neg_part v * l2e) (den v * 2 ^ 51)) (sym constants.0)
     (mul_rounds binary64 v (fin false l2e (negsuc 50)) f tt)
 
-half_rounds : (w : Float) → T (finite w) → Rounds binary64 (add binary64 w half) (plus w * 2 + 1 * den w) (minus w * 2 + 0 * den w) (den w * 2)
+half_rounds : (w : Float) → T (finite w) → Rounds binary64 (add binary64 w half) (pos_part w * 2 + 1 * den w) (neg_part w * 2 + 0 * den w) (den w * 2)
 half_rounds w f =
-    subst (λ (y : Float). Rounds binary64 (add binary64 w y) (plus w * 2 + 1 * den w) (minus w * 2 + 0 * den w) (den w * 2)) (sym constants.1)
+    subst (λ (y : Float). Rounds binary64 (add binary64 w y) (pos_part w * 2 + 1 * den w) (neg_part w * 2 + 0 * den w) (den w * 2)) (sym constants.1)
     (add_rounds binary64 w (fin false 1 (negsuc 0)) f tt)
 
 record Near (v : Float) (k : ℕ) : Type 0 where
-  upper : 64 * (minus v * l2e) < (64 * k + 33) * (den v * 2 ^ 51)
-  lower : 0 < k → (2 * k - 1) * (den v * 2 ^ 51) < 2 * (minus v * l2e)
+  upper : 64 * (neg_part v * l2e) < (64 * k + 33) * (den v * 2 ^ 51)
+  lower : 0 < k → (2 * k - 1) * (den v * 2 ^ 51) < 2 * (neg_part v * l2e)
 
-module _ (v : Float) (k : ℕ) (A : T (finite v)) (N : plus v ≡ 0) (W : T (finite (mul binary64 v LOG2E))) (F : T (finite (turns v))) (a : FloorAt (turns v) k) where
+module _ (v : Float) (k : ℕ) (A : T (finite v)) (N : pos_part v ≡ 0) (W : T (finite (mul binary64 v LOG2E))) (F : T (finite (by_log2e v))) (a : FloorAt (by_log2e v) k) where
   abbrev w : Float
   w = mul binary64 v LOG2E
 
   abbrev t : Float
-  t = turns v
+  t = by_log2e v
 
-  sum_up : 64 * minus w < 64 * plus w + (64 * k + 33) * den w
+  sum_up : 64 * neg_part w < 64 * pos_part w + (64 * k + 33) * den w
   sum_up = lt_of_not-le (λ h. contrary h)
     where
-      contrary : 64 * plus w + (64 * k + 33) * den w ≤ 64 * minus w → ⊥
+      contrary : 64 * pos_part w + (64 * k + 33) * den w ≤ 64 * neg_part w → ⊥
       contrary h =
           let n = 64 * k + 1 in
           let few = a.few in
           let D : 0 < den w * 2 = mul-pos (den_pos w) (lit< tt) in
           let x : (64 * k + 33) * den w ≡ 64 * (k * den w) + 33 * den w = add-mul (64 * k) 33 (den w) ∙ ap (λ (i : ℕ). i + 33 * den w) (mul_assoc 64 k (den w)) in
           let y : n * (den w * 2) ≡ 128 * (k * den w) + 2 * den w = simp (add-mul, mul_assoc, mul_comm, mul_left_comm) (omega arith) in
-          let l = at_most_lem t (plus w * 2 + 1 * den w) (minus w * 2 + 0 * den w) (den w * 2) n 6 1068 refl (omega arith) D F (half_rounds w W) (omega arith) in
+          let l = at_most_lem t (pos_part w * 2 + 1 * den w) (neg_part w * 2 + 0 * den w) (den w * 2) n 6 1068 refl (omega arith) D F (half_rounds w W) (omega arith) in
           let s : n * den t ≡ 64 * (k * den t) + den t = add-mul (64 * k) 1 (den t) ∙ ap (λ (i : ℕ). i + 1 * den t) (mul_assoc 64 k (den t)) ∙ ap (λ (i : ℕ). 64 * (k * den t) + i) (one-mul (den t)) in
           let g = a.low in
           let d = den_pos t in
           lt_irrefl 0 (omega arith)
 
-  sum_down : 0 < k → 2 * plus w + (2 * k - 1) * den w < 2 * minus w
+  sum_down : 0 < k → 2 * pos_part w + (2 * k - 1) * den w < 2 * neg_part w
   sum_down K = lt_of_not-le (λ h. contrary h)
     where
-      contrary : 2 * minus w ≤ 2 * plus w + (2 * k - 1) * den w → ⊥
+      contrary : 2 * neg_part w ≤ 2 * pos_part w + (2 * k - 1) * den w → ⊥
       contrary h =
           let n = k - 1 in
           let few = a.few in
           let D : 0 < den w * 2 = mul-pos (den_pos w) (lit< tt) in
           let x : (2 * k - 1) * den w ≡ 2 * (n * den w) + den w = ap (λ (i : ℕ). i * den w) (twice k K) ∙ add-mul (2 * n) 1 (den w) ∙ ap (λ (i : ℕ). i + 1 * den w) (mul_assoc 2 n (den w)) ∙ ap (λ (i : ℕ). 2 * (n * den w) + i) (one-mul (den w)) in
           let y : n * (den w * 2) ≡ 2 * (n * den w) = simp (mul_assoc, mul_comm, mul_left_comm) in
-          let l = at_least t (plus w * 2 + 1 * den w) (minus w * 2 + 0 * den w) (den w * 2) n 0 1074 refl (omega arith) D F (half_rounds w W) (omega arith) in
+          let l = at_least t (pos_part w * 2 + 1 * den w) (neg_part w * 2 + 0 * den w) (den w * 2) n 0 1074 refl (omega arith) D F (half_rounds w W) (omega arith) in
           let s : k * den t ≡ n * den t + den t = ap (λ (i : ℕ). i * den t) (back k K) ∙ add-mul n 1 (den t) ∙ ap (λ (i : ℕ). n * den t + i) (one-mul (den t)) in
           let g = a.high in
           lt_irrefl 0 (omega arith)
@@ -198,19 +198,19 @@ module _ (v : Float) (k : ℕ) (A : T (finite v)) (N : plus v ≡ 0) (W : T (fin
       D : 0 < den v * 2 ^ 51
       D = mul-pos (den_pos v) (pow_pos 51)
 
-      over : (64 * k + 33) * (den v * 2 ^ 51) ≤ 64 * (minus v * l2e) → ⊥
+      over : (64 * k + 33) * (den v * 2 ^ 51) ≤ 64 * (neg_part v * l2e) → ⊥
       over h =
           let few = a.few in
-          let o : plus v * l2e ≡ 0 = ap (λ (i : ℕ). i * l2e) N ∙ zero-mul l2e in
-          let l = at_most_lem w (plus v * l2e + minus v * 0) (plus v * 0 + minus v * l2e) (den v * 2 ^ 51) (64 * k + 33) 6 1068 refl (omega arith) D W (times_rounds v A) (omega arith) in
+          let o : pos_part v * l2e ≡ 0 = ap (λ (i : ℕ). i * l2e) N ∙ zero-mul l2e in
+          let l = at_most_lem w (pos_part v * l2e + neg_part v * 0) (pos_part v * 0 + neg_part v * l2e) (den v * 2 ^ 51) (64 * k + 33) 6 1068 refl (omega arith) D W (times_rounds v A) (omega arith) in
           let g = sum_up in
           lt_irrefl 0 (omega arith)
 
-      under : 0 < k → 2 * (minus v * l2e) ≤ (2 * k - 1) * (den v * 2 ^ 51) → ⊥
+      under : 0 < k → 2 * (neg_part v * l2e) ≤ (2 * k - 1) * (den v * 2 ^ 51) → ⊥
       under K h =
           let few = a.few in
-          let o : plus v * l2e ≡ 0 = ap (λ (i : ℕ). i * l2e) N ∙ zero-mul l2e in
-          let l = at_least w (plus v * l2e + minus v * 0) (plus v * 0 + minus v * l2e) (den v * 2 ^ 51) (2 * k - 1) 1 1073 refl (omega arith) D W (times_rounds v A) (omega arith) in
+          let o : pos_part v * l2e ≡ 0 = ap (λ (i : ℕ). i * l2e) N ∙ zero-mul l2e in
+          let l = at_least w (pos_part v * l2e + neg_part v * 0) (pos_part v * 0 + neg_part v * l2e) (den v * 2 ^ 51) (2 * k - 1) 1 1073 refl (omega arith) D W (times_rounds v A) (omega arith) in
           let g = sum_down K in
           lt_irrefl 0 (omega arith)
 
@@ -226,8 +226,8 @@ ln2 = 0x16_2E42_FEFA_39EF
 
 record Whole (x : Float) (k : ℕ) : Type 0 where
   real : T (finite x)
-  none : plus x ≡ 0
-  is : minus x ≡ k * den x
+  none : pos_part x ≡ 0
+  is : neg_part x ≡ k * den x
   size : Within 1022 x
 
 down_whole : (k : ℕ) → k ≤ 1022 → Whole (of_int binary64 (neg_ℤ (pos k))) k
@@ -247,9 +247,9 @@ down_whole (suc k) h =
       size = within_neg (within_more h (within_whole binary64 (suc k) few));
     })
 
-ln2_rounds : (x : Float) → T (finite x) → Rounds binary64 (mul binary64 x LN2) (plus x * ln2 + minus x * 0) (plus x * 0 + minus x * ln2) (den x * 2 ^ 53)
+ln2_rounds : (x : Float) → T (finite x) → Rounds binary64 (mul binary64 x LN2) (pos_part x * ln2 + neg_part x * 0) (pos_part x * 0 + neg_part x * ln2) (den x * 2 ^ 53)
 ln2_rounds x f =
-    subst (λ (y : Float). Rounds binary64 (mul binary64 x y) (plus x * ln2 + minus x * 0) (plus x * 0 + minus x * ln2) (den x * 2 ^ 53)) (sym constants.2)
+    subst (λ (y : Float). Rounds binary64 (mul binary64 x y) (pos_part x * ln2 + neg_part x * 0) (pos_part x * 0 + neg_part x * ln2) (den x * 2 ^ 53)) (sym constants.2)
     (mul_rounds binary64 x (fin false ln2 (negsuc 52)) f tt)
 
 ln2_within : Within 1 LN2
@@ -258,8 +258,8 @@ ln2_within = within_lit 1 LN2 tt
 
 record Product (u : Float) (k : ℕ) : Type 0 where
   real : T (finite u)
-  low : plus u * 2 ^ 24 + k * lo24 * den u ≤ minus u * 2 ^ 24
-  high : minus u * 2 ^ 24 ≤ plus u * 2 ^ 24 + k * hi24 * den u
+  low : pos_part u * 2 ^ 24 + k * lo24 * den u ≤ neg_part u * 2 ^ 24
+  high : neg_part u * 2 ^ 24 ≤ pos_part u * 2 ^ 24 + k * hi24 * den u
 
 product : (k : ℕ) → k ≤ 1022 → Product (mul binary64 (of_int binary64 (neg_ℤ (pos k))) LN2) k
 product k h =
@@ -269,14 +269,14 @@ product k h =
     let F = (within_mul binary64 (lit≤ tt) w.size ln2_within).real in
     let D : 0 < den x * 2 ^ 53 = mul-pos (den_pos x) (pow_pos 53) in
     let R = ln2_rounds x w.real in
-    let o : plus x * ln2 ≡ 0 = ap (λ (i : ℕ). i * ln2) w.none ∙ zero-mul ln2 in
-    let m : minus x * ln2 ≡ ln2 * (k * den x) = ap (λ (i : ℕ). i * ln2) w.is ∙ mul_comm (k * den x) ln2 in
+    let o : pos_part x * ln2 ≡ 0 = ap (λ (i : ℕ). i * ln2) w.none ∙ zero-mul ln2 in
+    let m : neg_part x * ln2 ≡ ln2 * (k * den x) = ap (λ (i : ℕ). i * ln2) w.is ∙ mul_comm (k * den x) ln2 in
     let p : k * lo24 * (den x * 2 ^ 53) ≡ lo24 * 2 ^ 53 * (k * den x) = simp (mul_assoc, mul_comm, mul_left_comm) in
     let q : k * hi24 * (den x * 2 ^ 53) ≡ hi24 * 2 ^ 53 * (k * den x) = simp (mul_assoc, mul_comm, mul_left_comm) in
     record {
       real = F;
-      low = at_most_lem u (plus x * ln2 + minus x * 0) (plus x * 0 + minus x * ln2) (den x * 2 ^ 53) (k * lo24) 24 1050 refl (omega arith) D F R (omega arith);
-      high = at_least u (plus x * ln2 + minus x * 0) (plus x * 0 + minus x * ln2) (den x * 2 ^ 53) (k * hi24) 24 1050 refl (omega arith) D F R (omega arith);
+      low = at_most_lem u (pos_part x * ln2 + neg_part x * 0) (pos_part x * 0 + neg_part x * ln2) (den x * 2 ^ 53) (k * lo24) 24 1050 refl (omega arith) D F R (omega arith);
+      high = at_least u (pos_part x * ln2 + neg_part x * 0) (pos_part x * 0 + neg_part x * ln2) (den x * 2 ^ 53) (k * hi24) 24 1050 refl (omega arith) D F R (omega arith);
     }
 
 -- ---- r
@@ -342,27 +342,30 @@ ends_fit : T (fits binary64 most_r) × T (fits binary64 least_r)
 unfolding fits
 ends_fit = (tt, tt)
 
-rest_in : (v : Float) (k : ℕ) → T (finite v) → plus v ≡ 0 → k ≤ 1022 → Near v k → In least_r most_r (rest v (neg_ℤ (pos k)))
+abbrev pub rest : Float → ℤ → Float
+rest v n = sub binary64 v (mul binary64 (of_int binary64 n) LN2)
+
+rest_in : (v : Float) (k : ℕ) → T (finite v) → pos_part v ≡ 0 → k ≤ 1022 → Near v k → In least_r most_r (rest v (neg_ℤ (pos k)))
 unfolding sub
 rest_in v k f n h a =
     let u = mul binary64 (of_int binary64 (neg_ℤ (pos k))) LN2 in
     let P = product k h in
     let g = flipped u in
     let R = add_rounds binary64 v (neg u) f (neg_finite u P.real) in
-    let M = minus v in
+    let M = neg_part v in
     let D = den v in
     let E = den u in
-    let p : plus v * den (neg u) + plus (neg u) * D ≡ 0 * E + minus u * D = ap (λ (i : ℕ). i * den (neg u) + plus (neg u) * D) n ∙ ap (λ (i : ℕ). 0 * i + plus (neg u) * D) g.over ∙ ap (λ (i : ℕ). 0 * E + i * D) g.up in
-    let q : M * den (neg u) + minus (neg u) * D ≡ M * E + plus u * D = ap (λ (i : ℕ). M * i + minus (neg u) * D) g.over ∙ ap (λ (i : ℕ). M * E + i * D) g.below in
+    let p : pos_part v * den (neg u) + pos_part (neg u) * D ≡ 0 * E + neg_part u * D = ap (λ (i : ℕ). i * den (neg u) + pos_part (neg u) * D) n ∙ ap (λ (i : ℕ). 0 * i + pos_part (neg u) * D) g.over ∙ ap (λ (i : ℕ). 0 * E + i * D) g.up in
+    let q : M * den (neg u) + neg_part (neg u) * D ≡ M * E + pos_part u * D = ap (λ (i : ℕ). M * i + neg_part (neg u) * D) g.over ∙ ap (λ (i : ℕ). M * E + i * D) g.below in
     let d : D * den (neg u) ≡ D * E = ap (λ (i : ℕ). D * i) g.over in
-    let R' : Rounds binary64 (add binary64 v (neg u)) (0 * E + minus u * D) (M * E + plus u * D) (D * E) =
-    subst (λ (i : ℕ). Rounds binary64 (add binary64 v (neg u)) i (M * E + plus u * D) (D * E)) p
-    (subst (λ (i : ℕ). Rounds binary64 (add binary64 v (neg u)) (plus v * den (neg u) + plus (neg u) * D) i (D * E)) q
-    (subst (λ (i : ℕ). Rounds binary64 (add binary64 v (neg u)) (plus v * den (neg u) + plus (neg u) * D) (M * den (neg u) + minus (neg u) * D) i) d R)) in
+    let R' : Rounds binary64 (add binary64 v (neg u)) (0 * E + neg_part u * D) (M * E + pos_part u * D) (D * E) =
+    subst (λ (i : ℕ). Rounds binary64 (add binary64 v (neg u)) i (M * E + pos_part u * D) (D * E)) p
+    (subst (λ (i : ℕ). Rounds binary64 (add binary64 v (neg u)) (pos_part v * den (neg u) + pos_part (neg u) * D) i (D * E)) q
+    (subst (λ (i : ℕ). Rounds binary64 (add binary64 v (neg u)) (pos_part v * den (neg u) + pos_part (neg u) * D) (M * den (neg u) + neg_part (neg u) * D) i) d R)) in
     let pos-d = mul-pos (den_pos v) (den_pos u) in
     record {
-      low = rounds_over binary64 (add binary64 v (neg u)) least_r _ _ _ pos-d ends_fit.1 tt R' (rest_down M D k (minus u) (plus u) E P.low (coefficient_down M D k h a.upper));
-      high = rounds_under binary64 (add binary64 v (neg u)) most_r _ _ _ pos-d ends_fit.0 tt R' (rest_up M D k (minus u) (plus u) E P.high (coefficient_up M D k h a.lower));
+      low = rounds_over binary64 (add binary64 v (neg u)) least_r _ _ _ pos-d ends_fit.1 tt R' (rest_down M D k (neg_part u) (pos_part u) E P.low (coefficient_down M D k h a.upper));
+      high = rounds_under binary64 (add binary64 v (neg u)) most_r _ _ _ pos-d ends_fit.0 tt R' (rest_up M D k (neg_part u) (pos_part u) E P.high (coefficient_up M D k h a.lower));
     }
 
 -- ---- q stays from 3/8 to 13/8
@@ -380,13 +383,13 @@ two_f = fin false 1 (pos 1)
 
 -- a step's least and greatest result
 abbrev least_step : ℕ → Float
-least_step j = div binary64 (mul binary64 most_q least_r) (num j)
+least_step j = div binary64 (mul binary64 most_q least_r) (whole64 j)
 
 abbrev most_step : ℕ → Float
-most_step j = div binary64 (mul binary64 most_q most_r) (num j)
+most_step j = div binary64 (mul binary64 most_q most_r) (whole64 j)
 
 abbrev step_ok : ℕ → Bool
-step_ok j = positive (num j) && finite4 one one (least_step j) (most_step j) && (le least_q (add binary64 one (least_step j)) && le (add binary64 one (most_step j)) most_q)
+step_ok j = positive (whole64 j) && finite4 one64 one64 (least_step j) (most_step j) && (le least_q (add binary64 one64 (least_step j)) && le (add binary64 one64 (most_step j)) most_q)
 
 steps_ok : ℕ → Bool
 steps_ok zero = true
@@ -400,35 +403,35 @@ product_ends : T (finite (mul binary64 most_q least_r) && finite (mul binary64 m
 unfolding mul round le lt eq
 product_ends = (tt, tt, tt)
 
-one_in : In one one one
+one_in : In one64 one64 one64
 unfolding of_bits le lt eq
 one_in = record { low = tt; high = tt }
 
-step_in : (j : ℕ) (r q : Float) → T (step_ok j) → In least_r most_r r → In least_q most_q q → In least_q most_q (add binary64 one (div binary64 (mul binary64 r q) (num j)))
+step_in : (j : ℕ) (r q : Float) → T (step_ok j) → In least_r most_r r → In least_q most_q q → In least_q most_q (add binary64 one64 (div binary64 (mul binary64 r q) (whole64 j)))
 step_in j r q t hr hq =
-    let A = positive (num j) in
-    let B = finite4 one one (least_step j) (most_step j) in
-    let C = le least_q (add binary64 one (least_step j)) && le (add binary64 one (most_step j)) most_q in
+    let A = positive (whole64 j) in
+    let B = finite4 one64 one64 (least_step j) (most_step j) in
+    let C = le least_q (add binary64 one64 (least_step j)) && le (add binary64 one64 (most_step j)) most_q in
     let m : In (mul binary64 most_q least_r) (mul binary64 most_q most_r) (mul binary64 r q) =
     subst (λ (y : Float). In (mul binary64 most_q least_r) (mul binary64 most_q most_r) y) (mul_comm_float binary64 q r)
     (in_scale binary64 product_ends.1 (in_wider product_ends.2 hq) hr) in
     in_wider (and_r (A && B) C t)
-    (in_add binary64 (and_r A B (and_l (A && B) C t)) one_in (in_div binary64 (num j) product_ends.0 (and_l A B (and_l (A && B) C t)) m))
+    (in_add binary64 (and_r A B (and_l (A && B) C t)) one_in (in_div binary64 (whole64 j) product_ends.0 (and_l A B (and_l (A && B) C t)) m))
 
-steps_in : (j : ℕ) (r q : Float) → T (steps_ok j) → In least_r most_r r → In least_q most_q q → In least_q most_q (steps j r q)
-unfolding steps steps_ok
+steps_in : (j : ℕ) (r q : Float) → T (steps_ok j) → In least_r most_r r → In least_q most_q q → In least_q most_q (exp_horner j r q)
+unfolding exp_horner steps_ok
 steps_in zero r q t hr hq = hq
 steps_in (suc j) r q t hr hq =
-    steps_in j r (add binary64 one (div binary64 (mul binary64 r q) (num (suc j)))) (and_r (step_ok (suc j)) (steps_ok j) t) hr
+    steps_in j r (add binary64 one64 (div binary64 (mul binary64 r q) (whole64 (suc j)))) (and_r (step_ok (suc j)) (steps_ok j) t) hr
     (step_in (suc j) r q (and_l (step_ok (suc j)) (steps_ok j) t) hr hq)
 
-start : In least_q most_q one
+start : In least_q most_q one64
 unfolding of_bits le lt eq
 start = record { low = tt; high = tt }
 
 series_in : (r : Float) → In least_r most_r r → In least_q most_q (exp_series r)
 unfolding exp_series
-series_in r h = steps_in 13 r one steps_13 h start
+series_in r h = steps_in 13 r one64 steps_13 h start
 
 -- ---- 2 ^ -k
 power_in : (k : ℕ) → In zero_f one_f (fin false 1 (neg_ℤ (pos k)))
@@ -452,6 +455,12 @@ number nan h = absurd h
 number (inf s) h = refl
 number (fin s m e) h = refl
 
+no_plus : (v : Float) → T (finite v) → T (le v zero_f) → pos_part v ≡ 0
+no_plus nan f h = absurd f
+no_plus (inf s) f h = absurd f
+no_plus (fin true m e) f h = refl
+no_plus (fin false m e) f h = let k = le→under (fin false m e) zero_f tt tt h in omega arith
+
 bound_above : T (le bound zero_f) → ⊥
 unfolding of_bits le lt eq
 bound_above h = h
@@ -463,7 +472,7 @@ not_above v h = go (lt bound v) refl
     go true q = absurd (bound_above (le_trans_float bound v zero_f (lt→le bound v (yes q)) h))
     go false q = refl
 
-turns_zero : T (le (turns zero_f) (fin false 1 (negsuc 0))) × T (finite (mul binary64 zero_f LOG2E)) × T (le zero_f zero_f && le zero_f two_f)
+turns_zero : T (le (by_log2e zero_f) (fin false 1 (negsuc 0))) × T (finite (mul binary64 zero_f LOG2E)) × T (le zero_f zero_f && le zero_f two_f)
 unfolding of_bits mul add sum round le lt eq
 turns_zero = (tt, tt, tt)
 
@@ -480,8 +489,8 @@ exp_in v h = go (lt v (neg bound)) refl
         let A = v_finite v i in
         let W = times_finite v i in
         let F = turns_finite v i in
-        let l = le_trans_float (turns v) (turns zero_f) (fin false 1 (negsuc 0)) (keeps v zero_f A tt W turns_zero.1 h) turns_zero.0 in
-        let f = floored (turns v) F (no_deeper v i) l in
+        let l = le_trans_float (by_log2e v) (by_log2e zero_f) (fin false 1 (negsuc 0)) (keeps v zero_f A tt W turns_zero.1 h) turns_zero.0 in
+        let f = floored (by_log2e v) F (no_deeper v i) l in
         let k = f.k in
         let n = no_plus v A h in
         subst (λ (y : Float). In zero_f two_f y) (sym (exp_is v (number v h) q (not_above v h) ∙ ap (λ (z : ℤ). exp_by v z) f.at.floor))

@@ -9,20 +9,20 @@ use Rattle.tonekit_float.proofs.Monotone.{zero_f}
 use Rattle.tonekit_float.proofs.Bounds.{in_finite}
 use Rattle.tonekit_float.proofs.Signs.{below}
 use Rattle.spec_arithmetic.specs.declared.Parts.{Parts}
-use Rattle.spec_arithmetic.specs.Constants.{LN2, LOG2E, one, bound}
-use Rattle.spec_arithmetic.specs.Log.{series, ln_at, log2_at, log_by, ln_of, log2_of}
-use Rattle.tonekit_log.proofs.Powers.{Exponent}
-use Rattle.spec_arithmetic.specs.Exp.{exp_series, turns, rest, floor_of, exp_by, exp_of}
-use Rattle.tonekit_log.proofs.LogCases.{ln_is, log2_is, none_of}
-use Rattle.tonekit_log.proofs.Powers.{at_power, log2_at_one, ln_at_one, none_more, exponent_stays, product_stays}
+use Rattle.spec_arithmetic.specs.Constants.{LN2, LOG2E, one64, bound}
+use Rattle.spec_arithmetic.specs.Log.{series, log_by, ln_of, log2_of, log_horner}
+use Rattle.spec_arithmetic.specs.Exp.{exp_series, floor_of, exp_by, exp_of, exp_horner}
+use Rattle.tonekit_log.proofs.LogCases.{ln_is, log2_is, none_of, ln_at, log2_at}
+use Rattle.tonekit_log.proofs.Powers.{Exponent, at_power, log2_at_one, ln_at_one, none_more, exponent_stays, product_stays}
 use Rattle.tonekit_log.proofs.LogRange.{ln_at_in, log2_at_in, by_parts}
 use Rattle.tonekit_log.proofs.ExpCases as cases
-use Rattle.tonekit_log.proofs.ExpRange.{exp_in}
+use Rattle.tonekit_log.proofs.ExpRange.{rest, exp_in}
+use Rattle.tonekit_log.proofs.Turns.{by_log2e}
 
 -- ---- powers of two
 -- at m = 1 the series gives exactly 0
-pub series_at_one : series one ≡ zero_f
-unfolding series mul div add sub of_bits of_int
+pub series_at_one : series one64 ≡ zero_f
+unfolding series log_horner mul div add sub of_bits of_int
 series_at_one = refl
 
 -- log2 (2 ^ k) is k
@@ -91,8 +91,8 @@ pub log2_nan : log2_of nan ≡ nan
 log2_nan = log2_is nan ∙ by_nan log2_at
 
 -- ---- exp
-pub exp_zero : (s : Bool) → exp_of (fin s 0 (pos 0)) ≡ one
-unfolding exp_of is_nan lt neg of_bits of_int add sum sub mul div round
+pub exp_zero : (s : Bool) → exp_of (fin s 0 (pos 0)) ≡ one64
+unfolding exp_of exp_by exp_series exp_horner floor_of is_nan lt neg of_bits of_int add sum sub mul div round
 exp_zero true = refl
 exp_zero false = refl
 
@@ -124,11 +124,9 @@ by_fits f each (fin true (suc m) e) = nan-fits binary64
 by_fits f each (fin false (suc m) e) = each _
 
 pub ln_fits : (x : Float) → T (fits binary64 (ln_of x))
-unfolding ln_at
 ln_fits x = subst (λ (y : Float). T (fits binary64 y)) (sym (ln_is x)) (by_fits ln_at (λ p. add-fits binary64 _ _) x)
 
 pub log2_fits : (x : Float) → T (fits binary64 (log2_of x))
-unfolding log2_at
 log2_fits x = subst (λ (y : Float). T (fits binary64 y)) (sym (log2_is x)) (by_fits log2_at (λ p. add-fits binary64 _ _) x)
 
 by_series : (v : Float) (n : ℤ) → T (fits binary64 (exp_by v n))
@@ -142,9 +140,9 @@ zero_fits = tt
 pub exp_fits : (v : Float) → T (fits binary64 (exp_of v))
 unfolding exp_of
 exp_fits v =
-    let r = exp_by v (floor_of (turns v)) in
+    let r = exp_by v (floor_of (by_log2e v)) in
     let high = cond (lt bound v) (inf false) r in
     let low = cond (lt v (neg bound)) zero_f high in
     cond-fits binary64 (is_nan v) nan low (nan-fits binary64)
     (cond-fits binary64 (lt v (neg bound)) zero_f high zero_fits
-    (cond-fits binary64 (lt bound v) (inf false) r (inf-fits binary64 false) (by_series v (floor_of (turns v)))))
+    (cond-fits binary64 (lt bound v) (inf false) r (inf-fits binary64 false) (by_series v (floor_of (by_log2e v)))))

@@ -1,12 +1,20 @@
 -- What the code of `ln` and `log2` needs, by the cases of x. f is what is done with m and e.
 use Rattle.std.proofs.Common.{◌≡◌, ℕ, suc, ◌*◌, ◌/◌, ◌^◌, true, false, not, T, ℤ, pos, sym, refl, ap, ◌∙◌, subst, Float}
-use lib.Ieee.{nan, inf, fin, up, down, binary64, fits, unlike, mul, lt, eq, is_nan}
+use lib.Ieee.{nan, inf, fin, up, down, binary64, fits, unlike, add, mul, lt, eq, is_nan}
 use Rattle.tonekit_float.proofs.Monotone.{zero_f}
 use Rattle.tonekit_float.proofs.Signs as signs
 use Rattle.spec_arithmetic.specs.declared.Parts.{Parts}
-use Rattle.spec_arithmetic.specs.Log.{parts_of, centred, scaled, log_by, ln_at, log2_at, ln_of, log2_of}
+use Rattle.spec_arithmetic.specs.Constants.{LN2, LOG2E}
+use Rattle.spec_arithmetic.specs.Log.{parts_of, centred, log_by, series, ln_of, log2_of}
 use Rattle.tonekit_log.proofs.PartsOf.{scaled_is}
 use Rattle.tonekit_float.proofs.Narrowing.{round_number}
+use Rattle.tonekit_log.specs.Found.{scaled}
+
+abbrev pub ln_at : Parts → Float
+ln_at p = add binary64 (mul binary64 p.e LN2) (series p.m)
+
+abbrev pub log2_at : Parts → Float
+log2_at p = add binary64 p.e (mul binary64 (series p.m) LOG2E)
 
 pub ln_is : (x : Float) → ln_of x ≡ log_by ln_at x
 unfolding ln_of

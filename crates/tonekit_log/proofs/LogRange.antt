@@ -7,9 +7,8 @@ use lib.Ieee.Fits.{and_l, and_r}
 use lib.Ieee.Order.{round_mono}
 use lib.Ieee.Positive.{den, den_pos}
 use lib.Ieee.Scale.{finite}
-use Rattle.tonekit_float.proofs.Fraction as fraction
 use Rattle.spec_arithmetic.specs.Bounds.{In}
-use Rattle.tonekit_float.proofs.Fraction.{Within, plus}
+use Rattle.tonekit_float.proofs.Fraction.{Within, pos_part, neg_part}
 use Rattle.tonekit_float.proofs.Units.{size_gt}
 use Rattle.tonekit_float.proofs.Order.{yes, le→under, neg_le, lt→le, not-lt→le, le_refl_finite, le_trans_float}
 use Rattle.tonekit_float.proofs.Monotone.{zero_f, mul_le_left, mul_comm_float, div_rounds, plus_pos}
@@ -19,10 +18,10 @@ use Rattle.tonekit_float.proofs.Size.{within_lit, in_within}
 use Rattle.tonekit_float.proofs.Patterns.{units_in, units_pos, units_lt}
 use Rattle.tonekit_float.proofs.Signs as signs
 use Rattle.spec_arithmetic.specs.declared.Parts.{Parts}
-use Rattle.spec_arithmetic.specs.Constants.{LN2, LOG2E, ROOT2, half, one, two}
-use Rattle.spec_arithmetic.specs.Log.{recip, steps, ratio, series, parts_of, centred, ln_at, log2_at, log_by}
+use Rattle.spec_arithmetic.specs.Constants.{LN2, LOG2E, ROOT2, half, one64, two}
+use Rattle.spec_arithmetic.specs.Log.{recip, log_horner, series, parts_of, centred, log_by}
 use Rattle.tonekit_log.proofs.Powers.{minus_is, from_above}
-use Rattle.tonekit_log.proofs.LogCases.{number_is}
+use Rattle.tonekit_log.proofs.LogCases.{number_is, ln_at, log2_at}
 
 at_itself : (x : Float) → T (finite x) → In x x x
 at_itself x f = record { low = le_refl_finite x f; high = le_refl_finite x f }
@@ -77,34 +76,37 @@ in_quotient x y h k =
     let R = div_rounds binary64 x y X P in
     let b = le→under divisor y tt Y k.low in
     record {
-      low = rounds_over binary64 (div binary64 x y) minus_quarter _ _ _ D quarter_fits.1 tt R (quotient_down (plus x) (fraction.minus x) (den x) (plus y) (fraction.minus y) (den y) (le→under below1 x tt X h.low) b);
-      high = rounds_under binary64 (div binary64 x y) quarter _ _ _ D quarter_fits.0 tt R (quotient_up (plus x) (fraction.minus x) (den x) (plus y) (fraction.minus y) (den y) (le→under x above1 X tt h.high) b);
+      low = rounds_over binary64 (div binary64 x y) minus_quarter _ _ _ D quarter_fits.1 tt R (quotient_down (pos_part x) (neg_part x) (den x) (pos_part y) (neg_part y) (den y) (le→under below1 x tt X h.low) b);
+      high = rounds_under binary64 (div binary64 x y) quarter _ _ _ D quarter_fits.0 tt R (quotient_up (pos_part x) (neg_part x) (den x) (pos_part y) (neg_part y) (den y) (le→under x above1 X tt h.high) b);
     }
 
 -- ---- m after halving
 abbrev low_m : Float
 low_m = mul binary64 ROOT2 half
 
-one_finite : T (finite one) × T (finite low_m && finite ROOT2) × T (finite ROOT2 && finite two) × T (finite half) × T (le zero_f half)
+one_finite : T (finite one64) × T (finite low_m && finite ROOT2) × T (finite ROOT2 && finite two) × T (finite half) × T (le zero_f half)
 unfolding of_bits mul round le lt eq
 one_finite = (tt, tt, tt, tt, tt)
 
-sub_ends : T (le below1 (sub binary64 low_m one) && le (sub binary64 ROOT2 one) above1)
+sub_ends : T (le below1 (sub binary64 low_m one64) && le (sub binary64 ROOT2 one64) above1)
 unfolding of_bits mul sub add neg round le lt eq
 sub_ends = tt
 
-add_ends : T (le divisor (add binary64 low_m one) && le (add binary64 ROOT2 one) (fin false 3 (pos 0)))
+add_ends : T (le divisor (add binary64 low_m one64) && le (add binary64 ROOT2 one64) (fin false 3 (pos 0)))
 unfolding of_bits mul add round le lt eq
 add_ends = tt
 
-four_finite : T (finite low_m && finite ROOT2 && (finite one && finite one))
+four_finite : T (finite low_m && finite ROOT2 && (finite one64 && finite one64))
 unfolding of_bits mul round
 four_finite = tt
 
+abbrev ratio : Float → Float
+ratio m = div binary64 (sub binary64 m one64) (add binary64 m one64)
+
 ratio_in : (m : Float) → In low_m ROOT2 m → In minus_quarter quarter (ratio m)
 ratio_in m h =
-    let o = at_itself one one_finite.0 in
-    in_quotient (sub binary64 m one) (add binary64 m one)
+    let o = at_itself one64 one_finite.0 in
+    in_quotient (sub binary64 m one64) (add binary64 m one64)
     (in_wider sub_ends (in_sub binary64 four_finite h o))
     (in_wider add_ends (in_add binary64 four_finite h o))
 
@@ -176,8 +178,8 @@ step_in j z p t hz hp =
     (in_add binary64 products (in_mul binary64 {a = zero_f} {b = two_f} {c = zero_f} {d = sixteenth} tt not_negative hp hz)
     (record { low = and_l (le zero_f (recip j)) (le (recip j) one_f) t; high = and_r (le zero_f (recip j)) (le (recip j) one_f) t }))
 
-steps_in : (j : ℕ) (z p : Float) → T (recips j) → In zero_f sixteenth z → In zero_f two_f p → In zero_f two_f (steps j z p)
-unfolding steps recips
+steps_in : (j : ℕ) (z p : Float) → T (recips j) → In zero_f sixteenth z → In zero_f two_f p → In zero_f two_f (log_horner j z p)
+unfolding log_horner recips
 steps_in zero z p t hz hp = hp
 steps_in (suc j) z p t hz hp =
     let ok = le zero_f (recip j) && le (recip j) one_f in
@@ -207,7 +209,7 @@ product_ends : T (le (neg one_f) (mul binary64 two_f (neg half_f)) && le (mul bi
 unfolding mul neg round le lt eq
 product_ends = tt
 
-series_is : (m : Float) → series m ≡ mul binary64 (mul binary64 two (ratio m)) (steps 11 (mul binary64 (ratio m) (ratio m)) (recip 11))
+series_is : (m : Float) → series m ≡ mul binary64 (mul binary64 two (ratio m)) (log_horner 11 (mul binary64 (ratio m) (ratio m)) (recip 11))
 unfolding series
 series_is m = refl
 
@@ -215,7 +217,7 @@ pub series_in : (m : Float) → In low_m ROOT2 m → In (neg one_f) one_f (serie
 series_in m h =
     let s = ratio m in
     let z = mul binary64 s s in
-    let p = steps 11 z (recip 11) in
+    let p = log_horner 11 z (recip 11) in
     let hs = ratio_in m h in
     let start : In zero_f two_f (recip 11) = record { low = and_l (le zero_f (recip 11)) (le (recip 11) two_f) recips_11.1; high = and_r (le zero_f (recip 11)) (le (recip 11) two_f) recips_11.1 } in
     let hp = steps_in 11 z (recip 11) recips_11.0 (square_in s hs) start in
@@ -225,7 +227,7 @@ series_in m h =
     (in_wider product_ends (in_scale binary64 about_half hp h2))
 
 -- ---- m and e of a positive number
-power_is : round binary64 false 1 1 ≡ one
+power_is : round binary64 false 1 1 ≡ one64
 unfolding round of_bits
 power_is = refl
 
@@ -233,7 +235,7 @@ power2_is : round binary64 false 2 1 ≡ two
 unfolding round of_bits
 power2_is = refl
 
-mantissa_in : (n : ℕ) → 0 < n → In one two (round binary64 false n (2 ^ (size n - 1)))
+mantissa_in : (n : ℕ) → 0 < n → In one64 two (round binary64 false n (2 ^ (size n - 1)))
 mantissa_in n p =
     let d = size n in
     let D : 0 < d = size_gt n 0 p in
@@ -288,29 +290,29 @@ half_ends : T (le low_m (mul binary64 ROOT2 half) && le (mul binary64 two half) 
 unfolding of_bits mul round le lt eq
 half_ends = tt
 
-raised : T (finite4 (neg (W 1074)) (W 1023) one one) × T (le (neg (W 1074)) (add binary64 (neg (W 1074)) one) && le (add binary64 (W 1023) one) (W 1024))
+raised : T (finite4 (neg (W 1074)) (W 1023) one64 one64) × T (le (neg (W 1074)) (add binary64 (neg (W 1074)) one64) && le (add binary64 (W 1023) one64) (W 1024))
 unfolding of_bits neg add sum of_int round le lt eq
 raised = (tt, tt)
 
-kept : T (le low_m one && le ROOT2 ROOT2) × T (le (neg (W 1074)) (neg (W 1074)) && le (W 1023) (W 1024))
+kept : T (le low_m one64 && le ROOT2 ROOT2) × T (le (neg (W 1074)) (neg (W 1074)) && le (W 1023) (W 1024))
 unfolding of_bits neg mul of_int round le lt eq
 kept = (tt, tt)
 
-root_finite : T (finite ROOT2) × T (finite one && finite two)
+root_finite : T (finite ROOT2) × T (finite one64 && finite two)
 unfolding of_bits
 root_finite = (tt, tt)
 
-centred_in : (m e : Float) → In one two m → In (neg (W 1074)) (W 1023) e → Centred (centred (record { m = m; e = e }))
+centred_in : (m e : Float) → In one64 two m → In (neg (W 1074)) (W 1023) e → Centred (centred (record { m = m; e = e }))
 unfolding centred
 centred_in m e hm he = go (lt ROOT2 m) refl
   where
     F : T (finite m)
     F = in_finite root_finite.1 hm
 
-    go : (b : Bool) → lt ROOT2 m ≡ b → Centred (cond b (record { m = mul binary64 m half; e = add binary64 e one }) (record { m = m; e = e }))
+    go : (b : Bool) → lt ROOT2 m ≡ b → Centred (cond b (record { m = mul binary64 m half; e = add binary64 e one64 }) (record { m = m; e = e }))
     go true q = record {
       m_in = in_wider half_ends (in_times ROOT2 two half one_finite.2 one_finite.3 one_finite.4 (record { low = lt→le ROOT2 m (yes q); high = hm.high }));
-      e_in = in_wider raised.1 (in_add binary64 raised.0 he (at_itself one one_finite.0));
+      e_in = in_wider raised.1 (in_add binary64 raised.0 he (at_itself one64 one_finite.0));
     }
     go false q = record {
       m_in = in_wider kept.0 (record { low = hm.low; high = not-lt→le ROOT2 m root_finite.0 F q });
@@ -347,13 +349,11 @@ unfolding of_bits neg of_int mul add sum round
 log2_ends = (within_lit 1076 (add binary64 (neg (W 1074)) (mul binary64 (neg one_f) LOG2E)) tt, within_lit 1076 (add binary64 (W 1024) (mul binary64 one_f LOG2E)) tt)
 
 pub ln_at_in : (p : Parts) → Centred p → Within 746 (ln_at p)
-unfolding ln_at
 ln_at_in p c =
     in_within ln_ends.0 ln_ends.1
     (in_add binary64 ln_finite4 (in_times (neg (W 1074)) (W 1024) LN2 ends.0 factors.0 factors.1 c.e_in) (series_in p.m c.m_in))
 
 pub log2_at_in : (p : Parts) → Centred p → Within 1076 (log2_at p)
-unfolding log2_at
 log2_at_in p c =
     in_within log2_ends.0 log2_ends.1
     (in_add binary64 log2_finite4 c.e_in (in_times (neg one_f) one_f LOG2E ends.1 factors.2 factors.3 (series_in p.m c.m_in)))

@@ -9,7 +9,10 @@ use Rattle.tonekit_float.proofs.Order.{no, le→under, not-lt→le}
 use Rattle.tonekit_float.proofs.Monotone.{zero_f, mul_le_left, add_le}
 use Rattle.tonekit_float.proofs.Bounds.{in_finite, in_wider}
 use Rattle.spec_arithmetic.specs.Constants.{LOG2E, half, bound}
-use Rattle.spec_arithmetic.specs.Exp.{turns, floor_of}
+use Rattle.spec_arithmetic.specs.Exp.{floor_of}
+
+abbrev pub by_log2e : Float → Float
+by_log2e v = add binary64 (mul binary64 v LOG2E) half
 
 -- ---- v
 bound_finite : T (finite bound) × T (finite (neg bound))
@@ -34,7 +37,7 @@ ends : T (finite (neg bound) && finite bound) × T (finite (mul binary64 (neg bo
 unfolding of_bits neg mul round
 ends = (tt, tt)
 
-pub keeps : (x y : Float) → T (finite x) → T (finite y) → T (finite (mul binary64 x LOG2E)) → T (finite (mul binary64 y LOG2E)) → T (le x y) → T (le (turns x) (turns y))
+pub keeps : (x y : Float) → T (finite x) → T (finite y) → T (finite (mul binary64 x LOG2E)) → T (finite (mul binary64 y LOG2E)) → T (le x y) → T (le (by_log2e x) (by_log2e y))
 keeps x y X Y A B l =
     add_le binary64 (mul binary64 x LOG2E) (mul binary64 y LOG2E) half half A B factor.2 factor.2
     (mul_le_left binary64 x y LOG2E X Y factor.0 factor.1 l) factor.3
@@ -53,7 +56,7 @@ v_finite v h = in_finite ends.0 h
 pub times_finite : (v : Float) → In (neg bound) bound v → T (finite (mul binary64 v LOG2E))
 times_finite v h = in_finite ends.1 (times_in v h)
 
-turned : (v : Float) → In (neg bound) bound v → In (turns (neg bound)) (turns bound) (turns v)
+turned : (v : Float) → In (neg bound) bound v → In (by_log2e (neg bound)) (by_log2e bound) (by_log2e v)
 turned v h =
     let lo = neg bound in
     let F = v_finite v h in
@@ -66,21 +69,21 @@ turned v h =
 abbrev pub most : Float
 most = fin false 511 (pos 1)
 
-wide : T (le (neg most) (turns (neg bound)) && le (turns bound) most)
+wide : T (le (neg most) (by_log2e (neg bound)) && le (by_log2e bound) most)
 unfolding of_bits neg mul add round le lt eq
 wide = tt
 
-pub between : (v : Float) → In (neg bound) bound v → In (neg most) most (turns v)
+pub between : (v : Float) → In (neg bound) bound v → In (neg most) most (by_log2e v)
 between v h = in_wider wide (turned v h)
 
 most_finite : T (finite (neg most) && finite most)
 unfolding neg
 most_finite = tt
 
-pub turns_finite : (v : Float) → In (neg bound) bound v → T (finite (turns v))
+pub turns_finite : (v : Float) → In (neg bound) bound v → T (finite (by_log2e v))
 turns_finite v h = in_finite most_finite (between v h)
 
-pub no_deeper : (v : Float) → In (neg bound) bound v → T (le (fin true 511 (pos 1)) (turns v))
+pub no_deeper : (v : Float) → In (neg bound) bound v → T (le (fin true 511 (pos 1)) (by_log2e v))
 unfolding neg
 no_deeper v h = (between v h).low
 

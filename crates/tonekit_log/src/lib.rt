@@ -4,8 +4,9 @@
 
 ghost use Rattle.std.specs.Prelude.{◌≡◌, ◌<◌, ◌≤◌, ◌≤ℤ◌, true, false, not, T, pos, neg_ℤ};
 ghost use Rattle.std.specs.Float.Ieee as Ieee;
-ghost use Rattle.spec_arithmetic.specs.Log.{series, fields, scaled, centred, IsPartsOf, ln_of, log2_of};
+ghost use Rattle.spec_arithmetic.specs.Log.{series, centred, ln_of, log2_of};
 ghost use Rattle.spec_arithmetic.specs.Exp.{exp_series, floor_of, exp_of};
+ghost use Rattle.tonekit_log.specs.Found.{fields, scaled, IsPartsOf};
 
 pub use spec_arithmetic::Parts;
 use tonekit_float::Positive;
@@ -19,7 +20,7 @@ fn log_series(m: f64) -> f64
     ensures { result ≡ series m }
 {
     // A line for each term, in the order in which the operations are to be rounded.
-    // Stays: tried as a fold over the divisors; that the fold gives the definition's `steps` did not close.
+    // Stays: tried as a fold over the divisors; that the fold gives the definition's `log_horner` did not close.
     let s = (m - 1.0) / (m + 1.0);
     let z = s * s;
     let mut p = 1.0 / 23.0;
@@ -122,7 +123,7 @@ fn exp_series(r: f64) -> f64
     ensures { result ≡ exp_series r }
 {
     // A line for each term, in the order in which the operations are to be rounded.
-    // Stays: tried as a fold over the divisors; that the fold gives the definition's `steps` did not close.
+    // Stays: tried as a fold over the divisors; that the fold gives the definition's `exp_horner` did not close.
     let mut q = 1.0;
     q = 1.0 + (r * q) / 13.0;
     q = 1.0 + (r * q) / 12.0;

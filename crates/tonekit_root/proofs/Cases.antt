@@ -8,7 +8,8 @@ use Rattle.tonekit_float.proofs.NarrowRound.{L}
 use Rattle.tonekit_float.proofs.Monotone.{zero_f}
 use Rattle.tonekit_float.proofs.Patterns.{units_in, units_pos, field_lt, same_value, pattern_lt, normal_value, subnormal_value}
 use Rattle.tonekit_float.proofs.Signs as signs
-use Rattle.spec_arithmetic.specs.Root.{Near, root_units, root_of}
+use Rattle.spec_arithmetic.specs.Root.{root_units, root_of}
+use Rattle.tonekit_root.specs.Nearest.{Near}
 
 -- ---- a float above 0 and below infinity
 pub record Above (x : Float) : Type 0 where

@@ -7,7 +7,8 @@ use lib.Ieee.Back.{round_whole}
 use lib.Ieee.Exact.{HasValue}
 use lib.Ieee.Scale.{round_same}
 use lib.Ieee.Positive.{mul_at, positive_of_value}
-use Rattle.spec_arithmetic.specs.Root.{Near, nearest_root, root_units}
+use Rattle.spec_arithmetic.specs.Root.{nearest_root, root_units}
+use Rattle.tonekit_root.specs.Nearest.{Near}
 use Rattle.tonekit_float.proofs.Units.{size_gt}
 use Rattle.tonekit_float.proofs.NarrowRound.{L}
 use Rattle.tonekit_float.proofs.Patterns.{L-pos, power_value, size_shl}

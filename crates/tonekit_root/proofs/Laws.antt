@@ -11,7 +11,7 @@ use Rattle.tonekit_float.proofs.Monotone.{zero_f, zero_is}
 use Rattle.tonekit_float.proofs.Patterns.{units_in, units_are, units_lt}
 use Rattle.tonekit_float.proofs.Signs as signs
 use Rattle.spec_arithmetic.specs.Root.{nearest_root, root_units, root_of}
-use Rattle.tonekit_root.proofs.Nearest.{Nearest}
+use Rattle.tonekit_root.specs.Nearest.{Nearest}
 use Rattle.tonekit_root.proofs.Cases as cases
 use Rattle.tonekit_root.proofs.Spacing.{scaled}
 use Rattle.tonekit_root.proofs.Rooted as rooted

@@ -1,7 +1,8 @@
 -- The definition's whole root, and that it is the one number nearest to the root.
 use Rattle.std.proofs.Common.{ℕ, suc, zero, ◌+◌, ◌-◌, ◌*◌, ◌/◌, ◌^◌, ◌≤◌, ◌<◌, ◌≡◌, sym, ap, subst, Bool, true, false, not, cond, le_of_eq, lt_of_lt_of_le, mul-le-mul, lt_irrefl, le_antisymm, div-lt_iff_lt-mul, pow-suc, le_of_suc-le-suc, lt_of_not-le, arith, T, leb, ltb, leb→le, ltb→lt, nltb→le}
 use lib.Dec.{nleb→lt}
-use Rattle.spec_arithmetic.specs.Root.{isqrt, nearest_root, Near}
+use Rattle.spec_arithmetic.specs.Root.{isqrt, nearest_root}
+use Rattle.tonekit_root.specs.Nearest.{Near}
 use Rattle.tonekit_root.proofs.Squares.{twice_square, next_square, odd_square}
 
 abbrev Root : ℕ → ℕ → Type 0
@@ -63,8 +64,3 @@ unique_near n p q a b = le_antisymm (below p q (apart n q p b a)) (below q p (ap
   where
     below : (p q : ℕ) → (q < p → ⊥) → p ≤ q
     below p q h = le_of_suc-le-suc (lt_of_not-le h)
-
--- R is nearer than Y to the root of X, all in units of 2 ^ -1074: their middle (Y + R) / 2 lies below the root if Y is less, and above it if Y is greater
-pub record Nearest (X R Y : ℕ) : Type 0 where
-  pub lower : Y < R → (Y + R) * (Y + R) < 4 * (X * 2 ^ 1074)
-  pub upper : R < Y → 4 * (X * 2 ^ 1074) < (Y + R) * (Y + R)

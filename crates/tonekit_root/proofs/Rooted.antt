@@ -8,8 +8,8 @@ use lib.Ieee.Exact.{HasValue, round_exact}
 use lib.Ieee.Positive.{first_pos}
 use Rattle.tonekit_float.proofs.NarrowRound.{L}
 use Rattle.tonekit_float.proofs.Patterns.{rescale}
-use Rattle.spec_arithmetic.specs.Root.{Near, nearest_root, root_units}
-use Rattle.tonekit_root.proofs.Nearest.{Nearest}
+use Rattle.spec_arithmetic.specs.Root.{nearest_root, root_units}
+use Rattle.tonekit_root.specs.Nearest.{Near, Nearest}
 use Rattle.tonekit_root.proofs.Nearest.{nearest_near}
 use Rattle.tonekit_root.proofs.Exact.{four_add, four_pos, four_two, size_four}
 use Rattle.tonekit_root.proofs.Spacing.{Scaled, multiple}

@@ -1,7 +1,10 @@
 -- Squares, and the state of the loop that takes the digits of a root one by one. Assumes nothing.
-use Rattle.std.proofs.Common.{ℕ, suc, zero, ◌+◌, ◌-◌, ◌*◌, ◌^◌, ◌≤◌, ◌<◌, ◌≡◌, sym, ◌∙◌, ap, subst, lt_irrefl, add-mul, mul-add, mul_assoc, pow-suc, add-one, arith}
+use Rattle.std.proofs.Common.{ℕ, suc, zero, ◌+◌, ◌-◌, ◌*◌, ◌^◌, ◌≤◌, ◌<◌, ◌≡◌, sym, ◌∙◌, ap, subst, le_trans, mul-le-mul, mul-le-mul_left, lt_irrefl, add-mul, mul-add, mul_assoc, pow-suc, add-one, arith, pow_mono}
 use native.Mathlib.Nat.{mul-mul-mul_comm}
-use Rattle.spec_arithmetic.specs.Root.{Near}
+use Rattle.tonekit_root.specs.Nearest.{Near}
+
+pub square_fits : (m : ℕ) → m ≤ 134217728 → m * m < 2 ^ 64
+square_fits m h = let k : m * m ≤ 134217728 * 134217728 = mul-le-mul h h in omega arith
 
 -- ---- squares
 pub twice_square : (r : ℕ) → 2 * r * (2 * r) ≡ 4 * (r * r)
@@ -21,6 +24,9 @@ pub record Left (a r l i : ℕ) : Type 0 where
   pub whole : r * r + l ≡ a * 4 ^ i
   pub little : l ≤ 2 * r
   pub short : r + 1 ≤ 134217728 * 2 ^ i
+
+pub in_bounds : (a r l i j : ℕ) → Left a r l i → i ≤ j → r + 1 ≤ 134217728 * 2 ^ j
+in_bounds a r l i j s h = le_trans s.short (mul-le-mul_left 134217728 (pow_mono h))
 
 four : (a i : ℕ) → a * 4 ^ (i + 1) ≡ 4 * (a * 4 ^ i)
 four a i =
@@ -49,6 +55,9 @@ one_more a r l i s h = record {
 }
 
 -- ---- at the end
+abbrev E : ℕ
+E = 4 ^ 26
+
 pub rounds_up : (a r l : ℕ) → Left a r l 26 → r < l → Near (a * 2 ^ 52) (r + 1)
 rounds_up a r l s h = record {
   lower =

@@ -4,7 +4,8 @@
 ghost use Rattle.std.specs.Prelude.{◌≡◌, true, false, ◌+◌, ◌*◌, ◌^◌, ◌≤◌, ◌<◌, T, pos};
 ghost use Rattle.std.specs.Float.Ieee as Ieee;
 ghost use Rattle.std.specs.Float.{binary64};
-ghost use Rattle.spec_arithmetic.specs.Root.{Near, root_of};
+ghost use Rattle.spec_arithmetic.specs.Root.{root_of};
+ghost use Rattle.tonekit_root.specs.Nearest.{Near};
 
 use tonekit_float::Positive;
 

@@ -9,7 +9,7 @@ use Rattle.spec_judgement.specs.Gather.{region_of, entry_of, no_tone}
 use Rattle.std.proofs.lemmas.List.{get_or-map}
 use Rattle.spec_sheet.specs.FromSheet.{tone_at, source_of_sheet}
 use Rattle.tonekit_sheet_read.specs.declared.Sheet.{Sheet}
-use Rattle.spec_arithmetic.specs.Places.{stepped}
+use Rattle.tonekit_bytes.specs.Places.{stepped}
 use Rattle.tonekit_bytes.proofs.Stepped.{stepped_length, stepped_get}
 use Rattle.tonekit_sheet_inventory.specs.Look.{source_in}
 

@@ -5,7 +5,8 @@ use lib.ListN.{length-map}
 use Rattle.tonekit_core.specs.Loop.{range_to}
 use Rattle.tonekit_core.proofs.LoopLaws.{to_again, to_stop}
 use Rattle.spec_arithmetic.specs.Fields.{byte_at}
-use Rattle.spec_arithmetic.specs.Places.{number_at, index_turn, index_of}
+use Rattle.spec_arithmetic.specs.Places.{number_at, index_of}
+use Rattle.tonekit_bytes.specs.Places.{index_turn}
 use Rattle.spec_lookup.specs.Source.{Tone}
 use Rattle.spec_lookup.specs.declared.Context.{Context}
 use Rattle.spec_sheet.specs.Sheet.{no_tone, no_accent, accent_place, tone_place, prev_place, prev_number, row_context}

@@ -7,7 +7,8 @@ use Rattle.tonekit_core.proofs.LoopLaws.{to_again, to_stop}
 use Rattle.spec_arithmetic.specs.Fields.{byte_at}
 use Rattle.tonekit_core.proofs.Split.{split}
 use Rattle.spec_lookup.specs.Source.{Carried, Source}
-use Rattle.spec_arithmetic.specs.Places.{number_at, index_turn, index_of}
+use Rattle.spec_arithmetic.specs.Places.{number_at, index_of}
+use Rattle.tonekit_bytes.specs.Places.{index_turn}
 use Rattle.tonekit_expect.proofs.Walk.{index_found}
 use Rattle.spec_lookup.specs.declared.Context.{Context}
 use Rattle.spec_sheet.specs.Number.{place_in, number_in}

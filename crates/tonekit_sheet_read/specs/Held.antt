@@ -4,7 +4,7 @@ use Rattle.tonekit_core.specs.declared.Rejection.{Rejection}
 use Rattle.tonekit_core.specs.declared.layout.TheConstants.{SETTINGS_SIZE, SHEET_TONE_KIND, SHEET_TONE_SIZE, SHEET_ACCENT_KIND, SHEET_ACCENT_SIZE, SHEET_ROW_KIND}
 use Rattle.tonekit_core.specs.declared.layout.TheConstants.{SHEET_LIST_KIND, SHEET_COMPONENT_KIND}
 use Rattle.tonekit_core.specs.Layout.{sheet_tone_at, sheet_accent_at}
-use Rattle.spec_arithmetic.specs.Places.{in_order, stepped}
+use Rattle.tonekit_bytes.specs.Places.{in_order, stepped}
 use Rattle.tonekit_pack.specs.declared.Loaded.{Loaded}
 use Rattle.tonekit_pack.specs.Format.{answer}
 use Rattle.tonekit_sheet_read.specs.declared.Sheet.{Sheet}

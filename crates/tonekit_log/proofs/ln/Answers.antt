@@ -2,12 +2,11 @@
 use Rattle.std.proofs.Common.{sym, ap, ◌∙◌, subst, Float}
 use lib.Ieee.{binary64, add, mul}
 use Rattle.spec_arithmetic.specs.Constants.{LN2}
-use Rattle.spec_arithmetic.specs.Log.{ln_at, IsPartsOf}
-use Rattle.tonekit_log.proofs.LogCases.{ln_is}
+use Rattle.tonekit_log.proofs.LogCases.{ln_is, ln_at}
 use Rattle.tonekit_log.proofs.ln.Goals as goal
+use Rattle.tonekit_log.specs.Found.{IsPartsOf}
 
 pub returns-in-Ok : goal.returns-in-Ok
-unfolding ln_at
 returns-in-Ok c =
     ap (λ (y : Float). add binary64 (mul binary64 c.in-Ok.p.e LN2) y) c.log_series.ensures
     ∙ sym (ln_is c.args.x ∙ subst (IsPartsOf c.args.x) c.in-Ok.is c.split.ensures ln_at)

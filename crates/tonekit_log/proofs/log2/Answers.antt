@@ -2,12 +2,11 @@
 use Rattle.std.proofs.Common.{sym, ap, ◌∙◌, subst, Float}
 use lib.Ieee.{binary64, add, mul}
 use Rattle.spec_arithmetic.specs.Constants.{LOG2E}
-use Rattle.spec_arithmetic.specs.Log.{log2_at, IsPartsOf}
-use Rattle.tonekit_log.proofs.LogCases.{log2_is}
+use Rattle.tonekit_log.proofs.LogCases.{log2_is, log2_at}
 use Rattle.tonekit_log.proofs.log2.Goals as goal
+use Rattle.tonekit_log.specs.Found.{IsPartsOf}
 
 pub returns-in-Ok : goal.returns-in-Ok
-unfolding log2_at
 returns-in-Ok c =
     ap (λ (y : Float). add binary64 c.in-Ok.p.e (mul binary64 y LOG2E)) c.log_series.ensures
     ∙ sym (log2_is c.args.x ∙ subst (IsPartsOf c.args.x) c.in-Ok.is c.split.ensures log2_at)

@@ -1,8 +1,8 @@
 -- `scaled` meets its contract.
 use lib.Ieee.{of_bits, of_int}
-use Rattle.spec_arithmetic.specs.Log.{scaled}
 use Rattle.tonekit_log.proofs.LogCases.{scaled_number}
 use Rattle.tonekit_log.proofs.scaled.Goals as goal
+use Rattle.tonekit_log.specs.Found.{scaled}
 
 pub fields-p-requires : goal.fields-p-requires
 unfolding of_bits

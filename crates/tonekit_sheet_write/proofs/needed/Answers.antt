@@ -1,4 +1,4 @@
-use Rattle.spec_arithmetic.specs.Places.{in_order}
+use Rattle.tonekit_bytes.specs.Places.{in_order}
 use Rattle.tonekit_bytes.proofs.InOrder.{order_length}
 use Rattle.tonekit_sheet_plan.specs.Plans.{planned_by}
 use Rattle.tonekit_sheet_write.proofs.Together.{sheet_length}

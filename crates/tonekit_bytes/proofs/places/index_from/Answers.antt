@@ -1,7 +1,8 @@
 -- `index_from` meets its contract: from each record on, the search gives what it gives of all. Assumes nothing.
 use Rattle.std.proofs.Common.{◌≡◌, refl, arith, ◌+◌, ◌*◌, eq-eqb, ne_eqb, get_or}
 use Rattle.tonekit_core.proofs.LoopLaws.{to_again, to_stop, to_ended}
-use Rattle.spec_arithmetic.specs.Places.{stepped, index_of}
+use Rattle.spec_arithmetic.specs.Places.{index_of}
+use Rattle.tonekit_bytes.specs.Places.{stepped}
 use Rattle.tonekit_bytes.proofs.Stepped.{stepped_length, stepped_get, step_before}
 use Rattle.tonekit_bytes.proofs.places.index_from.Goals as goal
 

@@ -1,6 +1,7 @@
 use Rattle.std.proofs.Common.{◌≡◌, ◌≤◌, length}
 use Rattle.tonekit_core.specs.Loop.{range_to}
-use Rattle.spec_arithmetic.specs.Places.{stepped, index_turn, index_of}
+use Rattle.spec_arithmetic.specs.Places.{index_of}
+use Rattle.tonekit_bytes.specs.Places.{stepped, index_turn}
 use Rattle.std.specs.Prelude.{None}
 use Rattle.tonekit_bytes.proofs.places.index_from.Given as goal
 

@@ -1,6 +1,6 @@
 use Rattle.std.proofs.Common.{rules, arith, ◌≤◌, ℕ, sym, ◌∙◌, ap, refl, subst, List, length}
 use Rattle.tonekit_core.proofs.LoopLaws.{again, ended}
-use Rattle.spec_arithmetic.specs.Places.{in_order}
+use Rattle.tonekit_bytes.specs.Places.{in_order}
 use Rattle.tonekit_bytes.proofs.InOrder.{order_length}
 use Rattle.spec_pack.specs.Pack.{read_pack}
 use Rattle.tonekit_pack.specs.Held.{shown}

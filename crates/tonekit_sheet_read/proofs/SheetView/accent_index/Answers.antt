@@ -1,7 +1,8 @@
 -- `accent_index` meets its contract: the accents stand behind the tones.
 use Rattle.std.proofs.Common.{◌∙◌, ap, ℕ, arith}
 use Rattle.tonekit_core.specs.declared.layout.TheConstants.{SHEET_ACCENT_SIZE}
-use Rattle.spec_arithmetic.specs.Places.{index_of, stepped}
+use Rattle.spec_arithmetic.specs.Places.{index_of}
+use Rattle.tonekit_bytes.specs.Places.{stepped}
 use Rattle.tonekit_sheet_read.proofs.SheetView.accent_index.Goals as goal
 
 pub index_from-requires : goal.index_from-requires

@@ -1,5 +1,5 @@
 use Rattle.std.proofs.Common.{refl, ◌∙◌, ap, List, ℕ}
-use Rattle.spec_arithmetic.specs.Places.{in_order}
+use Rattle.tonekit_bytes.specs.Places.{in_order}
 use Rattle.spec_lookup.specs.Source.{given}
 use Rattle.spec_sheet.specs.Number.{number_in}
 use Rattle.tonekit_sheet_plan.specs.Plans.{planned_by}
