@@ -1,6 +1,6 @@
 -- Shapes of a few frames, and what the call answers, each by computing.
 use Rattle.std.specs.Prelude.{ℕ, ◌≡◌, refl, true, false, List, [], ◌∷◌, ◌++◌, map, pos, negsuc, length, replicate, Float, Some, None}
-use Rattle.std.specs.Float.{nan, inf, fin, binary32, float_with_sign}
+use Rattle.std.specs.Float.{nan, inf, fin, binary32, binary64, float_with_sign}
 use Rattle.std.specs.Float.Ieee.{add, sub, mul, div, lt, le, eq, neg, of_bits, to_bits, of_int, round, is_nan}
 use Rattle.spec_shape.specs.Range.{range_in}
 use Rattle.tonekit_core.specs.Calls.{refused}
@@ -18,8 +18,8 @@ use Rattle.spec_query.specs.Frames.{frame_at}
 use Rattle.spec_query.specs.Query.{variant_fine, variants_fine, record_verdict, frame_verdict, fields_of, read_query, load_query}
 use Rattle.spec_shape.specs.Chao.{hz_to_st, width_of, st_to_chao}
 use Rattle.spec_shape.specs.Fit.{line_slope, point_added, moments_of, normal_equations, first_unknown, lead_of, quadratic_coefficient}
-use Rattle.spec_shape.specs.Window.{half_width, reach, curve_at, step_of, mean_over, rounded}
-use Rattle.spec_shape.specs.Extract.{extent_of, semitones, holes_filled, chao_curve, drawn, mean_with, list_of, smoothed, mean_of, range_of, confidence, shape_of}
+use Rattle.spec_shape.specs.Window.{half_width, reach, curve_at, step_of, mean_over, rounded, frames_at}
+use Rattle.spec_shape.specs.Extract.{extent_of, holes_filled, drawn, mean_with, list_of, smoothed, mean_of, confidence, shape_of}
 use Rattle.spec_arithmetic.specs.Fields.{byte_at, u16_at, u32_at, f32s_bytes}
 use Rattle.tonekit_core.specs.declared.layout.TheConstants.{SHAPE_SIZE, SHAPE_START, SHAPE_END, SHAPE_CONTOUR, SHAPE_WEIGHTS, SHAPE_MEAN, SHAPE_SLOPE, SHAPE_CURVATURE}
 use Rattle.tonekit_core.specs.declared.layout.TheConstants.{SHAPE_TURNS, SHAPE_TURNING, SHAPE_RANGE, SHAPE_DURATION, SHAPE_FRACTION, SHAPE_CONFIDENCE, SHAPE_ISSUES}
@@ -36,6 +36,10 @@ tone = 50 ∷ 1 ∷ 0 ∷ 0 ∷ 220 ∷ 66 ∷ 0 ∷ 0 ∷ 128 ∷ 63 ∷ []
 abbrev rest : List ℕ
 rest = 50 ∷ 0 ∷ 0 ∷ 0 ∷ 220 ∷ 66 ∷ 0 ∷ 0 ∷ 128 ∷ 63 ∷ []
 
+-- a frame of 55 Hz
+abbrev low : List ℕ
+low = 50 ∷ 1 ∷ 0 ∷ 0 ∷ 92 ∷ 66 ∷ 0 ∷ 0 ∷ 128 ∷ 63 ∷ []
+
 -- the span 1 to 9 of five frames, of which the first and the last are unvoiced
 extent_clamped : extent_of (rest ++ (tone ++ (rest ++ (tone ++ rest)))) 5 1 9 ≡ record { count = 2; first = 1; last = 3 }
 unfolding extent_of range frame_at of_bits lt
@@ -46,12 +50,23 @@ hole_filled : holes_filled (tone ++ (rest ++ tone)) 0 (num 1 ∷ num 0 ∷ num 2
 unfolding holes_filled range frame_at add sub mul div of_int of_bits lt
 hole_filled = refl
 
+-- a hole of two frames is filled in semitones, before the register 0 to 12 makes Chao values of them: 12, 8, 4, 0; the part begins at frame 1
+drawn_line : drawn (rest ++ (tone ++ (rest ++ (rest ++ low)))) 1 4 (num 0) (fin false 3 (pos 2))
+    ≡ num 5 ∷ of_bits binary64 0x400d_5555_5555_5555 ∷ of_bits binary64 0x4002_aaaa_aaaa_aaaa ∷ num 1 ∷ []
+unfolding drawn list_of holes_filled hz_to_st width_of st_to_chao log2_of range frame_at add sub mul div lt of_int of_bits round
+drawn_line = refl
+
 smoothed_curve : smoothed (num 1 ∷ num 2 ∷ num 6 ∷ []) ≡ fin false 3 (negsuc 0) ∷ num 3 ∷ fin false 1 (pos 2) ∷ []
 unfolding list_of mean_with add div of_int of_bits
 smoothed_curve = refl
 
+-- "sums here begin at +0": the mean of ten -0 is +0
+mean_of_zeros : mean_of (replicate 10 (fin true 0 (pos 0))) ≡ num 0
+unfolding mean_of range add div of_bits
+mean_of_zeros = refl
+
 -- a contour that is all NaN
-range_of_nans : range_of (replicate 10 nan) ≡ inf true
+range_of_nans : range_in binary32 (replicate 10 nan) ≡ inf true
 unfolding range_in range lesser greater sub lt is_nan
 range_of_nans = refl
 
@@ -68,8 +83,8 @@ short_already : united 9 7 ≡ 9
 unfolding united with_issue
 short_already = refl
 
--- three frames of 110 Hz, 12 semitones, in the register 0 to 24: Chao value 3 all along
-level : shape_of (tone ++ (tone ++ tone)) (record { count = 3; first = 0; last = 2 }) 0 3 (num 0) (fin false 3 (pos 3))
+-- three frames of 110 Hz, 12 semitones, in the register 0 to 24: Chao value 3 all along. Duration and fraction are those of the span, 0 to 2,048, though a query holds no more than 1,024 frames
+level : shape_of (tone ++ (tone ++ tone)) (record { count = 3; first = 0; last = 2 }) 0 2048 (num 0) (fin false 3 (pos 3))
     ≡ record {
       contour = replicate 10 (num 3);
       weights = replicate 10 (num 1);
@@ -78,12 +93,12 @@ level : shape_of (tone ++ (tone ++ tone)) (record { count = 3; first = 0; last =
       curvature = num 0;
       turning = None;
       range = num 0;
-      duration = fin false 15 (pos 1);
-      fraction = num 1;
+      duration = fin false 5 (pos 12);
+      fraction = fin false 3 (negsuc 10);
       confidence = num 1;
       frames = 3;
     }
-unfolding shape_of drawn semitones holes_filled chao_curve mean_with list_of mean_of range_in confidence half_width reach curve_at step_of mean_over rounded position whole_part round_up narrowed lesser greater float_with_sign total_le range range_to while hz_to_st width_of st_to_chao log2_of line_slope point_added moments_of normal_equations first_unknown lead_of quadratic_coefficient greatest first_near last_near extremum stands chosen turning_point frame_at add sub mul div lt le eq neg of_int of_bits round is_nan log_by parts_of centred series log_horner
+unfolding shape_of drawn holes_filled mean_with list_of mean_of range_in confidence half_width reach curve_at step_of mean_over rounded position whole_part round_up narrowed lesser greater float_with_sign total_le range range_to while hz_to_st width_of st_to_chao log2_of line_slope point_added moments_of normal_equations first_unknown lead_of quadratic_coefficient greatest first_near last_near extremum stands chosen turning_point frame_at add sub mul div lt le eq neg of_int of_bits round is_nan log_by parts_of centred series log_horner frames_at
 level = refl
 
 -- "Fewer than 3 voiced frames: 11", at place 0; no bytes at all: 2 at 0
@@ -98,7 +113,7 @@ no_query : shape_outcome [] ≡ refused CutShort 0
 unfolding shape_outcome load_query read_query record_verdict
 no_query = refl
 
--- ---- every field of the record: bytes that are their own offsets behind the kind
+-- ---- every field of the record: bytes that are their own offsets behind the kind; the issues, 0x7b72, get TooShort's bit
 abbrev f32 : ℕ → Float
 f32 bits = of_bits binary32 bits
 
@@ -118,7 +133,7 @@ shape51 = record {
   duration = f32 0x7170_6f6e;
   fraction = f32 0x7574_7372;
   confidence = f32 0x7978_7776;
-  frames = 8;
+  frames = 7;
 }
 
 abbrev record51 : List ℕ
@@ -129,8 +144,8 @@ record51 =
     75 ∷ 76 ∷ 77 ∷ 78 ∷ 79 ∷ 80 ∷ 81 ∷ 82 ∷ 83 ∷ 84 ∷ 85 ∷ 86 ∷ 87 ∷ 88 ∷ 89 ∷ 90 ∷ 91 ∷ 92 ∷ 93 ∷ 94 ∷ 95 ∷ 96 ∷ 97 ∷ 98 ∷ 99 ∷
     100 ∷ 1 ∷ 102 ∷ 103 ∷ 104 ∷ 105 ∷ 106 ∷ 107 ∷ 108 ∷ 109 ∷ 110 ∷ 111 ∷ 112 ∷ 113 ∷ 114 ∷ 115 ∷ 116 ∷ 117 ∷ 118 ∷ 119 ∷ 120 ∷ 121 ∷ 122 ∷ 123 ∷ []
 
-fields51 : shape_bytes 0x0403_0201 0x0807_0605 0x7b7a shape51 ≡ record51
-unfolding shape_bytes fit_bytes measure_bytes united f32s_bytes of_bits to_bits round
+fields51 : shape_bytes 0x0403_0201 0x0807_0605 0x7b72 shape51 ≡ record51
+unfolding shape_bytes fit_bytes measure_bytes united with_issue f32s_bytes of_bits to_bits round
 fields51 = refl
 
 -- read by the names of their offsets

@@ -1,6 +1,6 @@
 -- Windows, computed; the patterns are those of a run in another language.
 use Rattle.std.proofs.Common.{sym, ◌∙◌}
-use Rattle.std.specs.Prelude.{◌≡◌, refl, false, List, [], ◌∷◌, pos, Float}
+use Rattle.std.specs.Prelude.{◌≡◌, refl, false, List, [], ◌∷◌, pos, negsuc, Float}
 use Rattle.std.specs.Float.{fin, binary64}
 use Rattle.std.specs.Float.Ieee.{of_bits, add, sub, mul, div, of_int, lt, is_nan, round}
 use Rattle.tonekit_core.specs.Loop.{while}
@@ -8,7 +8,7 @@ use Rattle.spec_arithmetic.specs.Pick.{lesser, greater}
 use Rattle.spec_arithmetic.specs.Whole.{whole_part, round_up}
 use Rattle.spec_arithmetic.specs.Narrow.{narrowed}
 use Rattle.spec_arithmetic.specs.Position.{position}
-use Rattle.spec_shape.specs.Window.{span_at, reach, half_width, frames_at, rounded, contour_at, mean_over, curve_at, step_of}
+use Rattle.spec_shape.specs.Window.{span_at, reach, half_width, frames_at, rounded, contour_at, mean_over, curve_at, step_of, walk_of}
 
 span_8 : span_at 8 3 ≡ record { low = of_bits binary64 0x3ffd_5555_5555_5554; high = of_bits binary64 0x4006_aaaa_aaaa_aaaa }
 unfolding position reach half_width lesser greater add sub mul div of_int of_bits lt is_nan
@@ -25,8 +25,24 @@ span_end = refl
 
 -- 7 · 3 / 9 is 2.33, so the window from 1.83 to 2.83 holds frame 2
 frames_8 : frames_at 8 3 ≡ record { from = 2; to = 2 }
-unfolding position reach half_width rounded whole_part round_up lesser greater add sub mul div of_int of_bits lt is_nan
+unfolding frames_at position reach half_width rounded whole_part round_up lesser greater add sub mul div of_int of_bits lt is_nan
 frames_8 = refl
+
+-- point 3 of 100 frames is frame 33, and its window from 28 to 38 holds both ends
+frames_100 : frames_at 100 3 ≡ record { from = 28; to = 38 }
+unfolding frames_at position reach half_width rounded whole_part round_up lesser greater add sub mul div of_int of_bits lt is_nan
+frames_100 = refl
+
+-- `round`: a half goes up
+half_up : rounded (of_bits binary64 0x3fe0_0000_0000_0000) ≡ 1
+unfolding rounded whole_part sub of_int of_bits lt
+half_up = refl
+
+-- from 0.5 to 1.5 over the bend of 0, 4, 0: two trapezoids of 1.5 each, and no turn more
+two_trapezoids : walk_of (fin false 0 (pos 0) ∷ fin false 1 (pos 2) ∷ fin false 0 (pos 0) ∷ []) (fin false 1 (negsuc 0)) (fin false 3 (negsuc 0))
+    ≡ record { t0 = fin false 3 (negsuc 0); v0 = fin false 1 (pos 1); next = fin false 3 (pos 0); area = fin false 3 (pos 0) }
+unfolding while step_of curve_at whole_part lesser add sub mul of_int of_bits lt is_nan
+two_trapezoids = refl
 
 -- the curve 1, 2, 3, 4: its ends, and a window of two trapezoids on a straight line
 rising : List Float
