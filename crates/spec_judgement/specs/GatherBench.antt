@@ -104,6 +104,12 @@ none_for_third : listings (held (first ∷ third ∷ second ∷ [])) here ≡ re
 unfolding listings range turns slotted with_tone put_in of_bits
 none_for_third = refl
 
+-- what stood before is part of the context: after tone 1 the third tone has what `looked` gives for 1
+after_first : (listings (record (held (third ∷ [])) { look = λ c. looked c.prev }) (record here { prev = 1 })).inventory
+    ≡ record { items = record unlisted { listing = cited.listing } ∷ [] }
+unfolding listings range turns slotted with_tone put_in of_bits
+after_first = refl
+
 -- under a held accent, after nothing
 abbrev fifths : Tolerance
 fifths = record { contour = f32 half; onset = f32 one; offset = f32 two; turning = f32 four }
