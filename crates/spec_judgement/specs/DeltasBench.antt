@@ -77,7 +77,7 @@ unfolding deltas_of end_deltas offer_end offer kept add sub mul div lt round of_
 own_tolerance = refl
 
 -- a turn at a half against one at a quarter, in 1 ms, by a tolerance of an eighth: late, so earlier is advised
-pub late_turn : offer_turn no_deltas (record (raised zero zero) { turning = Some half; duration = one }) (Some (of_bits binary64 0x3fd0_0000_0000_0000)) (of_bits binary64 0x3fc0_0000_0000_0000)
+pub late_turn : offer_turn no_deltas (Some half) (Some (of_bits binary64 0x3fd0_0000_0000_0000)) one (of_bits binary64 0x3fc0_0000_0000_0000)
     ≡ record { first = Some (record { z = of_bits binary32 0x4000_0000; kind = TurnEarlier; amount = of_bits binary32 0x3e80_0000 }); second = None }
 unfolding offer_turn offer kept sub mul div lt round of_bits narrowed float_with_sign
 late_turn = refl

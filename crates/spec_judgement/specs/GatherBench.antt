@@ -11,7 +11,7 @@ use Rattle.spec_judgement.specs.declared.ToneEntry.{ToneEntry}
 use Rattle.spec_judgement.specs.declared.Region.{Region}
 use Rattle.spec_judgement.specs.declared.Tolerance.{Tolerance}
 use Rattle.spec_judgement.specs.Judge.{Inventory, Listings}
-use Rattle.spec_judgement.specs.Gather.{f32, blank_slot, with_tone, put_in, slotted, listings, gathered}
+use Rattle.spec_judgement.specs.Gather.{f32, with_tone, put_in, slotted, listings, gathered}
 
 -- bits: 1, a half, a quarter, 2 and 4
 abbrev one : ℕ
@@ -78,6 +78,9 @@ unlisted = record { number = 3; prior = f32 one; region = None; listing = None }
 
 abbrev both : Inventory
 both = record { items = cited ∷ mixed ∷ [] }
+
+abbrev blank_slot : Slot
+blank_slot = record { weight = f32 0; points = replicate 10 (f32 0) }
 
 -- a slot of a weight, with one point ten times
 abbrev slot : ℕ → ℕ → Slot

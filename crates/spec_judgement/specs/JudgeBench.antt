@@ -22,7 +22,7 @@ use Rattle.tonekit_core.specs.declared.Name.{Name}
 use Rattle.spec_judgement.specs.declared.Region.{Region}
 use Rattle.spec_judgement.specs.declared.ToneEntry.{ToneEntry}
 use Rattle.spec_judgement.specs.declared.ToneJudgement.{ToneJudgement}
-use Rattle.spec_judgement.specs.Judge.{Inventory, distance_at, weighed, part_mixing, ranked, ranking_of, heard_of, greatest32, advice_of, part_of, not_measured}
+use Rattle.spec_judgement.specs.Judge.{Inventory, component_at, weighed, part_mixing, ranked, ranking_of, heard_of, greatest32, advice_of, part_of, not_measured}
 use Rattle.spec_judgement.specs.Record.{delta_count, kind_of, amount_of, nearest_bytes, score_bytes, one_bytes, delta_bytes, judgement_bytes}
 
 -- "Tone 1, accent 1 with a citation, eight voiced frames of 110 Hz, floor NaN: hexadecimal 31 01 01 00 24 74 C9, 54 zero bytes, 02 40 00"
@@ -65,8 +65,8 @@ likelier_tone = refl
 abbrev regional : Option Region → ToneEntry
 regional region = record (likely 7) { region = region }
 
-pub own_region : distance_at (shaped (replicate 10 one64) zero) plain (record { items = regional None ∷ regional (Some (record { from = zero; to = one64 })) ∷ [] })
-    (record { list = replicate 32 (record { weight = one64; points = replicate 10 zero }) }) 1 0
+pub own_region : (component_at (shaped (replicate 10 one64) zero) plain (record { items = regional None ∷ regional (Some (record { from = zero; to = one64 })) ∷ [] })
+    (record { list = replicate 32 (record { weight = one64; points = replicate 10 zero }) }) 1 0).distance
     ≡ one64
 unfolding distance_of ends_of end_term squares_of point_weight excused greater range turns is_nan add sub mul div lt le round of_int of_bits
 own_region = refl

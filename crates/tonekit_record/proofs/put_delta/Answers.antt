@@ -1,6 +1,6 @@
 -- `put_delta` meets its contract: the calls' stores are the definition's.
-use Rattle.tonekit_judge.proofs.Parts.{delta_parts}
-use Rattle.tonekit_judge.proofs.record.put_delta.Goals as goal
+use Rattle.tonekit_record.proofs.Parts.{delta_parts}
+use Rattle.tonekit_record.proofs.put_delta.Goals as goal
 
 pub returns : goal.returns
 returns c =

@@ -1,18 +1,24 @@
 // The record of a judgement, kind 49.
-ghost use Rattle.std.specs.Prelude.{◌≡◌, ◌+◌, ◌≤◌, is_some, unwrap_or, length};
+#![tactic(auto)]
+
+ghost use Rattle.std.specs.Prelude.{◌≡◌, ◌+◌, ◌≤◌, [], ◌∷◌, ◌++◌, is_some, unwrap_or, length};
 ghost use Rattle.std.proofs.lemmas.List.Edits.{sets};
-ghost use Rattle.tonekit_core.specs.declared.layout.TheConstants.{JUDGEMENT_LLR, JUDGEMENT_DISTANCED, JUDGEMENT_DELTA_COUNT, JUDGEMENT_MEASURED, DELTA_SIZE};
-ghost use Rattle.spec_judgement.specs.Record.{kind_of, amount_of, delta_count, head_bytes, one_if, no_nearest, nearest_bytes, score_bytes, one_bytes, delta_bytes, tail_bytes, judgement_bytes};
+ghost use Rattle.tonekit_core.specs.declared.layout.TheConstants.{JUDGEMENT_KIND, JUDGEMENT_LLR, JUDGEMENT_DISTANCED, JUDGEMENT_DELTA_COUNT, JUDGEMENT_MEASURED, DELTA_SIZE};
+ghost use Rattle.spec_arithmetic.specs.Fields.{le16};
+ghost use Rattle.spec_judgement.specs.Record.{kind_of, amount_of, delta_count, one_if, no_nearest, nearest_bytes, score_bytes, one_bytes, delta_bytes, judgement_bytes};
 ghost use Rattle.tonekit_core.specs.Words.{measured_number};
 
-use crate::{NO_NAME, Nearest, ToneJudgement};
-use tonekit_core::{Measured, layout};
-use tonekit_deltas::{Delta, Deltas};
+pub use spec_judgement::{Delta, Deltas, Nearest, ToneJudgement};
+use tonekit_core::{Measured, Name, layout};
 
 // What a record has of the best component where there is none.
 const NO_NEAREST: Nearest = Nearest {
     distance: 0.0,
-    name: NO_NAME,
+    name: Name {
+        owner: 0,
+        form: 0,
+        label: 0,
+    },
     part: 0,
 };
 
@@ -48,7 +54,7 @@ fn delta_count(ds: Deltas) -> u8
 
 // Writes kind, expected tone and tone count.
 fn put_head(out: &mut [u8; layout::JUDGEMENT_SIZE], expected: u8, tones: u8)
-    ensures { out.new ≡ sets out.old 0 (head_bytes expected tones) }
+    ensures { out.new ≡ sets out.old 0 (JUDGEMENT_KIND ∷ expected ∷ tones ∷ []) }
 {
     tonekit_bytes::put_u8(out, 0, layout::JUDGEMENT_KIND);
     tonekit_bytes::put_u8(out, layout::JUDGEMENT_EXPECTED, expected);
@@ -104,7 +110,7 @@ fn put_deltas(out: &mut [u8; layout::JUDGEMENT_SIZE], ds: Deltas)
 
 // Writes measured and issues.
 fn put_tail(out: &mut [u8; layout::JUDGEMENT_SIZE], measured: Measured, issues: u16)
-    ensures { out.new ≡ sets out.old JUDGEMENT_MEASURED (tail_bytes (measured_number measured) issues) }
+    ensures { out.new ≡ sets out.old JUDGEMENT_MEASURED ((measured_number measured ∷ []) ++ le16 issues) }
 {
     tonekit_bytes::put_u8(out, layout::JUDGEMENT_MEASURED, u8::from(measured));
     tonekit_bytes::put_u16(out, layout::JUDGEMENT_ISSUES, issues);

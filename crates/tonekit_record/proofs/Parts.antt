@@ -3,12 +3,20 @@ use Rattle.std.proofs.Common.{ℕ, ◌+◌, ◌≤◌, ◌≡◌, refl, ap, ◌�
 use Rattle.std.proofs.Common.{Option}
 use lib.Seq.{sets, sets-eq}
 use Rattle.tonekit_core.specs.Words.{measured_number}
-use Rattle.spec_arithmetic.specs.Fields.{f32_bytes, f32s_bytes}
+use Rattle.tonekit_core.specs.declared.layout.TheConstants.{JUDGEMENT_KIND}
+use Rattle.spec_arithmetic.specs.Fields.{le16, f32_bytes, f32s_bytes}
 use Rattle.tonekit_bytes.proofs.Write.{more, f32s_length}
 use Rattle.spec_judgement.specs.declared.Delta.{Delta}
 use Rattle.spec_judgement.specs.declared.Deltas.{Deltas}
-use Rattle.spec_judgement.specs.Record.{kind_of, amount_of, head_bytes, nearest_bytes, score_bytes, one_bytes, delta_bytes, tail_bytes, judgement_bytes}
+use Rattle.spec_judgement.specs.Record.{kind_of, amount_of, nearest_bytes, score_bytes, one_bytes, delta_bytes, judgement_bytes}
 use Rattle.spec_judgement.specs.declared.ToneJudgement.{ToneJudgement}
+
+-- kind, expected, tone count; measured, issues
+abbrev pub head_bytes : ℕ → ℕ → List ℕ
+head_bytes expected tones = JUDGEMENT_KIND ∷ expected ∷ tones ∷ []
+
+abbrev pub tail_bytes : ℕ → ℕ → List ℕ
+tail_bytes measured issues = (measured ∷ []) ++ le16 issues
 
 scores_length : (j : ToneJudgement) → length (score_bytes j) ≡ 15
 unfolding score_bytes nearest_bytes

@@ -1,8 +1,8 @@
 -- `put_judgement` meets its contract: the calls' stores are the definition's.
 use Rattle.std.proofs.Common.{◌≡◌, rules, arith, length}
-use Rattle.tonekit_judge.proofs.Parts.{record_parts}
-use Rattle.tonekit_judge.proofs.record.put_judgement.Goals as goal
-use Rattle.tonekit_judge.proofs.record.put_judgement.Goals.{Start}
+use Rattle.tonekit_record.proofs.Parts.{record_parts}
+use Rattle.tonekit_record.proofs.put_judgement.Goals as goal
+use Rattle.tonekit_record.proofs.put_judgement.Goals.{Start}
 
 -- the array's length, which owning the record tells
 eight : (c : Start) → length c.args.j.loglik ≡ 8

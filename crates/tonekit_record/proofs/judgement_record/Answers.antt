@@ -1,8 +1,8 @@
 -- `judgement_record` meets its contract, call by call.
 use Rattle.std.proofs.Common.{◌≡◌, ◌∙◌, rules, length}
 use Rattle.spec_judgement.specs.Record.{judgement_bytes}
-use Rattle.tonekit_judge.proofs.Parts.{record_length, whole}
-use Rattle.tonekit_judge.proofs.record.judgement_record.Goals as goal
+use Rattle.tonekit_record.proofs.Parts.{record_length, whole}
+use Rattle.tonekit_record.proofs.judgement_record.Goals as goal
 
 pub returns : goal.returns
 returns c =
