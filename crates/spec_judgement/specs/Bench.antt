@@ -3,7 +3,7 @@ use Rattle.std.specs.Prelude.{ℕ, ◌≡◌, refl, Option, Some, None, Err, Lis
 use Rattle.std.specs.Float.{binary32, float_with_sign}
 use Rattle.std.specs.Float.Ieee.{add, sub, mul, div, lt, le, eq, neg, of_bits, to_bits, of_int, round, is_nan}
 use Rattle.tonekit_core.specs.Calls.{refused, written}
-use Rattle.tonekit_core.specs.declared.Refusal.TheVariants.{CutShort, Unvoiced, UnknownAccent, NoRealisation, BadVariant}
+use Rattle.tonekit_core.specs.declared.Refusal.TheVariants.{Misplaced, CutShort, Unvoiced, UnknownAccent, NoRealisation, BadVariant}
 use Rattle.tonekit_core.specs.Loop.{turns, range, turns_to, range_to, loop_on, loop_to, while, while_if}
 use Rattle.spec_arithmetic.specs.Narrow.{narrowed}
 use Rattle.spec_arithmetic.specs.Whole.{whole_part, round_up}
@@ -37,7 +37,7 @@ use Rattle.spec_judgement.specs.Record.{delta_count, kind_of, amount_of, nearest
 use Rattle.spec_judgement.specs.Target as target
 use Rattle.spec_judgement.specs.Target.{targets_of, target_of, place_of, weights_fine, main_weight, with_target}
 use Rattle.spec_judgement.specs.Gather.{with_tone, put_in, slotted, listings, gathered}
-use Rattle.spec_judgement.specs.Judgement.{tones_verdict, query_verdict, judge_gathered, judgement, judge_outcome}
+use Rattle.spec_judgement.specs.Judgement.{tones_verdict, query_verdict, judge_gathered, judgement, judge_outcome, station_outcome}
 
 -- the bits of 1, of a half and of a quarter
 abbrev one : List ℕ
@@ -92,6 +92,16 @@ pub pack_first : judge_outcome [] (1 ∷ []) ≡ refused CutShort 0
 unfolding judge_outcome load_pack read_pack loop_to loop_on reader.record_verdict
 pack_first = refl
 
+-- the place is the pack's own: settings, and a kind that is none
+pub place_in_pack : judge_outcome ((1 ∷ one) ++ (quarter ++ (9 ∷ []))) [] ≡ refused Misplaced 9
+unfolding judge_outcome load_pack read_pack loop_to loop_on reader.record_verdict body_verdict settings_verdict due_after size_of holds above_zero a_share added of_bits le lt
+place_in_pack = refl
+
+-- the program's input is the pack's length, the pack, the query: a pack of one byte, and no query
+pub one_byte_held : station_outcome (1 ∷ 0 ∷ 9 ∷ []) ≡ refused Misplaced 0
+unfolding judge_outcome load_pack read_pack loop_to loop_on reader.record_verdict
+one_byte_held = refl
+
 -- "11 · unvoiced · under 3 voiced frames", from a pack's and a query's bytes: two frames
 pub two_voiced : judge_outcome pack (fixed 2 (replicate 4 0) (0 ∷ 0 ∷ 0xc0 ∷ 0x41 ∷ []) ++ frames) ≡ refused Unvoiced 0
 unfolding judge_outcome judgement judge_gathered query_verdict load_pack read_pack loop_to loop_on reader.record_verdict body_verdict settings_verdict tone_verdict accent_verdict rule_verdict part_verdict due_after size_of holds zero_or_held added above_zero a_share knot_fine weight_fine slot_fine knots_fine region_fine tolerances_fine range turns of_bits le lt load_query read_query record_verdict frame_verdict fields_of variant_fine variants_fine range_to turns_to frame_at extent_of
@@ -141,3 +151,8 @@ unlisted_first = refl
 pub variant_next : query_verdict 3 (Some strict) true (listed (counted 1)) below varied ≡ Err BadVariant
 unfolding query_verdict tones_verdict target.variants_fine weights_fine target.weight_fine main_weight range turns le lt of_bits neg add sub round
 variant_next = refl
+
+-- whichever tone is asked for: one that is not the inventory's first
+pub variant_of_another : query_verdict 3 (Some strict) true (listed (counted 1)) below (record varied { tone = 2 }) ≡ Err BadVariant
+unfolding query_verdict tones_verdict target.variants_fine weights_fine target.weight_fine main_weight range turns le lt of_bits neg add sub round
+variant_of_another = refl

@@ -44,20 +44,13 @@ unfoldable pub offer_end : Deltas → Float → Float → DeltaKind → DeltaKin
 offer_end ds d s below other = offer ds (div binary64 d s) (cond (lt d zero64) below other) (magnitude d)
 
 -- turning-point time, only where both have one; the amount is in milliseconds
-abbrev pub turn_between : Deltas → Option Float → Option Float → Float → Float → Deltas
-turn_between ds (Some own) (Some u) duration s =
+unfoldable pub offer_turn : Deltas → Option Float → Option Float → Float → Float → Deltas
+offer_turn ds (Some own) (Some u) duration s =
     let du = sub binary64 own u in
     offer ds (div binary64 du s) (cond (lt zero64 du) TurnEarlier TurnLater) (mul binary64 (magnitude du) duration)
-turn_between ds own u duration s = ds
+offer_turn ds own u duration s = ds
 
-unfoldable pub offer_turn : Deltas → ToneShape → Option Float → Float → Deltas
-offer_turn ds x turning s = turn_between ds x.turning turning x.duration s
-
--- the component's range: max − min of its ten points
-abbrev pub range_of : List Float → Float
-range_of l = range_in binary64 l
-
--- the two ends, and the two that are read off the contour
+-- the two ends, and the two that are read off the contour, of which range is max − min of the points
 unfoldable pub end_deltas : ToneShape → List Float → Tolerance → Float → Deltas
 end_deltas x points t widen =
     let onset = offer_end no_deltas (sub binary64 (get_or x.contour 0 nan) (get_or points 0 nan)) (sigma widen t.onset) StartHigher StartLower in
@@ -65,8 +58,8 @@ end_deltas x points t widen =
 
 unfoldable pub inner_deltas : Deltas → ToneShape → List Float → Tolerance → Float → Deltas
 inner_deltas ends x points t widen =
-    let turn = offer_turn ends x (turning_point points) (sigma widen t.turning) in
-    offer_end turn (sub binary64 x.range (range_of points)) (sigma widen t.contour) WiderRange NarrowerRange
+    let turn = offer_turn ends x.turning (turning_point points) x.duration (sigma widen t.turning) in
+    offer_end turn (sub binary64 x.range (range_in binary64 points)) (sigma widen t.contour) WiderRange NarrowerRange
 
 -- `compute`: onset, offset, turning point and range, in this order; only the ends where the shape is too short
 unfoldable pub deltas_of : ToneShape → List Float → Tolerance → Float → Bool → Deltas

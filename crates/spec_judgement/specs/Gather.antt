@@ -11,7 +11,7 @@ use Rattle.spec_lookup.specs.Source as source
 use Rattle.spec_lookup.specs.declared.Context.{Context}
 use Rattle.spec_judgement.specs.declared.Region.{Region}
 use Rattle.spec_judgement.specs.declared.Tolerance.{Tolerance}
-use Rattle.spec_judgement.specs.Judge.{Inventory, Listings, listing, Counted, no_entry}
+use Rattle.spec_judgement.specs.Judge.{Inventory, Listings, listing, no_entry}
 use Rattle.spec_judgement.specs.declared.Listed.{Listed}
 use Rattle.spec_judgement.specs.declared.Slot.{Slot}
 use Rattle.spec_judgement.specs.declared.ToneEntry.{ToneEntry}
@@ -51,14 +51,8 @@ unfoldable pub slotted : ℕ → Tone → List Carried → Listings → Listings
 slotted t tone cs l = listing (with_tone (entry_of tone (named_of cs)) l.inventory) (put_in t cs l.slots)
 
 -- as lent slots are before anything is gathered
-abbrev pub blank_slot : Slot
-blank_slot = record { weight = f32 0; points = replicate 10 (f32 0) }
-
 abbrev pub no_slots : Slots
-no_slots = record { list = replicate 32 blank_slot }
-
-abbrev pub nothing_yet : Listings
-nothing_yet = listing (record { items = [] }) no_slots
+no_slots = record { list = replicate 32 (record { weight = f32 0; points = replicate 10 (f32 0) }) }
 
 -- past the end of the tones, where nothing is read
 abbrev pub no_tone : Tone
@@ -69,18 +63,15 @@ abbrev pub given_of : math.Option (List Carried) → List Carried
 given_of none = []
 given_of (some cs) = cs
 
-abbrev pub in_context : Context → ℕ → Context
-in_context c tone = record { accent = c.accent; tone = tone; prev = c.prev; last = c.last }
-
 -- tone t with its listing in this context, of which the tone is not read
 abbrev pub list_tone : Source → Context → ℕ → Listings → Listings
 list_tone src c t l =
     let tone = get_or src.tones t no_tone in
-    slotted t tone (given_of (src.look (in_context c tone.number))) l
+    slotted t tone (given_of (src.look (record c { tone = tone.number }))) l
 
 -- for each tone of the source in order its listing in this context, or that it has none
 unfoldable pub listings : Source → Context → Listings
-listings src c = range (list_tone src c) 0 (length src.tones) nothing_yet
+listings src c = range (list_tone src c) 0 (length src.tones) (listing (record { items = [] }) no_slots)
 
 -- "Tolerances are the graded accent's, also for inherited rules."
 abbrev pub tolerance_of : Accent → Tolerance
@@ -108,22 +99,3 @@ gathered src c = record {
   tolerance = graded_of (accent_in src.accents c.accent);
   listed = listings src c;
 }
-
--- what the struct and the slots stand for
-abbrev pub gathering_of : Gathered → Slots → Gathering
-gathering_of g slots = record {
-  prev = g.prev;
-  settings = g.settings;
-  tolerance = g.tolerance;
-  listed = listing g.inventory slots;
-}
-
--- the listings of a source, and that a judgement may be made from them
-pub record Lists (src : Source) (c : Context) (i : Inventory) (slots : Slots) : Type 0 where
-  pub is : listing i slots ≡ listings src c
-  pub counted : Counted i
-
--- all that is gathered
-pub record Gathers (src : Source) (c : Context) (g : Gathered) (slots : Slots) : Type 0 where
-  pub is : gathering_of g slots ≡ gathered src c
-  pub counted : Counted g.inventory

@@ -11,7 +11,7 @@ use Rattle.spec_judgement.specs.declared.ToneEntry.{ToneEntry}
 use Rattle.spec_judgement.specs.declared.Region.{Region}
 use Rattle.spec_judgement.specs.declared.Tolerance.{Tolerance}
 use Rattle.spec_judgement.specs.Judge.{Inventory, Listings}
-use Rattle.spec_judgement.specs.Gather.{f32, blank_slot, with_tone, put_in, slotted, listings, gathered}
+use Rattle.spec_judgement.specs.Gather.{f32, with_tone, put_in, slotted, listings, gathered}
 
 -- bits: 1, a half, a quarter, 2 and 4
 abbrev one : ℕ
@@ -79,6 +79,9 @@ unlisted = record { number = 3; prior = f32 one; region = None; listing = None }
 abbrev both : Inventory
 both = record { items = cited ∷ mixed ∷ [] }
 
+abbrev blank_slot : Slot
+blank_slot = record { weight = f32 0; points = replicate 10 (f32 0) }
+
 -- a slot of a weight, with one point ten times
 abbrev slot : ℕ → ℕ → Slot
 slot weight point = record { weight = f32 weight; points = replicate 10 (f32 point) }
@@ -103,6 +106,12 @@ none_for_third : listings (held (first ∷ third ∷ second ∷ [])) here ≡ re
 }
 unfolding listings range turns slotted with_tone put_in of_bits
 none_for_third = refl
+
+-- what stood before is part of the context: after tone 1 the third tone has what `looked` gives for 1
+after_first : (listings (record (held (third ∷ [])) { look = λ c. looked c.prev }) (record here { prev = 1 })).inventory
+    ≡ record { items = record unlisted { listing = cited.listing } ∷ [] }
+unfolding listings range turns slotted with_tone put_in of_bits
+after_first = refl
 
 -- under a held accent, after nothing
 abbrev fifths : Tolerance

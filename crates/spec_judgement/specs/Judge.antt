@@ -1,5 +1,5 @@
 -- `judge` of score.rs: a function of settings, tones, the graded accent's tolerances and the inventory's listings.
-use Rattle.std.specs.Prelude.{ℕ, ◌+◌, ◌*◌, ◌/◌, ◌%◌, ◌≤◌, ◌<◌, ◌≡◌, Bool, cond, ◌&&◌, Option, Some, None, List, [], ◌++◌, eqb, length, get_or, set, replicate, take, Float}
+use Rattle.std.specs.Prelude.{ℕ, ◌+◌, ◌*◌, ◌/◌, ◌%◌, ◌≤◌, ◌<◌, ◌≡◌, Bool, cond, ◌&&◌, Option, Some, None, option_and_then, List, [], ◌++◌, eqb, length, get_or, set, replicate, take, Float}
 use Rattle.std.specs.List.{list_all}
 use Rattle.std.specs.Float.{nan, binary32, binary64}
 use Rattle.std.specs.Float.Ieee.{neg, add, sub, mul, lt, le, of_bits}
@@ -74,119 +74,64 @@ entry_at i t = get_or i.items t no_entry
 abbrev pub count_at : Inventory → ℕ → ℕ
 count_at i t = count_in (entry_at i t).listing
 
--- at most 8 tones, each with at most 4 components: an inventory that a judgement may be made from
-pub record Counted (i : Inventory) : Type 0 where
-  pub few : length i.items ≤ 8
-  pub each : (t : ℕ) → t < length i.items → count_at i t ≤ 4
-
--- the same past the end of a list of targets
-abbrev pub no_target : Target
-no_target = record { place = 0; weight = nan }
-
+-- the same past the end of a list of targets, and of slots
 abbrev pub target_at : Targets → ℕ → Target
-target_at g k = get_or g.items k no_target
-
--- a target is at most five of the inventory's tones
-pub record Placed (tones : ℕ) (g : Targets) : Type 0 where
-  pub few : length g.items ≤ 5
-  pub each : (k : ℕ) → k < length g.items → (target_at g k).place < tones
-
--- what slots have past their end, where nothing is read
-abbrev pub no_slot : Slot
-no_slot = record { weight = nan; points = [] }
+target_at g k = get_or g.items k (record { place = 0; weight = nan })
 
 abbrev pub slot_at : Slots → ℕ → Slot
-slot_at slots k = get_or slots.list k no_slot
+slot_at slots k = get_or slots.list k (record { weight = nan; points = [] })
 
--- d² of component j of tone t, with that tone's region; and the component as mixtures take it
-abbrev pub distance_at : ToneShape → Scoring → Inventory → Slots → ℕ → ℕ → Float
-distance_at x s i slots t j = distance_of x s (entry_at i t).region (slot_at slots (4 * t + j)).points
-
+-- component j of tone t as mixtures take it: its weight, and d² with that tone's region
 abbrev pub component_at : ToneShape → Scoring → Inventory → Slots → ℕ → ℕ → Component
 component_at x s i slots t j = record {
   weight = (slot_at slots (4 * t + j)).weight;
-  distance = distance_at x s i slots t j;
+  distance = distance_of x s (entry_at i t).region (slot_at slots (4 * t + j)).points;
 }
 
--- components that stand in a list, slot by slot
-abbrev pub cell : List Component → ℕ → ℕ → Component
-cell cs t j = get_or cs (4 * t + j) (record { weight = nan; distance = nan })
-
--- a list that has each component in the slots below n
-pub record Filled (c : ℕ → ℕ → Component) (i : Inventory) (n : ℕ) (cs : List Component) : Type 0 where
-  pub at : (t j : ℕ) → j < 4 → j < count_at i t → 4 * t + j < n → cell cs t j ≡ c t j
-
 -- the mixture of tone t, which has n components; here and below c gives each component
-abbrev pub tone_turn : Scoring → (ℕ → ℕ → Component) → ℕ → ℕ → Mixing → Mixing
-tone_turn s c t j m = mix_turn s m (4 * t + j) (c t j).weight (c t j).distance
-
 unfoldable pub tone_mixing : Scoring → (ℕ → ℕ → Component) → ℕ → ℕ → Mixing
-tone_mixing s c n t = range (tone_turn s c t) 0 n no_mixing
+tone_mixing s c n t = range (λ j m. mix_turn s m (4 * t + j) (c t j).weight (c t j).distance) 0 n no_mixing
 
 -- the calibrated log-likelihoods under every tone, the unused 0
 unfoldable pub loglik_at : Scoring → (ℕ → ℕ → Component) → ℕ → ℕ → Float
 loglik_at s c n t = calibrate s (mixture_log (mixture_of (tone_mixing s c n t)))
 
-abbrev pub loglik_turn : Scoring → Inventory → (ℕ → ℕ → Component) → ℕ → List Float → List Float
-loglik_turn s i c t ll = set ll t (loglik_at s c (count_at i t) t)
-
 unfoldable pub logliks : Scoring → Inventory → (ℕ → ℕ → Component) → List Float
-logliks s i c = range (loglik_turn s i c) 0 (length i.items) (replicate 8 zero32)
+logliks s i c = range (λ t ll. set ll t (loglik_at s c (count_at i t) t)) 0 (length i.items) (replicate 8 zero32)
 
 -- background and posterior: score = ln prior + log-likelihood; the first of equal scores is the top
-abbrev pub no_ranking : Ranking
-no_ranking = record { background = empty; top = None }
-
 unfoldable pub ranked : Ranking → ℕ → Float → Ranking
 ranked r t score = record {
   background = add_to r.background score;
   top = Some (led r.top (record { score = score; index = t; distance = zero64 }));
 }
 
-abbrev pub score_of : ToneEntry → Float → Float
-score_of entry ll = add binary64 (ln_of entry.prior) ll
-
-abbrev pub rank_turn : Inventory → List Float → ℕ → Ranking → Ranking
-rank_turn i ll t r = ranked r t (score_of (entry_at i t) (get_or ll t nan))
-
 unfoldable pub ranking_of : Inventory → List Float → Ranking
-ranking_of i ll = range (rank_turn i ll) 0 (length i.items) no_ranking
+ranking_of i ll =
+    range (λ t r. ranked r t (add binary64 (ln_of (entry_at i t).prior) (get_or ll t nan))) 0 (length i.items) (record { background = empty; top = None })
 
 -- heard: the top tone, where its posterior reaches the threshold
-abbrev pub heard_at : Inventory → Float → LogSumExp → Option Lead → Option ℕ
-heard_at i threshold background None = None
-heard_at i threshold background (Some top) =
-    cond (le threshold (exp_of (sub binary64 top.score (value_of background)))) (Some (entry_at i top.index).number) None
-
 unfoldable pub heard_of : Inventory → Float → Ranking → Option ℕ
-heard_of i threshold r = heard_at i threshold r.background r.top
+heard_of i threshold r =
+    let posterior = λ (top : Lead). exp_of (sub binary64 top.score (value_of r.background)) in
+    option_and_then (λ top. cond (le threshold (posterior top)) (Some (entry_at i top.index).number) None) r.top
 
 -- "`expect` weighs variants in f32 and drops products not above 0"
 unfoldable pub weighed : Scoring → Mixing → ℕ → Float → Float → Mixing
 weighed s m slot product d2 = cond (lt zero32 product) (mix_turn s m slot product d2) m
 
-abbrev pub part_turn : Scoring → (ℕ → ℕ → Component) → ℕ → Float → ℕ → Mixing → Mixing
-part_turn s c t weight j m = weighed s m (4 * t + j) (mul binary32 (c t j).weight weight) (c t j).distance
-
 -- the n components of one of the target's tones, after those of the tones before it
 unfoldable pub part_mixing : Scoring → (ℕ → ℕ → Component) → ℕ → ℕ → Float → Mixing → Mixing
-part_mixing s c n t weight m = range (part_turn s c t weight) 0 n m
-
-abbrev pub target_turn : Scoring → Inventory → (ℕ → ℕ → Component) → Targets → ℕ → Mixing → Mixing
-target_turn s i c g k m =
-    let target = target_at g k in
-    part_mixing s c (count_at i target.place) target.place target.weight m
+part_mixing s c n t weight m = range (λ j m. weighed s m (4 * t + j) (mul binary32 (c t j).weight weight) (c t j).distance) 0 n m
 
 unfoldable pub target_mixing : Scoring → Inventory → (ℕ → ℕ → Component) → Targets → Mixing
-target_mixing s i c g = range (target_turn s i c g) 0 (length g.items) no_mixing
+target_mixing s i c g =
+    let part = λ (target : Target). part_mixing s c (count_at i target.place) target.place target.weight in
+    range (λ k m. part (target_at g k) m) 0 (length g.items) no_mixing
 
 -- the target against the background, both calibrated
 unfoldable pub llr_of : Scoring → Mixture → LogSumExp → Float
 llr_of s m background = clamp_log (sub binary64 (calibrate s (mixture_log m)) (value_of background))
-
--- Measured, of a shape that is usable
-abbrev pub measured_of : ℕ → Measured
-measured_of issues = cond (eqb issues 0) Full Partial
 
 -- what is said where there is no best component
 unfoldable pub plain_of : Scoring → Float → Inventory → (ℕ → ℕ → Component) → Mixture → ℕ → ToneJudgement
@@ -199,7 +144,7 @@ plain_of s threshold i c m issues =
       nearest = None;
       heard = heard_of i threshold r;
       deltas = no_deltas;
-      measured = measured_of issues;
+      measured = cond (eqb issues 0) Full Partial;
       issues = issues;
     }
 
@@ -228,32 +173,19 @@ nearest_at e slot d2 = record {
   part = part_of (name_in e.listing) slot;
 }
 
--- the best component, and the deltas against it
-unfoldable pub with_best : ToneShape → Scoring → Tolerance → Listings → ToneJudgement → ℕ → Float → ToneJudgement
-with_best x s t l j slot d2 = record {
-  loglik = j.loglik;
-  llr = j.llr;
+-- the best component, and the deltas against it; nothing of these where there is nothing to score
+unfoldable pub with_best : ToneShape → Scoring → Tolerance → Listings → ToneJudgement → Mixture → ToneJudgement
+with_best x s t l j Nothing = j
+with_best x s t l j (Scored ll slot d2) = record j {
   nearest = Some (nearest_at (entry_at l.inventory (slot / 4)) slot d2);
-  heard = j.heard;
   deltas = advice_of x s t (slot_at l.slots slot).points j.issues;
-  measured = j.measured;
-  issues = j.issues;
 }
-
--- nothing of these where there is nothing to score
-abbrev pub best_of : ToneShape → Scoring → Tolerance → Listings → ToneJudgement → Mixture → ToneJudgement
-best_of x s t l j Nothing = j
-best_of x s t l j (Scored ll slot d2) = with_best x s t l j slot d2
 
 -- a judgement of a usable shape
 unfoldable pub judged_of : ToneShape → Scoring → Float → Tolerance → Listings → (ℕ → ℕ → Component) → Targets → ℕ → ToneJudgement
 judged_of x s threshold t l c g issues =
     let m = mixture_of (target_mixing s l.inventory c g) in
-    best_of x s t l (plain_of s threshold l.inventory c m issues) m
-
--- each component at its distance from the shape
-abbrev pub judged_against : ToneShape → Scoring → Float → Tolerance → Listings → Targets → ℕ → ToneJudgement
-judged_against x s threshold t l g issues = judged_of x s threshold t l (component_at x s l.inventory l.slots) g issues
+    with_best x s t l (plain_of s threshold l.inventory c m issues) m
 
 -- the first ten of a list, which a shape's have
 abbrev pub ten_of : List Float → List Float
@@ -264,12 +196,9 @@ unfoldable pub usable : ToneShape → Bool
 usable x = list_all finite (ten_of x.contour) && list_all finite (ten_of x.weights)
 
 -- a shape that is not usable: every log-likelihood −1,000,000; "not measured puts InvalidEvidence only", which is bit 6
-abbrev pub lowest_turn : ℕ → List Float → List Float
-lowest_turn t ll = set ll t (narrowed (neg million))
-
 unfoldable pub not_measured : ℕ → ToneJudgement
 not_measured tones = record {
-  loglik = range lowest_turn 0 tones (replicate 8 zero32);
+  loglik = range (λ t ll. set ll t (narrowed (neg million))) 0 tones (replicate 8 zero32);
   llr = zero32;
   nearest = None;
   heard = None;
@@ -281,6 +210,5 @@ not_measured tones = record {
 unfoldable pub judgement_of : ToneShape → Settings → Tolerance → Listings → Targets → ℕ → ToneJudgement
 judgement_of x settings t l g issues =
     let s = scoring_of settings.temperature t issues in
-    cond (usable x)
-    (judged_against x s settings.threshold t l g issues)
-    (not_measured (length l.inventory.items))
+    let c = component_at x s l.inventory l.slots in
+    cond (usable x) (judged_of x s settings.threshold t l c g issues) (not_measured (length l.inventory.items))

@@ -1,23 +1,28 @@
 -- Worked cases for a judgement and its record, by computing.
-use Rattle.std.specs.Prelude.{ℕ, ◌+◌, ◌≡◌, refl, Some, None, List, [], ◌∷◌, ◌++◌, map, length, replicate, Float}
+use Rattle.std.specs.Prelude.{ℕ, ◌+◌, ◌≡◌, refl, true, Option, Some, None, is_some, List, [], ◌∷◌, ◌++◌, map, length, replicate, Float}
 use Rattle.std.specs.Float.{binary32}
 use Rattle.std.specs.Float.Ieee.{is_nan, eq, neg, add, sub, mul, div, lt, le, round, of_int, of_bits, to_bits}
 use Rattle.tonekit_core.specs.Loop.{turns, range}
 use Rattle.spec_arithmetic.specs.Narrow.{narrowed}
 use Rattle.spec_arithmetic.specs.Log.{ln_of, log_by, parts_of, centred, series, log_horner}
 use Rattle.spec_arithmetic.specs.Exp.{exp_of, exp_by, exp_series, exp_horner, floor_of}
+use Rattle.spec_arithmetic.specs.Pick.{greater}
 use Rattle.tonekit_core.specs.declared.layout.TheConstants.{JUDGEMENT_SIZE, JUDGEMENT_EXPECTED, JUDGEMENT_TONE_COUNT, JUDGEMENT_LOGLIK, JUDGEMENT_LLR, JUDGEMENT_DISTANCED}
 use Rattle.tonekit_core.specs.declared.layout.TheConstants.{JUDGEMENT_DISTANCE, JUDGEMENT_OWNER, JUDGEMENT_FORM, JUDGEMENT_LABEL, JUDGEMENT_PART, JUDGEMENT_HEARD}
 use Rattle.tonekit_core.specs.declared.layout.TheConstants.{JUDGEMENT_DELTA_COUNT, JUDGEMENT_FIRST_DELTA, JUDGEMENT_SECOND_DELTA, DELTA_AMOUNT, JUDGEMENT_MEASURED, JUDGEMENT_ISSUES}
 use Rattle.spec_arithmetic.specs.Fields.{byte_at, u16_at, u32_at, f32s_bytes}
-use Rattle.spec_judgement.specs.Score.{add_to, value_of}
+use Rattle.spec_judgement.specs.Score.{one64, zero64, add_to, value_of, excused, point_weight, squares_of, end_term, ends_of, distance_of, no_mixing, mixed, mix_turn}
+use Rattle.spec_judgement.specs.ScoreBench.{shaped, plain}
+use Rattle.spec_judgement.specs.DeltasBench.{raised, more, three}
+use Rattle.spec_judgement.specs.Deltas.{no_deltas}
 use Rattle.tonekit_core.specs.declared.DeltaKind.TheVariants.{EndLower, WiderRange}
 use Rattle.tonekit_core.specs.declared.Measured.TheVariants.{Partial}
 use Rattle.tonekit_core.specs.declared.layout.TheConstants.{SINGLE_FORM, MIXTURE_FORM}
 use Rattle.tonekit_core.specs.declared.Name.{Name}
+use Rattle.spec_judgement.specs.declared.Region.{Region}
 use Rattle.spec_judgement.specs.declared.ToneEntry.{ToneEntry}
 use Rattle.spec_judgement.specs.declared.ToneJudgement.{ToneJudgement}
-use Rattle.spec_judgement.specs.Judge.{Inventory, ranked, ranking_of, heard_of, greatest32, part_of, not_measured}
+use Rattle.spec_judgement.specs.Judge.{Inventory, component_at, weighed, part_mixing, ranked, ranking_of, heard_of, greatest32, advice_of, part_of, not_measured}
 use Rattle.spec_judgement.specs.Record.{delta_count, kind_of, amount_of, nearest_bytes, score_bytes, one_bytes, delta_bytes, judgement_bytes}
 
 -- "Tone 1, accent 1 with a citation, eight voiced frames of 110 Hz, floor NaN: hexadecimal 31 01 01 00 24 74 C9, 54 zero bytes, 02 40 00"
@@ -50,6 +55,36 @@ two_tones = record { items = likely 7 ∷ likely 9 ∷ [] }
 pub equal_tones : heard_of two_tones quarter (ranking_of two_tones (zero ∷ zero ∷ [])) ≡ Some 7
 unfolding heard_of ranking_of ranked range turns add_to value_of ln_of exp_of is_nan eq neg add sub mul div lt le round of_int of_bits log_by parts_of centred series log_horner exp_by exp_series exp_horner floor_of
 equal_tones = refl
+
+-- of a tone at 0 and one at −100 the first is as good as certain: e^(−100) adds nothing to 1 in f64
+pub likelier_tone : heard_of two_tones one64 (ranking_of two_tones (zero ∷ of_bits binary32 0xc2c8_0000 ∷ [])) ≡ Some 7
+unfolding heard_of ranking_of ranked range turns add_to value_of ln_of exp_of is_nan eq neg add sub mul div lt le round of_int of_bits
+likelier_tone = refl
+
+-- a component's region is that of its own tone: a shape that is 1 high throughout and unvoiced, where the second tone has a region, has the two ends' distance
+abbrev regional : Option Region → ToneEntry
+regional region = record (likely 7) { region = region }
+
+pub own_region : (component_at (shaped (replicate 10 one64) zero) plain (record { items = regional None ∷ regional (Some (record { from = zero; to = one64 })) ∷ [] })
+    (record { list = replicate 32 (record { weight = one64; points = replicate 10 zero }) }) 1 0).distance
+    ≡ one64
+unfolding distance_of ends_of end_term squares_of point_weight excused greater range turns is_nan add sub mul div lt le round of_int of_bits
+own_region = refl
+
+-- "drops products not above 0": a half is kept
+pub half_kept : is_some (weighed plain no_mixing 0 half zero64).best ≡ true
+unfolding weighed mix_turn mixed lt le of_bits
+half_kept = refl
+
+-- "`expect` weighs variants in f32": 2^−100 times 2^−100 is 0 there, and is dropped
+pub weighed_in_f32 : (part_mixing plain (λ t j. record { weight = of_bits binary32 0x0d80_0000; distance = zero64 }) 1 0 (of_bits binary32 0x0d80_0000) no_mixing).best ≡ None
+unfolding part_mixing weighed range turns mul lt round of_bits
+weighed_in_f32 = refl
+
+-- no advice under LowSnr, bit 1
+pub no_advice : advice_of (raised more zero) plain (record { contour = half; onset = half; offset = half; turning = half }) (replicate 10 three) 2 ≡ no_deltas
+unfolding advice_of
+no_advice = refl
 
 -- a name of this form
 abbrev of_form : ℕ → Name

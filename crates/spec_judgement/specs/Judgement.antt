@@ -1,5 +1,5 @@
 -- Document 01's Judgement, from whatever a station holds: what a query's bytes are turned into, a function of a source and of those bytes.
-use Rattle.std.specs.Prelude.{ℕ, Bool, cond, not, Option, Some, None, Result, Ok, Err, List, eqb, length, ltb}
+use Rattle.std.specs.Prelude.{ℕ, Bool, cond, not, Option, Some, None, ok_or, Result, Ok, Err, List, eqb, length, ltb}
 use Rattle.tonekit_core.specs.Calls.{Outcome, refused, written}
 use Rattle.std.specs.List.{list_all}
 use Rattle.tonekit_core.specs.declared.Refusal.{Refusal}
@@ -26,32 +26,24 @@ use Rattle.spec_judgement.specs.Gather.{Gathering, gathered}
 abbrev pub context_of : Query → Context
 context_of q = record { accent = q.accent; tone = q.tone; prev = q.prev; last = q.last }
 
--- every inventory tone has a component
-abbrev pub all_listed : Inventory → Bool
-all_listed i = list_all (λ e. not (eqb (count_in e.listing) 0)) i.items
-
 -- "no realisation: some inventory tone has nothing here"
 unfoldable pub tones_verdict : Inventory → Result (Unit {0}) Refusal
-tones_verdict i = cond (not (all_listed i)) (Err refusal.NoRealisation) (Ok tt)
+tones_verdict i = cond (not (list_all (λ e. not (eqb (count_in e.listing) 0)) i.items)) (Err refusal.NoRealisation) (Ok tt)
 
-abbrev pub or_else : Result (Unit {0}) Refusal → Result Tolerance Refusal → Result Tolerance Refusal
-or_else (Err r) v = Err r
-or_else (Ok u) v = v
-
--- 12, unless the accent is held
-abbrev pub of_accent : Option Tolerance → (Tolerance → Result Tolerance Refusal) → Result Tolerance Refusal
-of_accent None after = Err refusal.UnknownAccent
-of_accent (Some t) after = after t
+-- a refusal, or what comes after, of what was not refused
+abbrev pub and_then : {A B : Type 0} → Result A Refusal → (A → Result B Refusal) → Result B Refusal
+and_then (Err r) after = Err r
+and_then (Ok a) after = after a
 
 -- "Then 11, 12, 13 for prev, 14, 15": of so many voiced frames, the accent's tolerances if it is held, whether what stood before is, the inventory, and the
 -- query's bytes and what they say; where nothing is refused, the tolerances
 unfoldable pub query_verdict : ℕ → Option Tolerance → Bool → Inventory → List ℕ → Query → Result Tolerance Refusal
 query_verdict voiced accent prev i s q =
     cond (ltb voiced 3) (Err refusal.Unvoiced)
-    (of_accent accent (λ t.
+    (and_then (ok_or accent refusal.UnknownAccent) (λ t.
     cond (not prev) (Err refusal.UnknownTone)
-    (or_else (tones_verdict i)
-    (cond (variants_fine s q.variants) (Ok t) (Err refusal.BadVariant)))))
+    (and_then (tones_verdict i) (λ u.
+    cond (variants_fine s q.variants) (Ok t) (Err refusal.BadVariant)))))
 
 -- "13 for targets"; or the record: `judge` after `extract`, "issues the union"
 abbrev pub recorded : Gathering → Tolerance → Query → List ℕ → Extent → Option Targets → Outcome
@@ -83,12 +75,7 @@ on_query src s (Ok q) = judge_gathered (gathered src (context_of q)) s q
 unfoldable pub judgement : Source → List ℕ → Outcome
 judgement src s = on_query src s (load_query s)
 
--- what is held, or why it is refused: "Pack or sheet comes before query."
-abbrev pub on_held : Result Source Rejection → List ℕ → Outcome
-on_held (Err e) s = refused e.why e.place
-on_held (Ok src) s = judgement src s
-
--- of a pack's bytes
+-- of a pack's bytes: "Pack or sheet comes before query."
 abbrev pub on_pack : List ℕ → List ℕ → Out Pst → Outcome
 on_pack p s (files.refused r place) = refused r place
 on_pack p s (files.loaded st e) = judgement (source_of_pack p st) s

@@ -1,8 +1,8 @@
 pub mod Input
-pub mod Fields
 pub mod Score
 pub mod Deltas
 pub mod Judge
+pub mod Asked
 pub mod Target
 pub mod Gather
 pub mod Record

@@ -1,5 +1,6 @@
 -- The record of a judgement, kind 49.
 use Rattle.std.specs.Prelude.{ℕ, ◌+◌, Bool, cond, Option, Some, None, is_some, unwrap_or, List, [], ◌∷◌, ◌++◌, Float}
+use Rattle.std.specs.Option.{option_map_or}
 use Rattle.tonekit_core.specs.declared.layout.TheConstants.{JUDGEMENT_KIND}
 use Rattle.tonekit_core.specs.Words.{delta_number, measured_number}
 use Rattle.spec_arithmetic.specs.Fields.{le16, f32_bytes, f32s_bytes}
@@ -11,12 +12,10 @@ use Rattle.spec_judgement.specs.declared.ToneJudgement.{ToneJudgement}
 
 -- a delta's kind and its amount, both 0 where there is none
 unfoldable pub kind_of : Option Delta → ℕ
-kind_of None = 0
-kind_of (Some d) = delta_number d.kind
+kind_of d = option_map_or (λ d. delta_number d.kind) d 0
 
 unfoldable pub amount_of : Option Delta → Float
-amount_of None = zero32
-amount_of (Some d) = d.amount
+amount_of d = option_map_or (λ d. d.amount) d zero32
 
 -- how many there are
 abbrev pub one_if : Bool → ℕ
@@ -24,10 +23,6 @@ one_if b = cond b 1 0
 
 unfoldable pub delta_count : Deltas → ℕ
 delta_count ds = one_if (is_some ds.first) + one_if (is_some ds.second)
-
--- kind, expected, tone count
-abbrev pub head_bytes : ℕ → ℕ → List ℕ
-head_bytes expected tones = JUDGEMENT_KIND ∷ expected ∷ tones ∷ []
 
 -- distance, owner, form, label and part: 0 where there is no best component
 abbrev pub no_nearest : Nearest
@@ -49,12 +44,8 @@ one_bytes d = (kind_of d ∷ []) ++ f32_bytes (amount_of d)
 unfoldable pub delta_bytes : Deltas → List ℕ
 delta_bytes ds = (delta_count ds ∷ []) ++ (one_bytes ds.first ++ one_bytes ds.second)
 
--- measured, issues
-abbrev pub tail_bytes : ℕ → ℕ → List ℕ
-tail_bytes measured issues = (measured ∷ []) ++ le16 issues
-
--- the record, 64 bytes
+-- the record, 64 bytes: kind, expected, tone count; log-likelihoods, scores, deltas; measured, issues
 unfoldable pub judgement_bytes : ℕ → ℕ → ToneJudgement → List ℕ
 judgement_bytes expected tones j =
-    head_bytes expected tones
-    ++ (f32s_bytes j.loglik ++ (score_bytes j ++ (delta_bytes j.deltas ++ tail_bytes (measured_number j.measured) j.issues)))
+    (JUDGEMENT_KIND ∷ expected ∷ tones ∷ [])
+    ++ (f32s_bytes j.loglik ++ (score_bytes j ++ (delta_bytes j.deltas ++ ((measured_number j.measured ∷ []) ++ le16 j.issues))))

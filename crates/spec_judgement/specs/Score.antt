@@ -1,5 +1,6 @@
 -- score.rs: calibrated likelihoods of one shape under weighted components. The operations are the Rust's, in its order; sums begin at +0.
 use Rattle.std.specs.Prelude.{ℕ, Bool, false, cond, not, ◌&&◌, ◌||◌, Option, Some, None, List, pos, get_or, Float}
+use Rattle.std.specs.Option.{option_map_or}
 use Rattle.std.specs.Float.{nan, binary32, binary64}
 use Rattle.std.specs.Float.Ieee.{is_nan, neg, add, sub, mul, div, lt, le, eq, of_int, of_bits}
 use Rattle.tonekit_core.specs.Loop.{range}
@@ -83,14 +84,12 @@ add_to s v =
 unfoldable pub value_of : LogSumExp → Float
 value_of s = cond (lt zero64 s.sum) (add binary64 s.max (ln_of s.sum)) neg_inf
 
--- k / 9 in f32
-abbrev pub place_of : ℕ → Float
-place_of k = div binary32 (of_int binary32 (pos k)) (of_bits binary32 0x4110_0000)
-
--- inside the region of the component's tone, if it has one, a point voiced less than 0.5 has no weight; every other point at least 0.25
+-- inside the region of the component's tone, if it has one, a point voiced less than 0.5 has no weight; every other point at least 0.25. Point k is k / 9 of the way
 unfoldable pub excused : Option Region → ℕ → Float → Bool
 excused None k voiced = false
-excused (Some r) k voiced = lt voiced (of_bits binary32 0x3f00_0000) && (le r.from (place_of k) && le (place_of k) r.to)
+excused (Some r) k voiced =
+    let ninths = div binary32 (of_int binary32 (pos k)) (of_bits binary32 0x4110_0000) in
+    lt voiced (of_bits binary32 0x3f00_0000) && (le r.from ninths && le ninths r.to)
 
 unfoldable pub point_weight : Option Region → ℕ → Float → Float
 point_weight r k voiced = cond (excused r k voiced) zero64 (greater voiced (of_bits binary32 0x3e80_0000))
@@ -146,12 +145,8 @@ mixed m i score d2 = record {
 unfoldable pub mix_turn : Scoring → Mixing → ℕ → Float → Float → Mixing
 mix_turn s m i weight d2 = cond (le weight zero32) m (mixed m i (add binary64 (ln_of weight) (log_of s d2)) d2)
 
-abbrev pub mixture_with : LogSumExp → Option Lead → Mixture
-mixture_with total None = Nothing
-mixture_with total (Some best) = Scored (value_of total) best.index best.distance
-
 abbrev pub mixture_of : Mixing → Mixture
-mixture_of m = mixture_with m.total m.best
+mixture_of m = option_map_or (λ best. Scored (value_of m.total) best.index best.distance) m.best Nothing
 
 -- the mixture's log-likelihood, −infinity where there is nothing to score; calibrated
 abbrev pub mixture_log : Mixture → Float

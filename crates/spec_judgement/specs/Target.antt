@@ -1,5 +1,5 @@
 -- The tones that a query asks for, as `expect` of the Rust weighs them: the main tone, then its variants.
-use Rattle.std.specs.Prelude.{ℕ, zero, suc, ◌+◌, Bool, true, cond, not, ◌&&◌, ◌==◌, Option, Some, None, List, [], ◌∷◌, ◌++◌, position, length, ltb, Float}
+use Rattle.std.specs.Prelude.{ℕ, zero, suc, ◌+◌, Bool, true, cond, not, ◌&&◌, ◌==◌, Option, Some, None, option_map, List, [], ◌∷◌, ◌++◌, position, length, ltb, Float}
 use Rattle.std.specs.Float.{binary32}
 use Rattle.std.specs.Float.Ieee.{neg, add, sub, lt, le, of_bits}
 use Rattle.std.specs.Float.Ieee.Scale.{finite}
@@ -23,18 +23,12 @@ slack = of_bits binary32 0x3586_37bd
 unfoldable pub weight_fine : Float → Bool
 weight_fine w = finite w && le zero32 w
 
-abbrev pub weight_turn : List ℕ → ℕ → Bool → Bool
-weight_turn s i ok = ok && weight_fine (variant_weight s i)
-
 unfoldable pub weights_fine : List ℕ → ℕ → Bool
-weights_fine s n = range (weight_turn s) 0 n true
+weights_fine s n = range (λ i ok. ok && weight_fine (variant_weight s i)) 0 n true
 
 -- "1 − sum", in f32: what the n variants leave to the main tone
-abbrev pub sum_turn : List ℕ → ℕ → Float → Float
-sum_turn s i t = add binary32 t (variant_weight s i)
-
 unfoldable pub main_weight : List ℕ → ℕ → Float
-main_weight s n = sub binary32 one32 (range (sum_turn s) 0 n zero32)
+main_weight s n = sub binary32 one32 (range (λ i t. add binary32 t (variant_weight s i)) 0 n zero32)
 
 -- not "bad variant: weight below 0 or not finite (−0 passes), or 1 − sum < −1e−6, in f32"
 unfoldable pub variants_fine : List ℕ → ℕ → Bool
@@ -45,12 +39,8 @@ unfoldable pub place_of : Inventory → ℕ → Option ℕ
 place_of i n = position (λ e. e.number == n) i.items
 
 -- the target that is the tone of a number, so weighed
-abbrev pub aimed : Float → Option ℕ → Option Target
-aimed weight None = None
-aimed weight (Some t) = Some (record { place = t; weight = weight })
-
 unfoldable pub target_of : Inventory → ℕ → Float → Option Target
-target_of i n weight = aimed weight (place_of i n)
+target_of i n weight = option_map (λ t. record { place = t; weight = weight }) (place_of i n)
 
 -- tone k of the target, and its weight: the main tone's is what is left, at least 0
 abbrev pub target_tone : List ℕ → ℕ → ℕ → ℕ
@@ -61,9 +51,6 @@ abbrev pub target_weight : List ℕ → Float → ℕ → Float
 target_weight s main zero = greater main zero32
 target_weight s main (suc i) = variant_weight s i
 
-abbrev pub no_targets : Targets
-no_targets = record { items = [] }
-
 -- the targets with one more, where there is room: a query has one main tone and at most four variants
 unfoldable pub with_target : Target → Targets → Targets
 with_target t g = record { items = cond (ltb (length g.items) 5) (g.items ++ t ∷ []) g.items }
@@ -73,9 +60,8 @@ abbrev pub aim_at : Targets → Option Target → Turn Targets (Option Targets)
 aim_at g (Some t) = next (with_target t g)
 aim_at g None = stop None
 
-abbrev pub aim_turn : Inventory → List ℕ → ℕ → Float → ℕ → Targets → Turn Targets (Option Targets)
-aim_turn i s tone main k g = aim_at g (target_of i (target_tone s tone k) (target_weight s main k))
-
 -- the target of a query of this tone and so many variants, among the inventory's tones; none where one of them is not held
 unfoldable pub targets_of : Inventory → List ℕ → ℕ → ℕ → Option Targets
-targets_of i s tone variants = range_to (aim_turn i s tone (main_weight s variants)) Some 0 (variants + 1) no_targets
+targets_of i s tone variants =
+    let turn = λ (k : ℕ) (g : Targets). aim_at g (target_of i (target_tone s tone k) (target_weight s (main_weight s variants) k)) in
+    range_to turn Some 0 (variants + 1) (record { items = [] })

@@ -1,8 +1,11 @@
 -- Worked cases for variants, by computing.
-use Rattle.std.specs.Prelude.{ℕ, ◌≡◌, refl, true, false, List, [], ◌∷◌, ◌++◌, replicate}
-use Rattle.std.specs.Float.Ieee.{neg, add, sub, lt, le, of_bits}
-use Rattle.tonekit_core.specs.Loop.{turns, range}
-use Rattle.spec_judgement.specs.Target.{weight_fine, weights_fine, main_weight, variants_fine}
+use Rattle.std.specs.Prelude.{ℕ, ◌≡◌, refl, true, false, Some, None, List, [], ◌∷◌, ◌++◌, map, replicate}
+use Rattle.std.specs.Float.{binary32}
+use Rattle.std.specs.Float.Ieee.{is_nan, neg, add, sub, lt, le, of_bits}
+use Rattle.tonekit_core.specs.Loop.{turns, range, turns_to, range_to}
+use Rattle.spec_arithmetic.specs.Pick.{greater}
+use Rattle.spec_judgement.specs.Judge.{Inventory}
+use Rattle.spec_judgement.specs.Target.{zero32, weight_fine, weights_fine, main_weight, variants_fine, place_of, target_of, with_target, targets_of}
 
 -- the bytes of a query up to two variants, with weights of these bits
 abbrev pub variants : List ℕ → List ℕ → List ℕ
@@ -25,3 +28,30 @@ minus_zero = refl
 pub not_a_number : variants_fine (variants (0 ∷ 0 ∷ 0xc0 ∷ 0x7f ∷ []) (0 ∷ 0 ∷ 0 ∷ 0 ∷ [])) 1 ≡ false
 unfolding variants_fine weights_fine weight_fine main_weight range turns neg add sub lt le of_bits
 not_a_number = refl
+
+-- the sum is rounded to f32: 1 + 17 / 2^24 is 1 + 16 / 2^24
+pub summed_in_f32 : variants_fine (variants (0 ∷ 0 ∷ 0 ∷ 0x3f ∷ []) (0x11 ∷ 0 ∷ 0 ∷ 0x3f ∷ [])) 2 ≡ true
+unfolding variants_fine weights_fine weight_fine main_weight range turns neg add sub lt le of_bits
+summed_in_f32 = refl
+
+-- "weight below 0": −0.5
+pub below_zero : variants_fine (variants (0 ∷ 0 ∷ 0 ∷ 0xbf ∷ []) (0 ∷ 0 ∷ 0 ∷ 0 ∷ [])) 1 ≡ false
+unfolding variants_fine weights_fine weight_fine main_weight range turns neg add sub lt le of_bits
+below_zero = refl
+
+-- an inventory of these numbers
+abbrev numbered : List ℕ → Inventory
+numbered ns = record { items = map (λ n. record { number = n; prior = zero32; region = None; listing = None }) ns }
+
+-- tone 2 with variants 1 and 2 that weigh 0.25 and 0.5: what is left is 0.25
+pub three_targets : targets_of (numbered (1 ∷ 2 ∷ [])) (variants (0 ∷ 0 ∷ 0x80 ∷ 0x3e ∷ []) (0 ∷ 0 ∷ 0 ∷ 0x3f ∷ [])) 2 2
+    ≡ Some (record {
+      items = record { place = 1; weight = of_bits binary32 0x3e80_0000 } ∷ record { place = 0; weight = of_bits binary32 0x3e80_0000 } ∷ record { place = 1; weight = of_bits binary32 0x3f00_0000 } ∷ [];
+    })
+unfolding targets_of target_of place_of with_target main_weight range turns range_to turns_to greater is_nan add sub lt of_bits
+three_targets = refl
+
+-- "13 for targets": a variant's tone that is not held, even where it weighs 0
+pub unknown_variant : targets_of (numbered (2 ∷ [])) (variants (0 ∷ 0 ∷ 0 ∷ 0 ∷ []) (0 ∷ 0 ∷ 0 ∷ 0 ∷ [])) 2 1 ≡ None
+unfolding targets_of target_of place_of with_target main_weight range turns range_to turns_to greater is_nan add sub lt of_bits
+unknown_variant = refl

@@ -4,19 +4,15 @@ use Rattle.tonekit_core.specs.Calls.{Outcome, answer_in, buffer_after}
 use Rattle.tonekit_core.specs.Words.{refusal_number}
 use Rattle.tonekit_core.specs.declared.Rejection.{Rejection}
 
-abbrev pub checked_number : Result (Unit {0}) Rejection → ℕ
-checked_number (Ok u) = 0
-checked_number (Err e) = refusal_number e.why
+abbrev pub answer_number : {A : Type 0} → Result A Rejection → ℕ
+answer_number (Ok a) = 0
+answer_number (Err e) = refusal_number e.why
 
+-- of a call that checks, and of one that writes: the place, or the bytes written
 abbrev pub checked_place : Result (Unit {0}) Rejection → ℕ
 checked_place (Ok u) = 0
 checked_place (Err e) = e.place
 
-abbrev pub answer_number : Result ℕ Rejection → ℕ
-answer_number (Ok n) = 0
-answer_number (Err e) = refusal_number e.why
-
--- the bytes written, or the place
 abbrev pub answer_place : Result ℕ Rejection → ℕ
 answer_place (Ok n) = n
 answer_place (Err e) = e.place

@@ -16,7 +16,7 @@ ghost use Rattle.spec_sheet.specs.Outcome.{sheet_outcome};
 ghost use Rattle.spec_shape.specs.Record.{shape_outcome};
 ghost use Rattle.spec_judgement.specs.Judgement.{judge_outcome};
 ghost use Rattle.spec_sheet.specs.JudgeSheet.{judge_sheet_outcome};
-ghost use Rattle.tonekit_c.specs.Export.{checked_number, checked_place, answer_number, answer_place, Hands};
+ghost use Rattle.tonekit_c.specs.Export.{checked_place, answer_number, answer_place, Hands};
 
 use tonekit_core::Rejection;
 use tonekit_float::AnyFloat;
@@ -41,7 +41,7 @@ fn hand(answer: Result<usize, Rejection>, place: &mut u64) -> u32
 // Stays: the C interface has a function for each of pack, query and sheet.
 #[unsafe(no_mangle)]
 pub extern "C" fn tonekit_check_pack(pack: &[u8], place: &mut u64) -> u32
-    ensures { (result ≡ checked_number (check_pack pack.now))
+    ensures { (result ≡ answer_number (check_pack pack.now))
         × (place.new ≡ checked_place (check_pack pack.now)) }
 {
     hand(tonekit_pack::check_pack(pack).and(Ok(0)), place)
@@ -50,7 +50,7 @@ pub extern "C" fn tonekit_check_pack(pack: &[u8], place: &mut u64) -> u32
 // Whether the bytes are a query: 0, or the refusal's number.
 #[unsafe(no_mangle)]
 pub extern "C" fn tonekit_check_query(query: &[u8], place: &mut u64) -> u32
-    ensures { (result ≡ checked_number (check_query query.now))
+    ensures { (result ≡ answer_number (check_query query.now))
         × (place.new ≡ checked_place (check_query query.now)) }
 {
     hand(tonekit_query::check_query(query).and(Ok(0)), place)
@@ -60,7 +60,7 @@ pub extern "C" fn tonekit_check_query(query: &[u8], place: &mut u64) -> u32
 // Stays: the C interface has a function for each of pack, query and sheet.
 #[unsafe(no_mangle)]
 pub extern "C" fn tonekit_check_sheet(sheet: &[u8], place: &mut u64) -> u32
-    ensures { (result ≡ checked_number (check_sheet sheet.now))
+    ensures { (result ≡ answer_number (check_sheet sheet.now))
         × (place.new ≡ checked_place (check_sheet sheet.now)) }
 {
     hand(tonekit_sheet_read::check_sheet(sheet).and(Ok(0)), place)

@@ -81,7 +81,7 @@ fn offer_end(ds: Deltas, d: f64, s: f64, below: DeltaKind, other: DeltaKind) -> 
 // Offers the difference in turning-point time, in milliseconds, where both have one.
 #[tactic(auto, unfolding(spec_judgement::specs::Deltas::offer_turn))]
 fn offer_turn(ds: Deltas, x: ToneShape, turning: Option<f64>, s: f64) -> Deltas
-    ensures { result ≡ offer_turn ds x turning s }
+    ensures { result ≡ offer_turn ds x.turning turning x.duration s }
 {
     match (x.turning, turning) {
         (Some(own), Some(u)) => {

@@ -17,7 +17,8 @@ use Rattle.spec_lookup.specs.Source as source
 use Rattle.spec_lookup.specs.declared.Context.{Context}
 use Rattle.spec_judgement.specs.Score.{scoring_of}
 use Rattle.std.specs.Prelude.{Some}
-use Rattle.spec_judgement.specs.Judge.{Targets, Placed, count_in, name_in, entry_at, slot_at, component_at, part_of, nearest_at, judgement_of}
+use Rattle.spec_judgement.specs.Judge.{Targets, count_in, name_in, entry_at, slot_at, component_at, part_of, nearest_at, judgement_of}
+use Rattle.spec_judgement.specs.Asked.{Placed}
 use Rattle.spec_judgement.specs.declared.Slot.{Slot}
 use Rattle.tonekit_core.specs.declared.Name.{Name}
 use Rattle.tonekit_judge.proofs.Winner.{winner_among, winner_named}

@@ -15,10 +15,11 @@ use Rattle.spec_judgement.specs.declared.Settings.{Settings}
 use Rattle.spec_judgement.specs.declared.Tolerance.{Tolerance}
 use Rattle.spec_judgement.specs.declared.Mixture.{Mixture}
 use Rattle.spec_judgement.specs.declared.Mixture.TheVariants.{Scored}
-use Rattle.spec_judgement.specs.Judge.{Targets, Listings, Placed, usable, slot_at, component_at, target_mixing, judgement_of}
+use Rattle.spec_judgement.specs.Judge.{Targets, Listings, usable, slot_at, component_at, target_mixing, judgement_of}
+use Rattle.spec_judgement.specs.Asked.{Placed}
 use Rattle.spec_judgement.specs.declared.Nearest.{Nearest}
 use Rattle.spec_judgement.specs.declared.ToneJudgement.{ToneJudgement}
-use Rattle.spec_judgement.specs.Gather.{f32, no_tone, in_context, listings}
+use Rattle.spec_judgement.specs.Gather.{f32, no_tone, listings}
 
 -- a slot of what is gathered for a context, and the component that the lookup gave: the tone's, at its place, with its weight and its ten points
 pub record Carries (src : Source) (c : Context) (slot : ℕ) (won : Carried) : Type 0 where
@@ -27,7 +28,7 @@ pub record Carries (src : Source) (c : Context) (slot : ℕ) (won : Carried) : T
   pub at : slot ≡ 4 * tone + component
   pub listed : tone < length src.tones
   pub given : List Carried
-  pub looked : src.look (in_context c (get_or src.tones tone no_tone).number) ≡ some given
+  pub looked : src.look (record c { tone = (get_or src.tones tone no_tone).number }) ≡ some given
   pub has : component < length given
   pub is : get_or given component no_carried ≡ won
   pub weight : (slot_at (listings src c).slots slot).weight ≡ f32 won.weight

@@ -8,8 +8,9 @@ use Rattle.spec_lookup.specs.declared.Context.{Context}
 use Rattle.spec_judgement.specs.declared.ToneEntry.{ToneEntry}
 use Rattle.spec_judgement.specs.declared.Listed.{Listed}
 use Rattle.spec_judgement.specs.declared.Slots.{Slots}
-use Rattle.spec_judgement.specs.Judge.{Inventory, listing, no_entry, count_in}
-use Rattle.spec_judgement.specs.Gather.{Lists, entry_of, named_of, with_tone, put_in, slotted, no_tone, given_of, in_context, list_tone, listings, no_slots}
+use Rattle.spec_judgement.specs.Judge.{Inventory, Listings, listing, no_entry, count_in}
+use Rattle.tonekit_inventory.specs.Gathers.{Lists}
+use Rattle.spec_judgement.specs.Gather.{entry_of, named_of, with_tone, put_in, slotted, no_tone, given_of, list_tone, listings, no_slots}
 
 -- ---- a listing's name is that of its first component
 pub first_named : (cs : List Carried) (d : Carried) → 1 ≤ length cs
@@ -18,6 +19,10 @@ first_named [] d h = absurd (omega arith)
 first_named (c ∷ cs) d h = refl
 
 -- ---- an entry of a list that was made of another
+
+-- before any tone
+abbrev pub nothing_yet : Listings
+nothing_yet = listing (record { items = [] }) no_slots
 
 -- ---- the loop over n tones
 abbrev count_of : List ToneEntry → ℕ → ℕ
@@ -52,9 +57,9 @@ module _ (src : Source) (n : ℕ) (c : Context) where
 
     -- the tone as it was read, what was put for it, the inventory with both, and the slots after
     module _ (h : t < n) (few_tones : n ≤ 8) (e : ToneEntry) (tone : e ≡ entry_of (get_or src.tones t no_tone) None)
-        (l : Option Listed) (named : l ≡ named_of (given_of (src.look (in_context c e.number)))) (few : count_in l ≤ 4)
+        (l : Option Listed) (named : l ≡ named_of (given_of (src.look (record c { tone = e.number })))) (few : count_in l ≤ 4)
         (i' : Inventory) (pushed : i'.items ≡ i.items ++ (record { number = e.number; prior = e.prior; region = e.region; listing = l } ∷ []))
-        (s' : Slots) (put : s' ≡ put_in t (given_of (src.look (in_context c e.number))) s) where
+        (s' : Slots) (put : s' ≡ put_in t (given_of (src.look (record c { tone = e.number }))) s) where
       kept : ltb (length i.items) 8 ≡ true
       kept = lt-ltb (length i.items) 8 (omega (arith, g.many))
 

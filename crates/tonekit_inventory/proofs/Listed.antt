@@ -1,15 +1,22 @@
 -- What the listings of a source hold of each tone: its components' number and name, and each in its slot. Assumes nothing.
 use Rattle.std.proofs.Common.{ℕ, zero, suc, ◌+◌, ◌*◌, ◌≤◌, ◌<◌, ◌≡◌, refl, true, ap, ◌∙◌, ⊎_elim, List, [], ◌∷◌, map, le_of_suc-le-suc, not-suc-le-zero, eq-or-lt_of_le, arith, ltb, lt-ltb, length, get_or, set, length-set, length-append, get_or-set_same, get_or-set_other}
+use Rattle.std.specs.Float.{nan}
 use Rattle.std.proofs.lemmas.List.{get_or_push}
 use lib.ListN.{length-map, get_or-append}
 use lib.Seq.{sets, length-sets}
 use Rattle.tonekit_core.proofs.LoopLaws.{range_keeps}
 use Rattle.spec_lookup.specs.Source.{Tone, Carried, Source}
 use Rattle.spec_lookup.specs.declared.Context.{Context}
-use Rattle.spec_judgement.specs.Judge.{Listings, no_entry, entry_at, no_slot, slot_at}
+use Rattle.spec_judgement.specs.Judge.{Listings, no_entry, entry_at, slot_at}
+use Rattle.spec_judgement.specs.declared.Slot.{Slot}
 use Rattle.spec_judgement.specs.declared.ToneEntry.{ToneEntry}
-use Rattle.spec_judgement.specs.Gather.{entry_of, named_of, with_tone, put_in, slot_of, slotted, no_tone, given_of, in_context, list_tone, listings, nothing_yet}
+use Rattle.spec_judgement.specs.Gather.{entry_of, named_of, with_tone, put_in, slot_of, slotted, no_tone, given_of, list_tone, listings}
 use Rattle.std.proofs.lemmas.List.{get_or-map}
+use Rattle.tonekit_inventory.proofs.Going.{nothing_yet}
+
+-- what stands past the end of the slots
+abbrev no_slot : Slot
+no_slot = record { weight = nan; points = [] }
 
 -- ---- a run of entries that was set
 module _ {A : Type 0} (d : A) where
@@ -81,7 +88,7 @@ module _ (d : Carried) (t : ℕ) (tone : Tone) (cs : List Carried) (l : Listings
 -- a source whose tones have four components at most in this context
 module _ (d : Carried) (src : Source) (c : Context) where
   abbrev pub components_at : ℕ → List Carried
-  components_at t = given_of (src.look (in_context c (get_or src.tones t no_tone).number))
+  components_at t = given_of (src.look (record c { tone = (get_or src.tones t no_tone).number }))
 
   module _ (tones_few : length src.tones ≤ 8) (few : (t : ℕ) → t < length src.tones → length (components_at t) ≤ 4) where
     record So (n : ℕ) (l : Listings) : Type 0 where

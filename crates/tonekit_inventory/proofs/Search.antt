@@ -14,7 +14,7 @@ use Rattle.spec_lookup.specs.Lookup.{Found}
 use Rattle.spec_lookup.specs.Source.{Tone, Accent, accent_at, accent_in, tone_in, source_of_pack}
 use Rattle.tonekit_expect.proofs.Walk.{index_found}
 use Rattle.spec_judgement.specs.declared.Tolerance.{Tolerance}
-use Rattle.spec_judgement.specs.Fields.{tolerance_at}
+use Rattle.tonekit_inventory.specs.Fields.{tolerance_at}
 use Rattle.spec_judgement.specs.Gather.{tolerance_of, graded_of}
 
 -- accents and tones that are held by their records' offsets, under the numbers there

@@ -5,19 +5,19 @@
 ghost use Rattle.std.specs.Prelude.{◌≡◌, ◌≤◌, ◌<◌, ℕ, List, Result, None, Ok, Err, IfOk, IfErr, length, get_or};
 ghost use Rattle.tonekit_core.specs.declared.Rejection.{Rejection};
 ghost use Rattle.spec_lookup.specs.Source.{Source, accent_in, tone_in};
-ghost use Rattle.spec_judgement.specs.Fields.{region_at, tolerance_at, settings_at};
-ghost use Rattle.spec_judgement.specs.Gather.{entry_of, named_of, given_of, graded_of, settings_of, no_tone, put_in, no_slots, Lists, Gathers};
+ghost use Rattle.tonekit_inventory.specs.Fields.{region_at, tolerance_at, settings_at};
+ghost use Rattle.spec_judgement.specs.Gather.{entry_of, named_of, given_of, graded_of, settings_of, no_tone, put_in, no_slots};
+ghost use Rattle.tonekit_inventory.specs.Gathers.{Lists, Gathers};
 ghost use Rattle.spec_judgement.specs.Judge.{count_in};
 
 mod pack;
 
 pub use pack::HeldPack;
-pub use spec_judgement::Gathered;
+pub use spec_judgement::{Gathered, Inventory, Listed, Slots, ToneEntry};
+use spec_judgement::{Region, Settings, Tolerance};
 use tonekit_bytes::{byte_at, f32_at};
 use tonekit_core::{Rejection, layout};
 use tonekit_expect::Context;
-use tonekit_judge::{Inventory, Listed, Slots, ToneEntry};
-use tonekit_score::{Region, Settings, Tolerance};
 
 // What a station holds: some bytes, as those of a pack or of a sheet, with what was read of them. `source` says
 // what it stands for, and `loads` what bytes hold or why they are refused.
@@ -64,7 +64,7 @@ pub trait Held<'a>: Drop {
 }
 
 // The region whose flag stands at an offset, if the flag is not 0; bytes that are not there are 0.
-#[tactic(auto, unfolding(spec_judgement::specs::Fields::region_at))]
+#[tactic(auto, unfolding(crate::specs::Fields::region_at))]
 pub fn region_at(s: &[u8], o: usize) -> Option<Region>
     ensures { result ≡ region_at s.now o }
 {
@@ -90,7 +90,7 @@ pub fn tolerance_at(s: &[u8], o: usize) -> Tolerance
 }
 
 // The settings, which stand first in a pack and in a sheet.
-#[tactic(auto, unfolding(spec_judgement::specs::Fields::settings_at))]
+#[tactic(auto, unfolding(crate::specs::Fields::settings_at))]
 pub fn settings_at(s: &[u8]) -> Settings
     ensures { result ≡ settings_at s.now }
 {

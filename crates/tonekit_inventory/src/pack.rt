@@ -9,12 +9,11 @@ ghost use Rattle.spec_judgement.specs.Gather.{put_in};
 ghost use Rattle.tonekit_inventory.specs.OfPack.{source_in, load_source, pack_in, Short};
 
 use crate::Held;
+use spec_judgement::{Listed, Settings, Slot, Slots, Tolerance, ToneEntry};
 use tonekit_bytes::{byte_at, f32_at};
 use tonekit_core::{Rejection, layout};
 use tonekit_expect::{Context, Listing};
-use tonekit_judge::{Listed, Slot, Slots, ToneEntry};
 use tonekit_pack::PackView;
-use tonekit_score::{Settings, Tolerance};
 
 // Puts the components of a listing into tone t's slots.
 // Stays: a sheet's components are read by other calls; one loop over a closure would have the closure's contract in its own, as long as the loop.

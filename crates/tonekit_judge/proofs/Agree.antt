@@ -7,7 +7,10 @@ use Rattle.spec_judgement.specs.declared.Mixture.{Mixture}
 use Rattle.spec_judgement.specs.declared.Tolerance.{Tolerance}
 use Rattle.spec_shape.specs.declared.ToneShape.{ToneShape}
 use Rattle.tonekit_core.proofs.LoopLaws.{range_same}
-use Rattle.spec_judgement.specs.Judge.{Inventory, Targets, Listings, Counted, Placed, Filled, count_at, target_at, cell, component_at, plain_of, judged_of, judged_against, tone_turn, tone_mixing, loglik_at, loglik_turn, logliks, part_turn, part_mixing, target_turn, target_mixing}
+use Rattle.spec_judgement.specs.Judge.{Inventory, Targets, Listings, count_at, target_at, component_at, plain_of, judged_of, tone_mixing, loglik_at, logliks, part_mixing, target_mixing}
+use Rattle.spec_judgement.specs.Asked.{Counted, Placed}
+use Rattle.tonekit_judge.specs.Terms.{Filled, cell, tone_turn, part_turn}
+use Rattle.tonekit_judge.proofs.Turns.{loglik_turn, target_turn}
 use Rattle.spec_judgement.specs.declared.Component.{Component}
 use Rattle.spec_judgement.specs.declared.ToneJudgement.{ToneJudgement}
 
@@ -55,7 +58,7 @@ plain_same s threshold i d e m issues same = rw (logliks_same s i d e same)
 pub judged_same : (x : ToneShape) (s : Scoring) (threshold : Float) (t : Tolerance) (l : Listings) (ds : List Component) (g : Targets) (issues : ℕ) {r : ToneJudgement}
     → Counted l.inventory → Placed (length l.inventory.items) g
     → Filled (component_at x s l.inventory l.slots) l.inventory (4 * length l.inventory.items) ds
-    → r ≡ judged_of x s threshold t l (cell ds) g issues → r ≡ judged_against x s threshold t l g issues
+    → r ≡ judged_of x s threshold t l (cell ds) g issues → r ≡ judged_of x s threshold t l (component_at x s l.inventory l.slots) g issues
 unfolding judged_of
 judged_same x s threshold t l ds g issues n p f e =
     let i = l.inventory in

@@ -22,12 +22,13 @@ use Rattle.spec_judgement.specs.declared.Scoring.{Scoring}
 use Rattle.spec_judgement.specs.declared.Mixture.{Mixture}
 use Rattle.spec_judgement.specs.declared.Mixture.TheVariants.{Scored, Nothing}
 use Rattle.tonekit_score.proofs.Bounds.{Bounded, bounded_zero, bounded_lowest, clamp_bounded, clamp_fits}
-use Rattle.spec_judgement.specs.Judge.{Inventory, Targets, Listings, count_at, component_at, loglik_at, loglik_turn, logliks, target_mixing, llr_of, plain_of, with_best, best_of, judged_of, usable, lowest_turn, not_measured, judgement_of}
-use Rattle.spec_judgement.specs.Record.{head_bytes, score_bytes, delta_bytes, tail_bytes, judgement_bytes}
+use Rattle.spec_judgement.specs.Judge.{Inventory, Targets, Listings, count_at, component_at, loglik_at, logliks, target_mixing, llr_of, plain_of, with_best, judged_of, usable, not_measured, judgement_of}
+use Rattle.tonekit_judge.proofs.Turns.{loglik_turn, lowest_turn}
+use Rattle.spec_judgement.specs.Record.{score_bytes, delta_bytes, judgement_bytes}
 use Rattle.spec_judgement.specs.declared.Component.{Component}
 use Rattle.spec_judgement.specs.declared.ToneJudgement.{ToneJudgement}
 use Rattle.tonekit_judge.proofs.Cells.{by_bool}
-use Rattle.tonekit_judge.proofs.Parts.{record_length}
+use Rattle.tonekit_record.proofs.Parts.{head_bytes, tail_bytes, record_length}
 
 -- ---- what holds of 0, of the lowest and of every clamped number, holds of every log-likelihood and of the llr
 pub data Every (P : Float → Type 0) : List Float → Type 0 where
@@ -79,7 +80,7 @@ module _ (P : Float → Type 0) (p-zero : P zero32) (p-lowest : P (narrowed (neg
       record { eight = p.1; logliks = p.0; llr = p-clamp _ }
 
   best_holds : (x : ToneShape) (s : Scoring) (t : Tolerance) (l : Listings) (j : ToneJudgement) (m : Mixture)
-      → Throughout P j → Throughout P (best_of x s t l j m)
+      → Throughout P j → Throughout P (with_best x s t l j m)
   unfolding with_best
   best_holds x s t l j Nothing p = p
   best_holds x s t l j (Scored ll slot d2) p = record { eight = p.eight; logliks = p.logliks; llr = p.llr }

@@ -1,7 +1,7 @@
+mod Turns
 mod Cells
 pub mod Ten
 mod Terms
 mod Agree
-mod Parts
 pub mod Bounds
 pub mod Winner

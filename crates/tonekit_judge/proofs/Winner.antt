@@ -5,7 +5,7 @@ use Rattle.std.specs.Float.{binary64}
 use Rattle.std.specs.Float.Ieee.{add, lt, le}
 use Rattle.tonekit_core.proofs.LoopLaws.{range_keeps}
 use Rattle.spec_arithmetic.specs.Log.{ln_of}
-use Rattle.spec_judgement.specs.Score.{zero32, log_of, no_mixing, mixed, mix_turn, mixture_with, mixture_of, scoring_of}
+use Rattle.spec_judgement.specs.Score.{zero32, log_of, no_mixing, mixed, mix_turn, mixture_of, scoring_of}
 use Rattle.spec_shape.specs.declared.ToneShape.{ToneShape}
 use Rattle.spec_judgement.specs.declared.Settings.{Settings}
 use Rattle.spec_judgement.specs.declared.Tolerance.{Tolerance}
@@ -14,7 +14,10 @@ use Rattle.spec_judgement.specs.declared.LogSumExp.{LogSumExp}
 use Rattle.spec_judgement.specs.declared.Lead.{Lead}
 use Rattle.spec_judgement.specs.declared.Mixing.{Mixing}
 use Rattle.spec_judgement.specs.declared.Mixture.TheVariants.{Scored}
-use Rattle.spec_judgement.specs.Judge.{Inventory, Targets, Listings, Placed, entry_at, count_at, target_at, weighed, part_turn, part_mixing, target_turn, target_mixing, component_at, nearest_at, with_best, judged_of, usable, judgement_of}
+use Rattle.spec_judgement.specs.Judge.{Inventory, Targets, Listings, entry_at, count_at, target_at, weighed, part_mixing, target_mixing, component_at, nearest_at, with_best, judged_of, usable, judgement_of}
+use Rattle.spec_judgement.specs.Asked.{Placed}
+use Rattle.tonekit_judge.specs.Terms.{part_turn}
+use Rattle.tonekit_judge.proofs.Turns.{target_turn}
 use Rattle.spec_judgement.specs.declared.Component.{Component}
 use Rattle.spec_judgement.specs.declared.ToneJudgement.{ToneJudgement}
 use Rattle.tonekit_judge.proofs.Cells.{by_bool, led_keeps}
@@ -48,7 +51,7 @@ module _ (i : Inventory) (s : Scoring) where
         (mixed_best (add binary64 (ln_of w) (log_of s d2)))) b
 
   -- what is scored is the best of those found
-  scored_best : (total : LogSumExp) (best : Option Lead) (ll d2 : Float) (slot : ℕ) → IfSome best Won → mixture_with total best ≡ Scored ll slot d2 → Among i slot
+  scored_best : (total : LogSumExp) (best : Option Lead) (ll d2 : Float) (slot : ℕ) → IfSome best Won → mixture_of (record { total = total; best = best }) ≡ Scored ll slot d2 → Among i slot
   scored_best total None ll d2 slot b e = let z : ◌≡◌ {A = ℕ} 0 1 = cc in absurd (omega arith)
   scored_best total (Some best) ll d2 slot b e = let q : best.index ≡ slot = cc in subst (Among i) q b
 

@@ -1,15 +1,22 @@
--- Mixtures in the parts that their loop has. `tone_turn` and `part_turn` say what they come to.
-use Rattle.std.specs.Prelude.{ℕ, cond, Option, Some, None, Float}
-use Rattle.std.specs.Float.{binary32}
+-- Mixtures in the parts that their loop has, and components in the list that it takes them from.
+use Rattle.std.specs.Prelude.{ℕ, ◌+◌, ◌*◌, ◌<◌, ◌≡◌, cond, Option, Some, None, List, get_or, Float}
+use Rattle.std.specs.Float.{nan, binary32}
 use Rattle.std.specs.Float.Ieee.{mul, lt}
 use Rattle.tonekit_core.specs.Loop.{range}
-use Rattle.spec_judgement.specs.Score.{zero32}
+use Rattle.spec_judgement.specs.Score.{zero32, mix_turn}
+use Rattle.spec_judgement.specs.Judge.{Inventory, count_at, weighed}
 use Rattle.tonekit_score.specs.Terms.{term_of}
 use Rattle.spec_judgement.specs.declared.Scoring.{Scoring}
 use Rattle.spec_judgement.specs.declared.Mixing.{Mixing}
 use Rattle.spec_judgement.specs.declared.Term.{Term}
 use Rattle.spec_judgement.specs.declared.Component.{Component}
-use Rattle.spec_judgement.specs.Judge.{tone_turn, part_turn}
+
+-- a turn of `tone_mixing`, and one of `part_mixing`
+abbrev pub tone_turn : Scoring → (ℕ → ℕ → Component) → ℕ → ℕ → Mixing → Mixing
+tone_turn s c t j m = mix_turn s m (4 * t + j) (c t j).weight (c t j).distance
+
+abbrev pub part_turn : Scoring → (ℕ → ℕ → Component) → ℕ → Float → ℕ → Mixing → Mixing
+part_turn s c t weight j m = weighed s m (4 * t + j) (mul binary32 (c t j).weight weight) (c t j).distance
 
 -- one turn of `mixed_terms`: with the weights as they stand, or each times a share
 abbrev pub either_turn : Scoring → (ℕ → ℕ → Component) → ℕ → Option Float → ℕ → Mixing → Mixing
@@ -26,3 +33,11 @@ weighed_term s product d2 = cond (lt zero32 product) (term_of s product d2) None
 unfoldable pub term_at : Scoring → (ℕ → ℕ → Component) → ℕ → Option Float → ℕ → Option Term
 term_at s c t None j = term_of s (c t j).weight (c t j).distance
 term_at s c t (Some share) j = weighed_term s (mul binary32 (c t j).weight share) (c t j).distance
+
+-- components that stand in a list, slot by slot
+abbrev pub cell : List Component → ℕ → ℕ → Component
+cell cs t j = get_or cs (4 * t + j) (record { weight = nan; distance = nan })
+
+-- a list that has each component in the slots below n
+pub record Filled (c : ℕ → ℕ → Component) (i : Inventory) (n : ℕ) (cs : List Component) : Type 0 where
+  pub at : (t j : ℕ) → j < 4 → j < count_at i t → 4 * t + j < n → cell cs t j ≡ c t j

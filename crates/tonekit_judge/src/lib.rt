@@ -1,18 +1,20 @@
-// `judge` of the Rust: a shape against the looked-up components of every tone, and the record of what
-// is found.
+// `judge` of the Rust: a shape against the looked-up components of every tone.
 #![tactic(auto)]
 
-ghost use Rattle.std.specs.Prelude.{◌≡◌, IfSome, ◌*◌, ◌≤◌, ◌<◌, length};
+ghost use Rattle.std.specs.Prelude.{◌≡◌, IfSome, ◌*◌, ◌≤◌, ◌<◌, cond, eqb, length};
 ghost use Rattle.std.specs.List.{list_all};
+ghost use Rattle.std.specs.Float.{binary64};
+ghost use Rattle.std.specs.Float.Ieee.{add};
 ghost use Rattle.std.specs.Float.Ieee.Scale.{finite};
-ghost use Rattle.spec_judgement.specs.Judge.{Counted, Placed, Filled, count_in, name_in, entry_at, listing, cell, component_at};
-ghost use Rattle.spec_judgement.specs.Judge.{tone_mixing, loglik_at, logliks, score_of, ranking_of, heard_of};
-ghost use Rattle.spec_judgement.specs.Judge.{part_mixing, target_mixing, llr_of, measured_of, plain_of};
-ghost use Rattle.spec_judgement.specs.Judge.{distance_from, advice_of, part_of, nearest_at, judged_against};
+ghost use Rattle.tonekit_core.specs.declared.Measured.TheVariants.{Full, Partial};
+ghost use Rattle.spec_arithmetic.specs.Log.{ln_of};
+ghost use Rattle.spec_judgement.specs.Asked.{Counted, Placed};
+ghost use Rattle.spec_judgement.specs.Judge.{count_in, name_in, entry_at, listing, component_at};
+ghost use Rattle.spec_judgement.specs.Judge.{tone_mixing, loglik_at, logliks, ranking_of, heard_of};
+ghost use Rattle.spec_judgement.specs.Judge.{part_mixing, target_mixing, llr_of, plain_of};
+ghost use Rattle.spec_judgement.specs.Judge.{distance_from, advice_of, part_of, nearest_at, judged_of};
 ghost use Rattle.spec_judgement.specs.Judge.{usable, not_measured, judgement_of};
-ghost use Rattle.tonekit_judge.specs.Terms.{weighed_term, term_at, mixed_terms};
-
-pub mod record;
+ghost use Rattle.tonekit_judge.specs.Terms.{Filled, cell, weighed_term, term_at, mixed_terms};
 
 use arrayvec::ArrayVec;
 pub use spec_judgement::{
@@ -109,7 +111,7 @@ fn weighed(s: Scoring, product: f32, d2: f64) -> Option<Term>
 
 // The score of a tone in the background.
 fn score_of(entry: &ToneEntry, ll: f32) -> f64
-    ensures { result ≡ score_of entry.now ll }
+    ensures { result ≡ add binary64 (ln_of entry.now.prior) ll }
 {
     tonekit_log::ln(f64::from(entry.prior)) + f64::from(ll)
 }
@@ -161,7 +163,7 @@ fn llr_of(s: Scoring, m: Mixture, background: LogSumExp) -> f32
 
 // How far a usable shape is measured.
 fn measured_of(issues: u16) -> Measured
-    ensures { result ≡ measured_of issues }
+    ensures { result ≡ cond (eqb issues 0) Full Partial }
 {
     if issues == 0 {
         Measured::Full
@@ -341,7 +343,7 @@ fn judged_of(
     issues: u16,
 ) -> ToneJudgement
     requires { Counted inventory.now × Placed (length inventory.now.items) g.now }
-    ensures { result ≡ judged_against x s threshold t (listing inventory.now slots.now) g.now issues }
+    ensures { result ≡ judged_of x s threshold t (listing inventory.now slots.now) (component_at x s inventory.now slots.now) g.now issues }
 {
     let c = Components {
         scoring: s,

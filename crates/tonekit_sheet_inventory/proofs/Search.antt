@@ -6,7 +6,7 @@ use Rattle.spec_arithmetic.specs.Places.{index_of}
 use Rattle.spec_lookup.specs.Source.{accent_in}
 use Rattle.std.specs.Prelude.{Some, None}
 use Rattle.spec_judgement.specs.declared.Tolerance.{Tolerance}
-use Rattle.spec_judgement.specs.Fields.{tolerance_at}
+use Rattle.tonekit_inventory.specs.Fields.{tolerance_at}
 use Rattle.spec_judgement.specs.Gather.{tolerance_of, graded_of}
 use Rattle.tonekit_inventory.proofs.Search.{accent_found, accent_none}
 use Rattle.spec_sheet.specs.FromSheet.{accent_at, source_of_sheet}

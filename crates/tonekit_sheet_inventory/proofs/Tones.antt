@@ -4,7 +4,7 @@ use Rattle.std.proofs.Common.{ℕ, ◌+◌, ◌*◌, ◌<◌, ◌≡◌, sym, ap
 use Rattle.std.proofs.lemmas.List.{length-map}
 use Rattle.tonekit_core.specs.Layout.{sheet_tone_at}
 use Rattle.spec_arithmetic.specs.Fields.{byte_at, f32_at}
-use Rattle.spec_judgement.specs.Fields.{region_at}
+use Rattle.tonekit_inventory.specs.Fields.{region_at}
 use Rattle.spec_judgement.specs.Gather.{region_of, entry_of, no_tone}
 use Rattle.std.proofs.lemmas.List.{get_or-map}
 use Rattle.spec_sheet.specs.FromSheet.{tone_at, source_of_sheet}

@@ -12,12 +12,11 @@ ghost use Rattle.spec_sheet.specs.FromSheet.{bits_at, row_place, final_place, pr
 ghost use Rattle.tonekit_sheet_read.specs.Held.{shown};
 ghost use Rattle.tonekit_sheet_inventory.specs.Look.{source_in, load_source, sheet_in, Placed, ShortList, Looks, name_at};
 
+use spec_judgement::{Listed, Settings, Slot, Slots, Tolerance, ToneEntry};
 use tonekit_bytes::{byte_at, f32_at, u16_at};
 use tonekit_core::{Name, Rejection, layout};
 use tonekit_expect::Context;
 use tonekit_inventory::Held;
-use tonekit_judge::{Listed, Slot, Slots, ToneEntry};
-use tonekit_score::{Settings, Tolerance};
 use tonekit_sheet_read::SheetView;
 
 // A sheet that was read, with its bytes, as what a station holds.

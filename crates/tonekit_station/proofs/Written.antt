@@ -25,7 +25,8 @@ use Rattle.spec_judgement.specs.Record.{judgement_bytes}
 use Rattle.spec_judgement.specs.declared.Settings.{Settings}
 use Rattle.spec_judgement.specs.Target.{targets_of}
 use Rattle.spec_judgement.specs.Gather.{Gathering, gathered}
-use Rattle.spec_judgement.specs.Judgement.{context_of, query_verdict, recorded, unless, judge_gathered, on_query, judgement, on_held, on_pack, judge_outcome}
+use Rattle.spec_judgement.specs.Judgement.{context_of, query_verdict, recorded, unless, judge_gathered, on_query, judgement, on_pack, judge_outcome}
+use Rattle.tonekit_station.specs.Held.{on_held}
 use Rattle.spec_sheet.specs.JudgeSheet.{on_sheet, judge_sheet_outcome}
 
 -- the record of every judgement, of any shape against anything

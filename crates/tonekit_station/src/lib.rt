@@ -1,20 +1,23 @@
 // The calls that a station makes.
 #![tactic(auto)]
 
-ghost use Rattle.std.specs.Prelude.{◌≡◌, ◌≤◌};
+ghost use Rattle.std.specs.Prelude.{◌≡◌, ◌≤◌, not, eqb};
+ghost use Rattle.std.specs.List.{list_all};
 ghost use Rattle.tonekit_core.specs.Calls.{Delivers};
 ghost use Rattle.spec_judgement.specs.Input.{held_of, query_of};
-ghost use Rattle.spec_judgement.specs.Judge.{Counted};
-ghost use Rattle.spec_judgement.specs.Gather.{gathering_of};
-ghost use Rattle.spec_judgement.specs.Judgement.{context_of, all_listed, tones_verdict, query_verdict, judge_gathered, on_held, judge_outcome, station_outcome};
+ghost use Rattle.spec_judgement.specs.Asked.{Counted};
+ghost use Rattle.spec_judgement.specs.Judge.{count_in};
+ghost use Rattle.tonekit_inventory.specs.Gathers.{gathering_of};
+ghost use Rattle.spec_judgement.specs.Judgement.{context_of, tones_verdict, query_verdict, judge_gathered, judge_outcome, station_outcome};
+ghost use Rattle.tonekit_station.specs.Held.{on_held};
 ghost use Rattle.spec_sheet.specs.JudgeSheet.{judge_sheet_outcome, station_sheet_outcome};
 
+use spec_judgement::Tolerance;
 use tonekit_core::{Refusal, Rejection};
 use tonekit_expect::Context;
 use tonekit_inventory::{Gathered, Held, HeldPack};
 use tonekit_judge::{Inventory, Slot, Slots};
 use tonekit_query::Query;
-use tonekit_score::Tolerance;
 use tonekit_sheet_inventory::HeldSheet;
 
 // The context that a query is judged in.
@@ -31,7 +34,7 @@ fn context_of(q: Query) -> Context
 
 // Whether every inventory tone has a component.
 fn all_listed(inventory: &Inventory) -> bool
-    ensures { result ≡ all_listed inventory.now }
+    ensures { result ≡ list_all (λ e. not (eqb (count_in e.listing) 0)) inventory.now.items }
 {
     inventory
         .iter()
@@ -105,7 +108,7 @@ fn judge_gathered(
         &targets,
         issues,
     );
-    let record = tonekit_judge::record::judgement_record(q.tone, g.inventory.len() as u8, j);
+    let record = tonekit_record::judgement_record(q.tone, g.inventory.len() as u8, j);
     tonekit_bytes::write_record(out, &record)
 }
 

@@ -8,7 +8,7 @@ use Rattle.tonekit_report.specs.Report.{Told}
 use Rattle.tonekit_report.proofs.Told.{Fits}
 use Rattle.spec_lookup.specs.Source.{Source}
 use Rattle.tonekit_judge.proofs.Bounds.{judgement_length}
-use Rattle.spec_judgement.specs.Judgement.{on_held}
+use Rattle.tonekit_station.specs.Held.{on_held}
 use Rattle.tonekit_station.proofs.Written.{Records, held_writes}
 
 abbrev Room : List ℕ → Type 0

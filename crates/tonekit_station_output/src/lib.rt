@@ -3,7 +3,8 @@
 
 ghost use Rattle.tonekit_report.specs.Report.{Told};
 ghost use Rattle.spec_judgement.specs.Input.{held_of, query_of};
-ghost use Rattle.spec_judgement.specs.Judgement.{on_held, station_outcome};
+ghost use Rattle.tonekit_station.specs.Held.{on_held};
+ghost use Rattle.spec_judgement.specs.Judgement.{station_outcome};
 ghost use Rattle.spec_sheet.specs.JudgeSheet.{station_sheet_outcome};
 
 use tonekit_core::layout;

@@ -1,10 +1,24 @@
--- A target that is placed leaves all of them placed. Assumes nothing.
-use Rattle.std.proofs.Common.{ℕ, ◌<◌, ◌≡◌, [], ◌∷◌, ◌++◌, length, get_or, length-append, lt-ltb, arith, ⊎_elim, eq-or-lt_of_le}
+-- The turns of `targets_of` by a name, and that a target that is placed leaves all of them placed. Assumes nothing.
+use Rattle.std.specs.Prelude.{Option}
+use Rattle.std.specs.Float.{nan}
+use Rattle.std.proofs.Common.{ℕ, ◌<◌, List, Float, ◌≡◌, [], ◌∷◌, ◌++◌, length, get_or, length-append, lt-ltb, arith, ⊎_elim, eq-or-lt_of_le}
 use Rattle.std.proofs.Math.ListN.{get_or-append}
 use Rattle.std.proofs.Math.Seq.{get_or-append_seam}
-use Rattle.spec_judgement.specs.Judge.{Targets, Placed, no_target}
+use Rattle.tonekit_core.specs.Loop.{Turn}
+use Rattle.spec_judgement.specs.Judge.{Inventory, Targets}
+use Rattle.spec_judgement.specs.Asked.{Placed}
 use Rattle.spec_judgement.specs.declared.Target.{Target}
-use Rattle.spec_judgement.specs.Target.{no_targets, with_target}
+use Rattle.spec_judgement.specs.Target.{target_tone, target_weight, target_of, with_target, aim_at}
+
+abbrev pub aim_turn : Inventory → List ℕ → ℕ → Float → ℕ → Targets → Turn Targets (Option Targets)
+aim_turn i s tone main k g = aim_at g (target_of i (target_tone s tone k) (target_weight s main k))
+
+abbrev pub no_targets : Targets
+no_targets = record { items = [] }
+
+-- what stands past the end of a list of targets
+abbrev no_target : Target
+no_target = record { place = 0; weight = nan }
 
 pub placed_none : (tones : ℕ) → Placed tones no_targets
 placed_none tones = record { few = omega arith; each = λ k h. absurd (omega arith) }

@@ -3,10 +3,10 @@
 #![tactic(auto)]
 
 ghost use Rattle.std.specs.Prelude.{◌≡◌, ◌==◌, IfSome, ◌≤◌, ◌<◌, length};
-ghost use Rattle.spec_judgement.specs.Judge.{Placed};
+ghost use Rattle.spec_judgement.specs.Asked.{Placed};
 ghost use Rattle.spec_judgement.specs.Target.{weight_fine, weights_fine, main_weight, variants_fine, place_of, target_of, targets_of};
 
-use tonekit_judge::{Inventory, Target, Targets};
+pub use spec_judgement::{Inventory, Target, Targets};
 
 // VARIANT_SUM_SLACK of the Rust.
 const VARIANT_SUM_SLACK: f32 = 1e-6;

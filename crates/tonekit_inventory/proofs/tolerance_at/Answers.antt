@@ -1,6 +1,6 @@
 -- `tolerance_at` meets its contract: a field for each call.
 use Rattle.std.proofs.Common.{add-zero}
-use Rattle.spec_judgement.specs.Fields.{tolerance_at}
+use Rattle.tonekit_inventory.specs.Fields.{tolerance_at}
 use Rattle.tonekit_inventory.proofs.tolerance_at.Goals as goal
 
 pub returns : goal.returns

@@ -1,6 +1,7 @@
 -- The slots below the next one have the components that are there.
 use Rattle.std.proofs.Common.{◌≡◌, ◌+◌, ◌*◌, ◌≤◌, length}
-use Rattle.spec_judgement.specs.Judge.{Filled, component_at}
+use Rattle.tonekit_judge.specs.Terms.{Filled}
+use Rattle.spec_judgement.specs.Judge.{component_at}
 use Rattle.tonekit_judge.proofs.fill.Given as goal
 
 abbrev pub invariant-loop-j : goal.invariant-loop-j

@@ -1,6 +1,7 @@
 -- `judged_of` meets its contract, by the ways through its code.
 use Rattle.std.proofs.Common.{refl, sym, ◌∙◌, ◌/◌, ◌<◌, arith, length}
-use Rattle.spec_judgement.specs.Judge.{listing, cell, judged_of, with_best}
+use Rattle.spec_judgement.specs.Judge.{listing, judged_of, with_best}
+use Rattle.tonekit_judge.specs.Terms.{cell}
 use Rattle.tonekit_judge.proofs.Agree.{judged_same}
 use Rattle.tonekit_judge.proofs.Winner.{Among, winner_among}
 use Rattle.tonekit_judge.proofs.judged_of.Goals as goal
@@ -14,7 +15,7 @@ returns-in-Scored c =
     (rw (← c.target_mixing.ensures, ← c.mixture_of-m.ensures, ← c.plain_of-j.ensures, c.in-Scored.is, c.nearest_at.ensures, c.advice_of.ensures, c.deref.ensures.0) refl)
 
 pub returns-in-Nothing : goal.returns-in-Nothing
-unfolding judged_of
+unfolding judged_of with_best
 returns-in-Nothing c =
     judged_same c.args.x c.args.s c.args.threshold c.args.t (listing c.args.inventory.now c.args.slots.now) _ c.args.g.now c.args.issues
     c.requires.0 c.requires.1 c.fill.ensures

@@ -4,7 +4,8 @@ use Rattle.std.specs.Float.Ieee.{neg}
 use Rattle.tonekit_core.specs.Loop.{range, turns}
 use Rattle.spec_arithmetic.specs.Narrow.{narrowed}
 use Rattle.spec_judgement.specs.Score.{zero32, million}
-use Rattle.spec_judgement.specs.Judge.{lowest_turn, not_measured}
+use Rattle.tonekit_judge.proofs.Turns.{lowest_turn}
+use Rattle.spec_judgement.specs.Judge.{not_measured}
 use Rattle.tonekit_judge.proofs.not_measured.Goals as goal
 
 filled : (tones : ℕ) → tones ≤ 8 → range lowest_turn 0 tones (replicate 8 zero32) ≡ replicate tones (narrowed (neg million)) ++ drop tones (replicate 8 zero32)

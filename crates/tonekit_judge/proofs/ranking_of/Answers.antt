@@ -2,7 +2,8 @@
 use Rattle.std.proofs.Common.{rules, refl, ◌<◌, length}
 use Rattle.tonekit_core.proofs.LoopLaws.{again, ended}
 use Rattle.spec_judgement.specs.declared.Lead.{Lead}
-use Rattle.spec_judgement.specs.Judge.{rank_turn, ranking_of, ranked}
+use Rattle.tonekit_judge.proofs.Turns.{rank_turn}
+use Rattle.spec_judgement.specs.Judge.{ranking_of, ranked}
 use Rattle.tonekit_judge.proofs.Cells.{led_keeps}
 use Rattle.tonekit_judge.proofs.ranking_of.Goals as goal
 

@@ -1,7 +1,8 @@
 -- What is left of the loop, from here, gives what the whole gives, and the top is one of the tones.
 use Rattle.std.proofs.Common.{◌≡◌, ◌<◌, IfSome, length}
 use Rattle.tonekit_core.specs.Loop.{range}
-use Rattle.spec_judgement.specs.Judge.{rank_turn, ranking_of}
+use Rattle.tonekit_judge.proofs.Turns.{rank_turn}
+use Rattle.spec_judgement.specs.Judge.{ranking_of}
 use Rattle.tonekit_judge.proofs.ranking_of.Given as goal
 
 abbrev pub invariant-loop-t : goal.invariant-loop-t

@@ -7,7 +7,8 @@ use Rattle.tonekit_query.proofs.Laws.{load_reads, read_holds}
 use Rattle.spec_lookup.specs.Source.{Source}
 use Rattle.spec_lookup.specs.declared.Context.{Context}
 use Rattle.spec_judgement.specs.Gather.{Gathering, gathered}
-use Rattle.spec_judgement.specs.Judgement.{judge_gathered, on_held}
+use Rattle.spec_judgement.specs.Judgement.{judge_gathered}
+use Rattle.tonekit_station.specs.Held.{on_held}
 use Rattle.tonekit_station.proofs.Ways.{query_good, query_bad}
 use Rattle.tonekit_station.proofs.judge_held.Goals as goal
 

@@ -2,7 +2,7 @@
 use Rattle.std.proofs.Common.{◌∙◌, ap, List, ℕ}
 use Rattle.tonekit_core.proofs.Calls.{delivers_same}
 use Rattle.spec_judgement.specs.Input.{query_of}
-use Rattle.spec_judgement.specs.Judgement.{on_held}
+use Rattle.tonekit_station.specs.Held.{on_held}
 use Rattle.tonekit_station.proofs.judge_parts.Goals as goal
 
 pub returns : goal.returns

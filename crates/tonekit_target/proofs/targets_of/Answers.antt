@@ -1,8 +1,8 @@
 -- `targets_of` meets its contract: the main tone is the first turn of the search, and a turn of the loop each of the others.
 use Rattle.std.proofs.Common.{rules, refl, add-one, arith, ◌+◌, ◌≤◌, ◌<◌, length}
 use Rattle.tonekit_core.proofs.LoopLaws.{to_again, to_stop, to_ended}
-use Rattle.spec_judgement.specs.Target.{main_weight, no_targets, aim_turn, targets_of}
-use Rattle.tonekit_target.proofs.Places.{placed_none, placed_more, with_pushed}
+use Rattle.spec_judgement.specs.Target.{main_weight, targets_of}
+use Rattle.tonekit_target.proofs.Places.{placed_none, placed_more, with_pushed, no_targets, aim_turn}
 use Rattle.tonekit_target.proofs.targets_of.Goals as goal
 
 pub returns-in_err-target_of : goal.returns-in_err-target_of

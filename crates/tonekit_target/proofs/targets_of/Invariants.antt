@@ -1,8 +1,9 @@
 -- What is left of the loop, from here, gives what the whole gives, and the targets so far are placed.
 use Rattle.std.proofs.Common.{◌≡◌, ◌+◌, ◌≤◌, Some, length}
 use Rattle.tonekit_core.specs.Loop.{range_to}
-use Rattle.spec_judgement.specs.Judge.{Placed}
-use Rattle.spec_judgement.specs.Target.{main_weight, aim_turn, targets_of}
+use Rattle.spec_judgement.specs.Asked.{Placed}
+use Rattle.spec_judgement.specs.Target.{main_weight, targets_of}
+use Rattle.tonekit_target.proofs.Places.{aim_turn}
 use Rattle.tonekit_target.proofs.targets_of.Given as goal
 
 abbrev pub invariant-loop-i : goal.invariant-loop-i

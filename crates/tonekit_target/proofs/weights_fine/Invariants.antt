@@ -1,7 +1,12 @@
-use Rattle.std.proofs.Common.{◌≡◌, ◌≤◌}
+use Rattle.std.proofs.Common.{ℕ, ◌≡◌, ◌≤◌, List, Bool}
+use Rattle.std.specs.Prelude.{◌&&◌}
 use Rattle.tonekit_core.specs.Loop.{range}
-use Rattle.spec_judgement.specs.Target.{weight_turn, weights_fine}
+use Rattle.spec_query.specs.Query.{variant_weight}
+use Rattle.spec_judgement.specs.Target.{weight_fine, weights_fine}
 use Rattle.tonekit_target.proofs.weights_fine.Given as goal
+
+abbrev weight_turn : List ℕ → ℕ → Bool → Bool
+weight_turn s i ok = ok && weight_fine (variant_weight s i)
 
 abbrev pub invariant-loop-i : goal.invariant-loop-i
 invariant-loop-i l =

@@ -1,7 +1,9 @@
 -- What is left of the loop, from here, gives what the whole gives.
 use Rattle.std.proofs.Common.{◌≡◌, length}
 use Rattle.tonekit_core.specs.Loop.{range}
-use Rattle.spec_judgement.specs.Judge.{cell, loglik_turn, logliks}
+use Rattle.tonekit_judge.specs.Terms.{cell}
+use Rattle.tonekit_judge.proofs.Turns.{loglik_turn}
+use Rattle.spec_judgement.specs.Judge.{logliks}
 use Rattle.tonekit_judge.proofs.Components.logliks.Given as goal
 
 abbrev pub invariant-loop-t : goal.invariant-loop-t

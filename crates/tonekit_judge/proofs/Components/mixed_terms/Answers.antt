@@ -3,7 +3,7 @@ use Rattle.std.proofs.Common.{rules, ◌+◌, ◌*◌, Option, refl, sym, ap, �
 use Rattle.tonekit_core.proofs.LoopLaws.{again, ended}
 use Rattle.spec_judgement.specs.Score.{mixed}
 use Rattle.spec_judgement.specs.declared.Term.{Term}
-use Rattle.spec_judgement.specs.Judge.{cell}
+use Rattle.tonekit_judge.specs.Terms.{cell}
 use Rattle.tonekit_judge.specs.Terms.{either_turn, mixed_terms}
 use Rattle.tonekit_judge.proofs.Terms.{mix_in, one_term}
 use Rattle.tonekit_judge.proofs.Components.mixed_terms.Goals as goal

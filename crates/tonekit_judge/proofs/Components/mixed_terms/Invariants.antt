@@ -1,7 +1,7 @@
 -- What is left of the loop, from here, gives what the whole gives.
 use Rattle.std.proofs.Common.{◌≡◌}
 use Rattle.tonekit_core.specs.Loop.{range}
-use Rattle.spec_judgement.specs.Judge.{cell}
+use Rattle.tonekit_judge.specs.Terms.{cell}
 use Rattle.tonekit_judge.specs.Terms.{either_turn, mixed_terms}
 use Rattle.tonekit_judge.proofs.Components.mixed_terms.Given as goal
 

@@ -2,7 +2,8 @@
 use Rattle.std.proofs.Common.{◌≡◌, length}
 use Rattle.tonekit_core.specs.Loop.{range}
 use Rattle.spec_judgement.specs.Score.{no_mixing}
-use Rattle.spec_judgement.specs.Judge.{cell, target_turn}
+use Rattle.tonekit_judge.specs.Terms.{cell}
+use Rattle.tonekit_judge.proofs.Turns.{target_turn}
 use Rattle.tonekit_judge.proofs.Components.target_mixing.Given as goal
 
 abbrev pub invariant-loop-target : goal.invariant-loop-target
