@@ -1,6 +1,6 @@
 -- Worked examples, computed: document 01's bench cases for knots, and lookups in a pack of two accents.
 use Rattle.std.specs.Prelude.{ℕ, ◌≡◌, refl, Bool, true, false, List, [], ◌∷◌, ◌++◌, Some, None, replicate, Float}
-use Rattle.std.specs.Float.{binary32}
+use Rattle.std.specs.Float.{binary32, binary64}
 use Rattle.std.specs.Float.Ieee.{add, sub, mul, div, of_int, of_bits, le, lt}
 use Rattle.tonekit_core.specs.Loop.{turns, range, turns_to, range_to, loop_on, loop_to}
 use Rattle.spec_arithmetic.specs.Whole.{whole_part}
@@ -12,8 +12,8 @@ use Rattle.spec_pack.specs.Pack.{parts_from, Pst, due_after, size_of, holds, zer
 use Rattle.spec_lookup.specs.declared.Context.{Context}
 use Rattle.spec_lookup.specs.declared.Listing.{Listing}
 use Rattle.spec_arithmetic.specs.Position.{position}
-use Rattle.spec_lookup.specs.Knots.{segment, fraction, on_line, point_at, first_points, expanded, knots_at}
-use Rattle.spec_lookup.specs.Lookup.{meets, matches, specificity, better_of, best_rule, climb_turn, find_rule, rule_listing, look_up, tone_knots_at, component_of, knots_of}
+use Rattle.spec_lookup.specs.Knots.{segment, fraction, on_line, point_at, first_points, expanded, knots_at, point_most, point_least}
+use Rattle.spec_lookup.specs.Lookup.{meets, matches, specificity, better_of, best_rule, climb_turn, find_rule, rule_listing, listed, look_up, tone_knots_at, component_of, knots_of}
 use Rattle.spec_lookup.specs.Source.{settings_at, tone_at, accent_at}
 
 abbrev pub two : Float
@@ -27,6 +27,16 @@ one_knot = refl
 pub two_knots : expanded (two ∷ two ∷ []) ≡ replicate 10 two
 unfolding first_points point_at on_line fraction segment position add sub mul div of_int of_bits whole_part narrowed
 two_knots = refl
+
+-- halfway from a third to 1: the knots' difference is an f32, without which the point would be 0x3F2AAAAB
+pub difference : on_line (of_bits binary32 0x3eaa_aaab) (of_bits binary32 0x3f80_0000) (of_bits binary64 0x3fe0_0000_0000_0000) ≡ of_bits binary32 0x3f2a_aaaa
+unfolding on_line add sub mul of_bits narrowed
+difference = refl
+
+-- knots of size 100 are points within the bounds
+bounds : (le (of_bits binary32 0x42c8_0000) point_most ≡ true) × (le point_least (of_bits binary32 0xc2c8_0000) ≡ true)
+unfolding le of_bits
+bounds = (refl, refl)
 
 -- ---- a pack: tone 1 with a citation, tone 2 for contexts only. Accent 5 has a rule for tone 1 at the end of a phrase, and one for tone 2
 -- after tone 1. Accent 3, its child, has two rules for tone 1, equally specific
@@ -80,6 +90,11 @@ cited : look_up pack read (context 5 1 0 false) ≡ Some (record { name = record
 unfolding context look_up find_rule climb_turn best_rule better_of matches meets specificity index_of range_to turns_to loop_to loop_on range turns parts_from
 cited = refl
 
+-- "A citation has form 1, the graded accent as owner, label 0", where no rule of the chain was found
+graded : listed pack read (context 3 1 0 false) 9 None ≡ Some (record { name = record { owner = 3; form = 1; label = 0 }; at = 9; count = 1 })
+unfolding context
+graded = refl
+
 -- tone 2 after tone 1: the parent's rule, under the parent. Else nothing, as tone 2 has no citation
 inherited : look_up pack read (context 3 2 1 false) ≡ Some (record { name = record { owner = 5; form = 2; label = 6 }; at = 200; count = 1 })
 unfolding context look_up find_rule climb_turn best_rule better_of matches meets specificity index_of range_to turns_to loop_to loop_on range turns parts_from
@@ -130,7 +145,7 @@ fields4 : (rule_listing record4 5 0 ≡ record { name = record { owner = 5; form
 unfolding context matches meets parts_from
 fields4 = (refl, refl)
 
--- the second of two parts
+-- the second of two parts, of which the first weighs 0
 abbrev record5 : List ℕ
 record5 =
     5 ∷ 1 ∷ 2 ∷ 3 ∷ 4 ∷ 5 ∷ 6 ∷ 7 ∷ 8 ∷ 9 ∷ 10 ∷ 11 ∷ 12 ∷ 13 ∷ 14 ∷ 15 ∷ 16 ∷ 17 ∷ 18 ∷ 19 ∷ 20 ∷ 21 ∷ 22 ∷ 23 ∷ 24 ∷ 25 ∷ 26 ∷ 27 ∷
@@ -140,6 +155,7 @@ abbrev parts : Listing
 parts = record { name = record { owner = 1; form = 3; label = 2 }; at = 0; count = 2 }
 
 fields5 : ((component_of (replicate 46 0 ++ record5) parts 1).weight ≡ f32 0x0403_0201)
+    × ((component_of (replicate 46 0 ++ record5) parts 1).part ≡ 1)
     × (knots_of (replicate 46 0 ++ record5) parts 1 ≡ f32 0x0908_0706 ∷ f32 0x0d0c_0b0a ∷ f32 0x1110_0f0e ∷ f32 0x1514_1312 ∷ f32 0x1918_1716 ∷ [])
 unfolding component_of knots_at
-fields5 = (refl, refl)
+fields5 = (refl, refl, refl)

@@ -5,7 +5,7 @@ use Rattle.tonekit_core.specs.Loop.{range, turns, loop_to, loop_on}
 use Rattle.tonekit_core.specs.declared.Refusal.TheVariants.{Misplaced, CutShort, Overrun, Crowded, OffScale, Doubled, Loose}
 use Rattle.spec_pack.specs.Ranges.{above_zero, a_share, knot_fine, weight_fine, slot_fine, knots_fine, region_fine, tolerances_fine}
 use Rattle.spec_arithmetic.specs.Files.{Out, loaded, refused}
-use Rattle.spec_pack.specs.Pack.{Pst, due_after, size_of, holds, zero_or_held, settings_verdict, tone_verdict, accent_verdict, rule_verdict, part_verdict, body_verdict, record_verdict, added, read_pack, load_pack}
+use Rattle.spec_pack.specs.Pack.{Pst, due_after, size_of, holds, zero_or_held, settings_verdict, tone_verdict, accent_verdict, rule_verdict, part_verdict, body_verdict, record_verdict, added, read_pack, load_pack, check_pack}
 
 abbrev one : List ℕ
 one = 0 ∷ 0 ∷ 128 ∷ 63 ∷ []
@@ -323,3 +323,37 @@ form_one = refl
 form_four : read (begun ++ rule 4) ≡ refused OffScale 84
 unfolding read
 form_four = refl
+
+-- "A parent stands earlier in the file": one that stands later
+later_parent : read (settings ++ (tone 1 1 ++ (accent 1 2 ++ accent 2 0))) ≡ refused Loose 65
+unfolding read
+later_parent = refl
+
+-- "Knots number 1 to 10": a part of none
+no_knots : read (begun ++ (rule 3 ++ (5 ∷ (one ++ replicate 41 0)))) ≡ refused OffScale 91
+unfolding read
+no_knots = refl
+
+-- a rule's tone, and its prev, that are not there
+loose_tone : read (begun ++ (4 ∷ 0 ∷ 0 ∷ 9 ∷ 1 ∷ 0 ∷ 3 ∷ [])) ≡ refused Loose 84
+unfolding read
+loose_tone = refl
+
+loose_prev : read (begun ++ (4 ∷ 0 ∷ 0 ∷ 1 ∷ 9 ∷ 0 ∷ 3 ∷ [])) ≡ refused Loose 84
+unfolding read
+loose_prev = refl
+
+-- a record that lacks its last byte
+last_byte : read_pack (1 ∷ (one ++ (0 ∷ 0 ∷ 128 ∷ []))) ≡ refused CutShort 0
+unfolding read
+last_byte = refl
+
+-- "in each 1, 2, 4": a 65th rule that the input cuts
+cut_first : record_verdict (4 ∷ []) 0 (after 64 64) ≡ Err CutShort
+unfolding record_verdict due_after size_of
+cut_first = refl
+
+-- a check says of a pack what loading it says
+checked : (check_pack pack ≡ Ok tt) × (check_pack (pack ++ (0 ∷ [])) ≡ Err (record { why = Overrun; place = 85 }))
+unfolding read check_pack
+checked = (refl, refl)

@@ -1,3 +1,4 @@
 pub mod Ranges
 pub mod Pack
 pub mod Bench
+pub mod KindsBench
