@@ -3,10 +3,12 @@ use Rattle.std.specs.Prelude.{ℕ, ◌≡◌, refl, List, [], ◌∷◌, ◌++�
 use Rattle.std.specs.Float.Ieee.{lt, le, of_bits}
 use Rattle.tonekit_core.specs.Loop.{range, turns, range_to, turns_to, loop_to, loop_on}
 use Rattle.tonekit_core.specs.declared.Refusal.TheVariants.{Misplaced, Overrun, Crowded, OffScale, Doubled, Loose, Unordered}
+use Rattle.tonekit_core.specs.Calls as calls
 use Rattle.spec_pack.specs.Ranges.{above_zero, a_share, weight_fine, region_fine, tolerances_fine}
 use Rattle.spec_pack.specs.Pack.{holds, zero_or_held, settings_verdict}
 use Rattle.spec_arithmetic.specs.Files.{Out, loaded, refused}
 use Rattle.spec_sheet.specs.Reader.{Sst, complete, due_next, size_of, tone_verdict, accent_verdict, row_verdict, list_verdict, point_fine, points_fine, component_verdict, body_verdict, record_verdict, added, loose_row, accent_down, row_due, row_names, row_wrong, named, same_lists, repeated, list_wrong, finished, read_sheet, load_sheet}
+use Rattle.spec_sheet.specs.JudgeSheet.{judge_sheet_outcome, station_sheet_outcome}
 
 -- what an input is, as a single sheet; opened, it computes
 unfoldable read : List ℕ → Out Sst
@@ -254,6 +256,19 @@ component_over : read (rows 1 1 1 1 ++ (list 1 1 1 0 ++ component one)) ≡ refu
 unfolding read
 component_over = refl
 
+-- a component before the first record, a tone behind an accent, and an end behind the head of a list
+component_first : read (component one) ≡ refused Misplaced 0
+unfolding read
+component_first = refl
+
+tone_late : read (front ++ tone 2) ≡ refused Misplaced 42
+unfolding read
+tone_late = refl
+
+no_component : read (rows 1 1 1 1 ++ (head 1 1 1 0 1 ++ (23 ∷ []))) ≡ refused Misplaced 61
+unfolding read
+no_component = refl
+
 -- "count before form": form 9 with 2 components, with 1; no component; a label in form 1; a weight of 0 in form 2
 form_crowded : read (rows 1 1 1 1 ++ head 1 1 9 0 2) ≡ refused Crowded 54
 unfolding read
@@ -283,3 +298,9 @@ owner_loose = refl
 accent_loose : read (front ++ row 2 1 0 0 0) ≡ refused Loose 42
 unfolding read
 accent_loose = refl
+
+-- ---- the call `judge_sheet` and the program `station_sheet`, which takes the sheet's length first: the refusal and place of the sheet, whatever the query
+place_told : (judge_sheet_outcome (settings ++ tone 0) [] ≡ calls.refused OffScale 9)
+    × (station_sheet_outcome (24 ∷ 0 ∷ (settings ++ tone 0)) ≡ calls.refused OffScale 9)
+unfolding judge_sheet_outcome load_sheet read_sheet record_verdict complete due_next size_of body_verdict settings_verdict tone_verdict holds added above_zero a_share region_fine loop_to loop_on range_to turns_to lt le of_bits
+place_told = (refl, refl)

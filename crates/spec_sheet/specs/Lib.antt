@@ -8,3 +8,4 @@ pub mod Outcome
 pub mod JudgeSheet
 pub mod Bench
 pub mod Written
+pub mod OutcomeBench

@@ -10,9 +10,9 @@ use Rattle.spec_sheet.specs.Agree.{Held}
 use Rattle.spec_sheet.specs.Number.{same_numbers, same_carried, same, seen_in, place_in, noted, number_in}
 use Rattle.spec_sheet.specs.Pieces.{pieces, gather}
 use Rattle.spec_sheet.specs.Sheet.{asc_from, ascending, row_context, view_of, lists_of, bits_bytes, components_bytes, bytes_with, bytes_of, sheet}
-use Rattle.spec_sheet.specs.Sheet.{settings_bytes, tone_bytes, accent_bytes, row_bytes, head_bytes, component_bytes}
+use Rattle.spec_sheet.specs.Sheet.{settings_bytes, tone_bytes, accent_bytes, row_bytes, head_bytes, component_bytes, list_bytes}
 use Rattle.spec_sheet.specs.Reader.{Sst, row_due, row_names, list_size}
-use Rattle.spec_sheet.specs.FromSheet.{tone_at, accent_at, bits_at, carried_at, carried_from, look_sheet}
+use Rattle.spec_sheet.specs.FromSheet.{tone_at, accent_at, bits_at, carried_at, carried_from, list_numbered, look_sheet, source_of_sheet}
 
 -- a component of this owner, label, weight and first point
 abbrev curve : ℕ → ℕ → ℕ → ℕ → Carried
@@ -41,6 +41,11 @@ weight_sign = refl
 point_sign : same (lone 3 7 0 0) (lone 3 7 0 0x8000_0000) ≡ false
 unfolding same same_carried same_numbers
 point_sign = refl
+
+-- and so does the second of two components
+another_second : same (curve 3 7 0 0 ∷ lone 3 7 0 0) (curve 3 7 0 0 ∷ lone 3 7 0 1) ≡ false
+unfolding same same_carried same_numbers
+another_second = refl
 
 -- a source of one tone and of accents 5 and 3, in this order. With nothing before it, not at the end of a phrase, the tone takes the list of label 7; else
 -- that of label 8
@@ -223,3 +228,45 @@ fields22 : (carried_at list21 0 1 ≡ carried22)
     × (component_bytes carried22 ≡ record22)
 unfolding carried_at bits_at bits_bytes
 fields22 = (refl, refl, refl, refl)
+
+-- ---- lists of one component and of two, written one behind the other and read by number
+abbrev mixed : ℕ → ℕ → Carried
+mixed part point = record { owner = 3; form = 3; label = 7; part = part; weight = 0; points = point ∷ replicate 9 0 }
+
+abbrev single : List Carried
+single = lone 3 7 0 1
+
+abbrev double : List Carried
+double = mixed 0 2 ∷ mixed 1 3 ∷ []
+
+abbrev component22 : ℕ → List ℕ
+component22 point = (22 ∷ replicate 4 0) ++ ((point ∷ []) ++ replicate 39 0)
+
+abbrev listed : List ℕ
+listed = (21 ∷ 1 ∷ 3 ∷ 2 ∷ 7 ∷ 0 ∷ 1 ∷ component22 1) ++ ((21 ∷ 2 ∷ 3 ∷ 3 ∷ 7 ∷ 0 ∷ 2 ∷ component22 2) ++ component22 3)
+
+both_written : list_bytes 1 single ++ list_bytes 2 double ≡ listed
+unfolding components_bytes bits_bytes
+both_written = refl
+
+abbrev read21 : Sst
+read21 = record { last = 22; tones = []; accents = []; rows = 0; lists = 0 ∷ 52 ∷ []; due = 0; total = 3 }
+
+both_read : (list_numbered listed read21 0 ≡ none)
+    × (list_numbered listed read21 1 ≡ some single)
+    × (list_numbered listed read21 2 ≡ some double)
+unfolding carried_from carried_at bits_at
+both_read = (refl, refl, refl)
+
+-- ---- what a sheet of two tones and an accent holds
+abbrev sheet19 : List ℕ
+sheet19 = record17 ++ (record18 ++ ((18 ∷ 2 ∷ replicate 13 0) ++ record19))
+
+abbrev read19 : Sst
+read19 = record { last = 19; tones = 9 ∷ 24 ∷ []; accents = 39 ∷ []; rows = 0; lists = []; due = 0; total = 0 }
+
+held19 : ((source_of_sheet sheet19 read19).settings ≡ settings17)
+    × ((source_of_sheet sheet19 read19).tones ≡ tone18 ∷ toned 2 ∷ [])
+    × ((source_of_sheet sheet19 read19).accents ≡ accent19 ∷ [])
+unfolding source_of_sheet
+held19 = (refl, refl, refl)

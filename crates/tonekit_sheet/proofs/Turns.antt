@@ -1,5 +1,5 @@
 -- The reader of sheets: its records have bytes and are whole, so that the limit of turns never ends the reading; and what a sheet's end shows. Assumes nothing.
-use Rattle.std.proofs.Common.{ℕ, ◌≤◌, ◌<◌, ◌≡◌, refl, List, length}
+use Rattle.std.proofs.Common.{ℕ, ◌≤◌, ◌<◌, ◌≡◌, refl, ap, List, length}
 use Rattle.std.specs.Prelude.{Option, Some, None}
 use Rattle.tonekit_core.specs.declared.Refusal.{Refusal}
 use Rattle.tonekit_core.specs.declared.Refusal.TheVariants.{Loose, Unordered}
@@ -33,6 +33,18 @@ passes r None out st e h = (refl, h)
 or_nothing : (a b : Option ℕ) → or_else a b ≡ None → (a ≡ None) × (b ≡ None)
 or_nothing (Some o) b h = absurd cc
 or_nothing None b h = (refl, h)
+
+-- what is out of order, judged one after the other, is the first of what is found
+in_turn : (a b c : Option ℕ) (out : Out Sst) → refused_at Unordered (or_else a (or_else b c)) out ≡ refused_at Unordered a (refused_at Unordered b (refused_at Unordered c out))
+in_turn (Some o) b c out = refl
+in_turn None (Some o) c out = refl
+in_turn None None c out = refl
+
+pub finished_in_turn : (s : List ℕ) (st : Sst) (e : ℕ)
+    → finished s st e
+    ≡ refused_at Loose (loose_row s st) (refused_at Unordered (accent_down s st) (refused_at Unordered (row_wrong s st) (refused_at Unordered (list_wrong s st) (loaded st e))))
+unfolding finished
+finished_in_turn s st e = ap (refused_at Loose (loose_row s st)) (in_turn (accent_down s st) (row_wrong s st) (list_wrong s st) (loaded st e))
 
 pub finished_is : (s : List ℕ) (st : Sst) (e : ℕ) (fin : Sst) (end : ℕ) → finished s st e ≡ loaded fin end → Finished s st e fin end
 unfolding finished

@@ -1,3 +1,2 @@
 pub mod Pieces
 pub mod Drafts
-pub mod Bench
