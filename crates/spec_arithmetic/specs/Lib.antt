@@ -11,6 +11,7 @@ pub mod Position
 pub mod Log
 pub mod Exp
 pub mod Root
+pub mod FilesBench
 pub mod Cases
 pub mod LogBench
 pub mod RootBench
