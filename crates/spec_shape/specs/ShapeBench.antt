@@ -53,7 +53,7 @@ hole_filled = refl
 -- a hole of two frames is filled in semitones, before the register 0 to 12 makes Chao values of them: 12, 8, 4, 0; the part begins at frame 1
 drawn_line : drawn (rest ++ (tone ++ (rest ++ (rest ++ low)))) 1 4 (num 0) (fin false 3 (pos 2))
     ≡ num 5 ∷ of_bits binary64 0x400d_5555_5555_5555 ∷ of_bits binary64 0x4002_aaaa_aaaa_aaaa ∷ num 1 ∷ []
-unfolding drawn list_of holes_filled hz_to_st width_of st_to_chao log2_of range frame_at add sub mul div lt of_int of_bits round
+unfolding drawn list_of holes_filled hz_to_st width_of st_to_chao log2_of range frame_at add sub mul div lt of_int of_bits round log_by parts_of centred series log_horner
 drawn_line = refl
 
 smoothed_curve : smoothed (num 1 ∷ num 2 ∷ num 6 ∷ []) ≡ fin false 3 (negsuc 0) ∷ num 3 ∷ fin false 1 (pos 2) ∷ []
