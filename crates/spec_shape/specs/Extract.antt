@@ -5,7 +5,7 @@ use Rattle.std.specs.Float.Ieee.{add, sub, mul, div, of_int, of_bits}
 use Rattle.spec_shape.specs.Range.{range_in}
 use Rattle.tonekit_core.specs.Loop.{range}
 use Rattle.spec_arithmetic.specs.Narrow.{narrowed}
-use Rattle.spec_arithmetic.specs.Position.{whole64}
+use Rattle.spec_arithmetic.specs.Constants.{whole64}
 use Rattle.spec_shape.specs.Turning.{turning_point}
 use Rattle.spec_query.specs.Frames.{frame_at}
 use Rattle.spec_shape.specs.Chao.{zero64, semitones_of, voiced, confidence_of, width_of, st_to_chao}

@@ -5,7 +5,7 @@ use Rattle.std.specs.Float.Ieee.{add, sub, mul, div, lt, of_bits}
 use Rattle.tonekit_core.specs.Loop.{Turn, next, stop, range, range_to}
 use Rattle.spec_arithmetic.specs.Magnitude.{magnitude}
 use Rattle.spec_arithmetic.specs.Magnitude.{total_le}
-use Rattle.spec_arithmetic.specs.Position.{whole64}
+use Rattle.spec_arithmetic.specs.Constants.{whole64}
 use Rattle.spec_shape.specs.Chao.{zero64, one64, voiced}
 use Rattle.spec_shape.specs.declared.Sums.{Sums}
 use Rattle.spec_shape.specs.declared.Moments.{Moments}

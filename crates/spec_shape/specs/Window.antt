@@ -7,7 +7,8 @@ use Rattle.spec_arithmetic.specs.Pick.{lesser, greater}
 use Rattle.spec_arithmetic.specs.Whole.{whole_part, round_up}
 use Rattle.spec_arithmetic.specs.Narrow.{narrowed}
 use Rattle.spec_arithmetic.specs.Bounds.{In}
-use Rattle.spec_arithmetic.specs.Position.{whole64, position}
+use Rattle.spec_arithmetic.specs.Position.{position}
+use Rattle.spec_arithmetic.specs.Constants.{whole64}
 use Rattle.spec_shape.specs.Chao.{zero64, one64, voiced}
 use Rattle.spec_shape.specs.declared.Sweep.{Sweep}
 use Rattle.spec_shape.specs.declared.Span.{Span}

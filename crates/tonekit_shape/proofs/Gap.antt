@@ -4,7 +4,7 @@ use Rattle.std.proofs.lemmas.List.{get_or-take, get_or-append_right, get_or_appe
 use lib.Ieee.{nan}
 use Rattle.std.specs.Float.{binary64}
 use Rattle.std.specs.Float.Ieee.{add, sub, mul, div}
-use Rattle.spec_arithmetic.specs.Position.{whole64}
+use Rattle.spec_arithmetic.specs.Constants.{whole64}
 use Rattle.spec_shape.specs.Extract.{fill_turn}
 
 -- the curve with a gap between prev and j

@@ -12,7 +12,7 @@ use Rattle.tonekit_float.proofs.Whole.{part_le}
 use Rattle.tonekit_float.proofs.Nans.{finite_number}
 use Rattle.tonekit_float.proofs.Picked.{lesser_finite, le_lesser}
 use Rattle.tonekit_core.proofs.LoopLaws.{while_ends}
-use Rattle.spec_arithmetic.specs.Position.{whole64}
+use Rattle.spec_arithmetic.specs.Constants.{whole64}
 use Rattle.spec_shape.specs.Chao.{one64}
 use Rattle.spec_shape.specs.declared.Sweep.{Sweep}
 use Rattle.spec_shape.specs.Window.{span_at, curve_at, moved_to, step_of, unswept, start_of, turn_limit, walk_of, Swept, Frame}

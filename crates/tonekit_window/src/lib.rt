@@ -5,7 +5,8 @@
 
 ghost use Rattle.std.specs.Prelude.{◌≡◌, ◌+◌, ◌-◌, ◌≤◌, ◌<◌, length};
 ghost use Rattle.spec_arithmetic.specs.Whole.{whole_part};
-ghost use Rattle.spec_arithmetic.specs.Position.{whole64, position};
+ghost use Rattle.spec_arithmetic.specs.Position.{position};
+ghost use Rattle.spec_arithmetic.specs.Constants.{whole64};
 ghost use Rattle.spec_shape.specs.Window.{half_width, reach, curve_at, moved_to, step_of, mean_over, contour_at, rounded, voiced_in, weight_at, Frame, Spans, Swept, Framed};
 
 pub use spec_shape::{FrameRange, Span, Sweep};
