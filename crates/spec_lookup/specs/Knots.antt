@@ -7,7 +7,8 @@ use Rattle.spec_arithmetic.specs.Whole.{whole_part}
 use Rattle.spec_arithmetic.specs.Narrow.{narrowed}
 use Rattle.spec_arithmetic.specs.Bounds.{In}
 use Rattle.spec_arithmetic.specs.Fields.{f32_at}
-use Rattle.spec_arithmetic.specs.Position.{whole64, position}
+use Rattle.spec_arithmetic.specs.Position.{position}
+use Rattle.spec_arithmetic.specs.Constants.{whole64}
 
 -- the knot at or before a position, but never the last one
 abbrev pub knot_before : Float → ℕ → ℕ

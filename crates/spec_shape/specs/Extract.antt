@@ -6,6 +6,7 @@ use Rattle.std.specs.Float.Ieee.{add, sub, mul, div, of_int, of_bits}
 use Rattle.tonekit_core.specs.Loop.{range}
 use Rattle.spec_arithmetic.specs.Constants.{zero32, zero64, whole64}
 use Rattle.spec_arithmetic.specs.Narrow.{narrowed}
+use Rattle.spec_arithmetic.specs.Constants.{whole64}
 use Rattle.spec_query.specs.Frames.{frame_at}
 use Rattle.spec_shape.specs.Chao.{semitones_of, voiced, width_of, st_to_chao}
 use Rattle.spec_shape.specs.Fit.{Part, line_slope, quadratic_coefficient}

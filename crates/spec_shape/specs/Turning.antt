@@ -5,6 +5,7 @@ use Rattle.std.specs.Float.Ieee.{neg, sub, mul, div, lt, le, of_bits}
 use Rattle.tonekit_core.specs.Loop.{stop, next, range, range_to}
 use Rattle.spec_arithmetic.specs.Constants.{half, one64, whole64}
 use Rattle.spec_arithmetic.specs.Pick.{lesser, greater}
+use Rattle.spec_arithmetic.specs.Constants.{whole64}
 use Rattle.spec_shape.specs.declared.Extreme.{Extreme}
 use Rattle.spec_shape.specs.declared.Excursion.{Excursion}
 

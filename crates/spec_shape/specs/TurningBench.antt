@@ -4,7 +4,8 @@ use Rattle.std.specs.Float.{binary64}
 use Rattle.std.specs.Float.Ieee.{neg, add, sub, mul, div, lt, le, is_nan, round, of_int, of_bits}
 use Rattle.tonekit_core.specs.Loop.{range, turns, range_to, turns_to}
 use Rattle.spec_arithmetic.specs.Pick.{lesser, greater}
-use Rattle.spec_arithmetic.specs.Position.{whole64, position}
+use Rattle.spec_arithmetic.specs.Position.{position}
+use Rattle.spec_arithmetic.specs.Constants.{whole64}
 use Rattle.spec_shape.specs.Turning.{greatest, first_near, last_near, extremum, stands, chosen, turning_point}
 
 -- point 3 of ten in eight frames: (3 / 9) · 7, which is a unit below 3 · 7 / 9

@@ -9,6 +9,7 @@ use Rattle.spec_arithmetic.specs.Whole.{whole_part, round_up}
 use Rattle.spec_arithmetic.specs.Narrow.{narrowed}
 use Rattle.spec_arithmetic.specs.Position.{position}
 use Rattle.spec_shape.specs.Chao.{voiced}
+use Rattle.spec_arithmetic.specs.Constants.{whole64}
 use Rattle.spec_shape.specs.declared.Sweep.{Sweep}
 use Rattle.spec_shape.specs.declared.Span.{Span}
 use Rattle.spec_shape.specs.declared.FrameRange.{FrameRange}

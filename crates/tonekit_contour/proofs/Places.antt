@@ -8,7 +8,8 @@ use Rattle.tonekit_float.proofs.Order.{le_lt, le_trans_float, between_finite}
 use Rattle.tonekit_float.proofs.Monotone.{zero_f}
 use Rattle.tonekit_float.proofs.Bounds.{in_div}
 use Rattle.tonekit_float.proofs.Exact.{one_f, whole_le, whole_worth, in_part}
-use Rattle.spec_arithmetic.specs.Position.{whole64, position}
+use Rattle.spec_arithmetic.specs.Position.{position}
+use Rattle.spec_arithmetic.specs.Constants.{whole64}
 
 ninth : (k : ℕ) → k ≤ 9 → In zero_f one_f (div binary64 (whole64 k) (of_bits binary64 0x4022_0000_0000_0000))
 unfolding of_int div of_bits

@@ -62,7 +62,7 @@ pub fn settings_verdict(s: &[u8], o: usize) -> Result<(), Refusal>
 
 impl Pack {
     // Before the first record.
-    #[tactic(auto, unfolding(spec_arithmetic::specs::Places::in_order))]
+    #[tactic(auto, unfolding(tonekit_bytes::specs::Places::in_order))]
     pub fn nothing() -> Pack
         ensures read { shown result ≡ start.st }
         ensures tones { result.tones.at ≡ replicate 8 0 }

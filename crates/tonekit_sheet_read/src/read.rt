@@ -29,7 +29,7 @@ fn points_fine(s: &[u8], o: usize) -> bool
 
 impl Sheet {
     // Before the first record.
-    #[tactic(auto, unfolding(spec_arithmetic::specs::Places::in_order, spec_arithmetic::specs::Places::stepped))]
+    #[tactic(auto, unfolding(tonekit_bytes::specs::Places::in_order, tonekit_bytes::specs::Places::stepped))]
     pub fn nothing() -> Sheet
         ensures read { shown result ≡ start.st }
         ensures lists { result.lists.at ≡ replicate 128 0 }
