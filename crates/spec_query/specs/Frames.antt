@@ -1,5 +1,5 @@
 -- A frame as document 01 has it: "Where the voiced flag is 0, hz is ignored"; "frames with non-finite or non-positive hz are unvoiced".
-use Rattle.std.specs.Prelude.{ℕ, ◌+◌, ◌*◌, Bool, true, false, cond, ◌&&◌, List, eqb, pos, Float, Option, Some, None}
+use Rattle.std.specs.Prelude.{ℕ, ◌+◌, ◌*◌, Bool, false, cond, ◌&&◌, List, eqb, pos, Float, Option, Some, None}
 use Rattle.std.specs.Float.{inf, fin}
 use Rattle.std.specs.Float.Ieee.{lt}
 use Rattle.tonekit_core.specs.declared.layout.TheConstants.{FRAME_SIZE, FRAME_VOICED, FRAME_HZ, FRAME_VOICED_P}
@@ -20,7 +20,3 @@ frame_at frames i =
     cond (voiced_at frames (FRAME_SIZE * i))
     (Some (record { hz = f32_at frames (FRAME_SIZE * i + FRAME_HZ); voiced_p = f32_at frames (FRAME_SIZE * i + FRAME_VOICED_P) }))
     None
-
-abbrev pub voiced_of : Option Voiced → Bool
-voiced_of (Some v) = true
-voiced_of None = false

@@ -1,15 +1,16 @@
 -- The shape record, kind 51, written from a query alone.
-use Rattle.std.specs.Prelude.{ℕ, cond, List, [], ◌∷◌, ◌++◌, ltb, Float, Option, Some, None, Result, Ok, Err}
+use Rattle.std.specs.Prelude.{ℕ, cond, List, [], ◌∷◌, ◌++◌, ltb, is_some, unwrap_or, Result, Ok, Err}
 use Rattle.tonekit_core.specs.Calls.{Outcome, refused, written}
 use Rattle.tonekit_core.specs.declared.layout.TheConstants.{SHAPE_KIND}
 use Rattle.tonekit_core.specs.Words.{with_issue}
 use Rattle.tonekit_core.specs.declared.Refusal.TheVariants as refusal
 use Rattle.tonekit_core.specs.declared.MeasureIssue.TheVariants as issue
+use Rattle.spec_arithmetic.specs.Constants.{zero32}
 use Rattle.spec_arithmetic.specs.Fields.{le16, le32, f32_bytes, f32s_bytes}
 use Rattle.spec_query.specs.Query.{load_query, frames_of}
 use Rattle.spec_query.specs.declared.Query.{Query}
 use Rattle.tonekit_core.specs.declared.Rejection.{Rejection}
-use Rattle.spec_shape.specs.Extract.{zero32, extent_of, shape_of}
+use Rattle.spec_shape.specs.Extract.{extent_of, shape_of}
 use Rattle.spec_shape.specs.declared.Extent.{Extent}
 use Rattle.spec_shape.specs.declared.ToneShape.{ToneShape}
 
@@ -21,19 +22,10 @@ united issues n = cond (ltb n 8) (with_issue issues issue.TooShort) issues
 abbrev pub span_bytes : ℕ → ℕ → List ℕ
 span_bytes start end = (SHAPE_KIND ∷ []) ++ (le32 start ++ le32 end)
 
--- the turning point's flag and value: 1 and the place, or 0 and +0
-abbrev pub turns_of : Option Float → ℕ
-turns_of (Some u) = 1
-turns_of None = 0
-
-abbrev pub turning_value : Option Float → Float
-turning_value (Some u) = u
-turning_value None = zero32
-
--- "mean, slope, curvature f32; turning flag u8 and f32"
+-- "mean, slope, curvature f32; turning flag u8 and f32": the flag is 1 and the value the place, or both are 0
 unfoldable pub fit_bytes : ToneShape → List ℕ
 fit_bytes x =
-    f32_bytes x.mean ++ (f32_bytes x.slope ++ (f32_bytes x.curvature ++ ((turns_of x.turning ∷ []) ++ f32_bytes (turning_value x.turning))))
+    f32_bytes x.mean ++ (f32_bytes x.slope ++ (f32_bytes x.curvature ++ ((cond (is_some x.turning) 1 0 ∷ []) ++ f32_bytes (unwrap_or x.turning zero32))))
 
 -- "range, duration_ms, voiced_fraction, f0_confidence f32; issues u16"
 unfoldable pub measure_bytes : ToneShape → ℕ → List ℕ

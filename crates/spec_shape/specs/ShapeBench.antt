@@ -18,8 +18,8 @@ use Rattle.spec_query.specs.Frames.{frame_at}
 use Rattle.spec_query.specs.Query.{variant_fine, variants_fine, record_verdict, frame_verdict, fields_of, read_query, load_query}
 use Rattle.spec_shape.specs.Chao.{hz_to_st, width_of, st_to_chao}
 use Rattle.spec_shape.specs.Fit.{line_slope, point_added, moments_of, normal_equations, first_unknown, lead_of, quadratic_coefficient}
-use Rattle.spec_shape.specs.Window.{half_width, reach, curve_at, step_of, mean_over, rounded}
-use Rattle.spec_shape.specs.Extract.{extent_of, semitones, holes_filled, chao_curve, drawn, mean_with, list_of, smoothed, mean_of, range_of, confidence, shape_of}
+use Rattle.spec_shape.specs.Window.{half_width, reach, curve_at, step_of, mean_over, rounded, frames_at}
+use Rattle.spec_shape.specs.Extract.{extent_of, holes_filled, drawn, mean_with, list_of, smoothed, mean_of, confidence, shape_of}
 use Rattle.spec_arithmetic.specs.Fields.{byte_at, u16_at, u32_at, f32s_bytes}
 use Rattle.tonekit_core.specs.declared.layout.TheConstants.{SHAPE_SIZE, SHAPE_START, SHAPE_END, SHAPE_CONTOUR, SHAPE_WEIGHTS, SHAPE_MEAN, SHAPE_SLOPE, SHAPE_CURVATURE}
 use Rattle.tonekit_core.specs.declared.layout.TheConstants.{SHAPE_TURNS, SHAPE_TURNING, SHAPE_RANGE, SHAPE_DURATION, SHAPE_FRACTION, SHAPE_CONFIDENCE, SHAPE_ISSUES}
@@ -51,9 +51,9 @@ unfolding holes_filled range frame_at add sub mul div of_int of_bits lt
 hole_filled = refl
 
 -- a hole of two frames is filled in semitones, before the register 0 to 12 makes Chao values of them: 12, 8, 4, 0; the part begins at frame 1
-drawn_line : drawn (rest ++ (tone ++ (rest ++ (rest ++ low)))) 1 (num 0) (fin false 3 (pos 2)) (replicate 4 (num 0))
+drawn_line : drawn (rest ++ (tone ++ (rest ++ (rest ++ low)))) 1 4 (num 0) (fin false 3 (pos 2))
     ≡ num 5 ∷ of_bits binary64 0x400d_5555_5555_5555 ∷ of_bits binary64 0x4002_aaaa_aaaa_aaaa ∷ num 1 ∷ []
-unfolding drawn semitones holes_filled chao_curve hz_to_st width_of st_to_chao log2_of range frame_at add sub mul div lt of_int of_bits round
+unfolding drawn list_of holes_filled hz_to_st width_of st_to_chao log2_of range frame_at add sub mul div lt of_int of_bits round
 drawn_line = refl
 
 smoothed_curve : smoothed (num 1 ∷ num 2 ∷ num 6 ∷ []) ≡ fin false 3 (negsuc 0) ∷ num 3 ∷ fin false 1 (pos 2) ∷ []
@@ -66,7 +66,7 @@ unfolding mean_of range add div of_bits
 mean_of_zeros = refl
 
 -- a contour that is all NaN
-range_of_nans : range_of (replicate 10 nan) ≡ inf true
+range_of_nans : range_in binary32 (replicate 10 nan) ≡ inf true
 unfolding range_in range lesser greater sub lt is_nan
 range_of_nans = refl
 
@@ -98,7 +98,7 @@ level : shape_of (tone ++ (tone ++ tone)) (record { count = 3; first = 0; last =
       confidence = num 1;
       frames = 3;
     }
-unfolding shape_of drawn semitones holes_filled chao_curve mean_with list_of mean_of range_in confidence half_width reach curve_at step_of mean_over rounded position whole_part round_up narrowed lesser greater float_with_sign total_le range range_to while hz_to_st width_of st_to_chao log2_of line_slope point_added moments_of normal_equations first_unknown lead_of quadratic_coefficient greatest first_near last_near extremum stands chosen turning_point frame_at add sub mul div lt le eq neg of_int of_bits round is_nan
+unfolding shape_of drawn holes_filled mean_with list_of mean_of range_in confidence half_width reach curve_at step_of mean_over frames_at rounded position whole_part round_up narrowed lesser greater float_with_sign total_le range range_to while hz_to_st width_of st_to_chao log2_of line_slope point_added moments_of normal_equations first_unknown lead_of quadratic_coefficient greatest first_near last_near extremum stands chosen turning_point frame_at add sub mul div lt le eq neg of_int of_bits round is_nan
 level = refl
 
 -- "Fewer than 3 voiced frames: 11", at place 0; no bytes at all: 2 at 0

@@ -2,55 +2,34 @@
 use Rattle.std.specs.Prelude.{ℕ, ◌+◌, ◌-◌, Bool, true, cond, ◌&&◌, List, ltb, length, get_or, Float, Option, Some, None}
 use Rattle.std.specs.Float.{nan, inf, binary64}
 use Rattle.std.specs.Float.Ieee.{neg, sub, mul, div, lt, le, of_bits}
-use Rattle.tonekit_core.specs.Loop.{Turn, next, stop, range, range_to}
+use Rattle.tonekit_core.specs.Loop.{stop, next, range, range_to}
+use Rattle.spec_arithmetic.specs.Constants.{half, one64, whole64}
 use Rattle.spec_arithmetic.specs.Pick.{lesser, greater}
-use Rattle.spec_arithmetic.specs.Position.{whole64}
 use Rattle.spec_shape.specs.declared.Extreme.{Extreme}
 use Rattle.spec_shape.specs.declared.Excursion.{Excursion}
 
--- TURN_MIN_EXCURSION 0.5, TURN_INTERIOR (0.1, 0.9), PLATEAU_EPS 1e-9
-abbrev pub half : Float
-half = of_bits binary64 0x3fe0_0000_0000_0000
-
+-- TURN_MIN_EXCURSION is one half, TURN_INTERIOR (0.1, 0.9), PLATEAU_EPS 1e-9
 abbrev pub tenth : Float
 tenth = of_bits binary64 0x3fb9_9999_9999_999a
 
 abbrev pub nine_tenths : Float
 nine_tenths = of_bits binary64 0x3fec_cccc_cccc_cccd
 
-abbrev pub plateau : Float
-plateau = of_bits binary64 0x3e11_2e0b_e826_d695
-
-abbrev pub one64 : Float
-one64 = of_bits binary64 0x3ff0_0000_0000_0000
-
-abbrev pub minus_one : Float
-minus_one = neg one64
-
 -- the greatest of sign · v, from −infinity, in order
-abbrev pub greater_at : List Float → Float → ℕ → Float → Float
-greater_at l sign j best = greater best (mul binary64 sign (get_or l j nan))
-
 unfoldable pub greatest : List Float → Float → Float
-greatest l sign = range (greater_at l sign) 0 (length l) (inf true)
+greatest l sign = range (λ j best. greater best (mul binary64 sign (get_or l j nan))) 0 (length l) (inf true)
 
 -- close enough to the greatest to be the same plateau
 abbrev pub near : Float → Float → Float → Bool
-near sign best v = le (sub binary64 best plateau) (mul binary64 sign v)
+near sign best v = le (sub binary64 best (of_bits binary64 0x3e11_2e0b_e826_d695)) (mul binary64 sign v)
 
 -- the first frame of the plateau, or 0
-abbrev pub first_turn : List Float → Float → Float → ℕ → ℕ → Turn ℕ ℕ
-first_turn l sign best j u = cond (near sign best (get_or l j nan)) (stop j) (next u)
-
 unfoldable pub first_near : List Float → Float → Float → ℕ
-first_near l sign best = range_to (first_turn l sign best) (λ u. 0) 0 (length l) 0
+first_near l sign best = range_to (λ j (u : ℕ). cond (near sign best (get_or l j nan)) (stop j) (next u)) (λ u. 0) 0 (length l) 0
 
 -- the last one, or d
-abbrev pub last_turn : List Float → Float → Float → ℕ → ℕ → ℕ
-last_turn l sign best j found = cond (near sign best (get_or l j nan)) j found
-
 unfoldable pub last_near : List Float → Float → Float → ℕ → ℕ
-last_near l sign best d = range (last_turn l sign best) 0 (length l) d
+last_near l sign best d = range (λ j found. cond (near sign best (get_or l j nan)) j found) 0 (length l) d
 
 -- `extremum`: maxima with sign 1, minima with sign −1; the centre of the plateau
 unfoldable pub extremum : List Float → Float → Extreme
@@ -73,7 +52,7 @@ chosen low high =
 unfoldable pub turning_point : List Float → Option Float
 turning_point l =
     let last = length l - 1 in
-    let bottom = extremum l minus_one in
+    let bottom = extremum l (neg one64) in
     let top = extremum l one64 in
     cond (ltb (length l) 3) None
     (chosen

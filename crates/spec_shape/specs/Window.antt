@@ -1,24 +1,21 @@
 -- extract.rs, `window_mean` and the windows of a contour: the mean of the piecewise-linear curve over a window that narrows at the ends.
-use Rattle.std.specs.Prelude.{ℕ, ◌+◌, ◌-◌, ◌≤◌, ◌<◌, Bool, false, cond, ◌≡◌, List, leb, min, pos, length, get_or, Float}
-use Rattle.std.specs.Float.{nan, fin, binary64}
+use Rattle.std.specs.Prelude.{ℕ, ◌+◌, ◌-◌, cond, List, leb, min, length, get_or, Float}
+use Rattle.std.specs.Float.{nan, binary64}
 use Rattle.std.specs.Float.Ieee.{add, sub, mul, div, lt, of_bits}
 use Rattle.tonekit_core.specs.Loop.{while, range}
+use Rattle.spec_arithmetic.specs.Constants.{zero64, half, one64, whole64}
 use Rattle.spec_arithmetic.specs.Pick.{lesser, greater}
 use Rattle.spec_arithmetic.specs.Whole.{whole_part, round_up}
 use Rattle.spec_arithmetic.specs.Narrow.{narrowed}
-use Rattle.spec_arithmetic.specs.Bounds.{In}
-use Rattle.spec_arithmetic.specs.Position.{whole64, position}
-use Rattle.spec_shape.specs.Chao.{zero64, one64, voiced}
+use Rattle.spec_arithmetic.specs.Position.{position}
+use Rattle.spec_shape.specs.Chao.{voiced}
 use Rattle.spec_shape.specs.declared.Sweep.{Sweep}
 use Rattle.spec_shape.specs.declared.Span.{Span}
 use Rattle.spec_shape.specs.declared.FrameRange.{FrameRange}
 
--- WINDOW_FRACTION 0.05, MIN_HALF_WINDOW 0.5, EDGE_EPS 1e-9
+-- WINDOW_FRACTION 0.05; MIN_HALF_WINDOW is one half; EDGE_EPS 1e-9
 abbrev pub share : Float
 share = of_bits binary64 0x3fa9_9999_9999_999a
-
-abbrev pub half : Float
-half = of_bits binary64 0x3fe0_0000_0000_0000
 
 abbrev pub edge : Float
 edge = of_bits binary64 0x3e11_2e0b_e826_d695
@@ -32,16 +29,6 @@ reach n k = lesser (lesser (half_width n) (position k (n - 1))) (sub binary64 (w
 
 abbrev pub span_at : ℕ → ℕ → Span
 span_at n k = record { low = sub binary64 (position k (n - 1)) (reach n k); high = add binary64 (position k (n - 1)) (reach n k) }
-
--- from frame 0 to frame 1,023, the last that a part can have
-abbrev pub Frame : Float → Type 0
-Frame x = In (fin false 0 (pos 0)) (fin false 1023 (pos 0)) x
-
--- the window about point k of ten in n frames: it lies within the frames
-pub record Spans (n k : ℕ) (r : Span) : Type 0 where
-  pub is : r ≡ span_at n k
-  pub low_in : In (fin false 0 (pos 0)) (whole64 (n - 1)) r.low
-  pub high_in : In (fin false 0 (pos 0)) (whole64 (n - 1)) r.high
 
 -- the curve at time t: between frame i, the last but one at the most, and the next
 unfoldable pub curve_at : List Float → Float → Float
@@ -63,23 +50,11 @@ moved_to s t1 v1 =
 unfoldable pub step_of : List Float → Float → Sweep → Sweep
 step_of l b s = let t1 = lesser s.next b in moved_to s t1 (curve_at l t1)
 
-abbrev pub unswept : Float → Sweep → Bool
-unswept b s = lt s.t0 b
-
-abbrev pub start_of : List Float → Float → Sweep
-start_of l a = record { t0 = a; v0 = curve_at l a; next = add binary64 (whole64 (whole_part a)) one64; area = zero64 }
-
 -- `while t0 < b`, with at most 1,100 turns; a theorem says that its own test ends it
-abbrev pub turn_limit : ℕ
-turn_limit = 1100
-
 abbrev pub walk_of : List Float → Float → Float → Sweep
-walk_of l a b = while (unswept b) (step_of l b) turn_limit (start_of l a)
-
--- what the walk leaves where its own test has ended it
-pub record Swept (l : List Float) (a b : Float) (s : Sweep) : Type 0 where
-  pub is : s ≡ walk_of l a b
-  pub ended : unswept b s ≡ false
+walk_of l a b =
+    while (λ s. lt s.t0 b) (step_of l b) 1100
+    (record { t0 = a; v0 = curve_at l a; next = add binary64 (whole64 (whole_part a)) one64; area = zero64 })
 
 -- `window_mean`: the curve's value where the window is a point
 unfoldable pub mean_over : List Float → Span → Float
@@ -96,37 +71,18 @@ unfoldable pub rounded : Float → ℕ
 rounded x = let w = whole_part x in cond (lt (sub binary64 x (whole64 w)) half) w (w + 1)
 
 -- the frames inside a window, from the first to the last; where there is none, the nearest
-abbrev pub nearest : ℕ → ℕ → ℕ
-nearest n k = min (rounded (position k (n - 1))) (n - 1)
-
-abbrev pub low_frame : ℕ → ℕ → ℕ
-low_frame n k = round_up (sub binary64 (span_at n k).low edge)
-
-abbrev pub high_frame : ℕ → ℕ → ℕ
-high_frame n k = min (whole_part (add binary64 (span_at n k).high edge)) (n - 1)
-
-abbrev pub from_frame : ℕ → ℕ → ℕ
-from_frame n k = cond (leb (low_frame n k) (high_frame n k)) (low_frame n k) (nearest n k)
-
-abbrev pub to_frame : ℕ → ℕ → ℕ
-to_frame n k = cond (leb (low_frame n k) (high_frame n k)) (high_frame n k) (nearest n k)
-
-abbrev pub frames_at : ℕ → ℕ → FrameRange
-frames_at n k = record { from = from_frame n k; to = to_frame n k }
-
--- they are frames of the part, at least one
-pub record Framed (n k : ℕ) (r : FrameRange) : Type 0 where
-  pub is : r ≡ frames_at n k
-  pub some : r.from ≤ r.to
-  pub inside : r.to < n
+unfoldable pub frames_at : ℕ → ℕ → FrameRange
+frames_at n k =
+    let low = round_up (sub binary64 (span_at n k).low edge) in
+    let high = min (whole_part (add binary64 (span_at n k).high edge)) (n - 1) in
+    let nearest = min (rounded (position k (n - 1))) (n - 1) in
+    cond (leb low high) (record { from = low; to = high }) (record { from = nearest; to = nearest })
 
 -- voiced weight k: the share of those frames that are truly voiced
-abbrev pub count_turn : List ℕ → ℕ → ℕ → ℕ → ℕ
-count_turn frames first j c = cond (voiced frames (first + j)) (c + 1) c
-
-abbrev pub voiced_in : List ℕ → ℕ → ℕ → ℕ → ℕ
-voiced_in frames first lo hi = range (count_turn frames first) lo (hi + 1) 0
+abbrev pub voiced_in : List ℕ → ℕ → FrameRange → ℕ
+voiced_in frames first r = range (λ j c. cond (voiced frames (first + j)) (c + 1) c) r.from (r.to + 1) 0
 
 abbrev pub weight_at : List ℕ → ℕ → ℕ → ℕ → Float
 weight_at frames first n k =
-    narrowed (div binary64 (whole64 (voiced_in frames first (from_frame n k) (to_frame n k))) (whole64 (to_frame n k - from_frame n k + 1)))
+    let r = frames_at n k in
+    narrowed (div binary64 (whole64 (voiced_in frames first r)) (whole64 (r.to - r.from + 1)))

@@ -25,12 +25,12 @@ span_end = refl
 
 -- 7 · 3 / 9 is 2.33, so the window from 1.83 to 2.83 holds frame 2
 frames_8 : frames_at 8 3 ≡ record { from = 2; to = 2 }
-unfolding position reach half_width rounded whole_part round_up lesser greater add sub mul div of_int of_bits lt is_nan
+unfolding frames_at position reach half_width rounded whole_part round_up lesser greater add sub mul div of_int of_bits lt is_nan
 frames_8 = refl
 
 -- point 3 of 100 frames is frame 33, and its window from 28 to 38 holds both ends
 frames_100 : frames_at 100 3 ≡ record { from = 28; to = 38 }
-unfolding position reach half_width rounded whole_part round_up lesser greater add sub mul div of_int of_bits lt is_nan
+unfolding frames_at position reach half_width rounded whole_part round_up lesser greater add sub mul div of_int of_bits lt is_nan
 frames_100 = refl
 
 -- `round`: a half goes up

@@ -1,1 +1,3 @@
+mod Literals
 mod Pairs
+mod Turns

@@ -26,7 +26,7 @@ pub struct Part<'f, 'c> {
 }
 
 // Semitones re 55 Hz.
-#[tactic(auto, unfolding(spec_shape::specs::Chao::hz_to_st))]
+#[tactic(auto, using(crate::proofs::Literals::twelve_is, crate::proofs::Literals::ref_hz_is), unfolding(spec_shape::specs::Chao::hz_to_st))]
 pub fn hz_to_st(hz: f64) -> f64
     ensures { result ≡ hz_to_st hz }
 {
@@ -34,7 +34,7 @@ pub fn hz_to_st(hz: f64) -> f64
 }
 
 // The register's width, or 4 where that is not a finite number above 0.
-#[tactic(auto, unfolding(spec_shape::specs::Chao::width_of))]
+#[tactic(auto, using(crate::proofs::Literals::four_is), unfolding(spec_shape::specs::Chao::width_of))]
 pub fn width_of(floor: f32, ceil: f32) -> f64
     ensures { result ≡ width_of floor ceil }
 {
@@ -47,7 +47,7 @@ pub fn width_of(floor: f32, ceil: f32) -> f64
 }
 
 // The Chao value of a semitone value in the register, unclamped.
-#[tactic(auto, unfolding(spec_shape::specs::Chao::st_to_chao))]
+#[tactic(auto, using(crate::proofs::Literals::four_is), unfolding(spec_shape::specs::Chao::st_to_chao))]
 pub fn st_to_chao(floor: f64, width: f64, st: f64) -> f64
     ensures { result ≡ st_to_chao floor width st }
 {
@@ -101,14 +101,17 @@ impl Frames<'_> {
 }
 
 impl Part<'_, '_> {
-    ghost use Rattle.spec_shape.specs.Fit.{Walks, voiced_sum, fraction, point_sums, product_sums, line_slope, moments_of, quadratic_coefficient};
-    ghost use Rattle.tonekit_fit.specs.Lent.{part_of};
+    ghost use Rattle.spec_shape.specs.Fit.{voiced_sum, line_slope, moments_of, quadratic_coefficient};
+    ghost use Rattle.std.specs.Float.{binary64};
+    ghost use Rattle.std.specs.Float.Ieee.{div};
+    ghost use Rattle.spec_arithmetic.specs.Constants.{whole64};
+    ghost use Rattle.tonekit_fit.specs.Lent.{lent_part, Walks, point_sums, product_sums};
 
     // What a step makes of the voiced frames, one after the other. It is given what the earlier
     // frames gave, the frame's index in the part, and its Chao value.
     fn over_voiced<S, F: Fn(S, usize, f64) -> S>(self, start: S, step: F) -> S
         requires { F.IsAlwaysCallable step }
-        ensures { Walks (F.post step) (part_of self.entry) start result }
+        ensures { Walks (F.post step) (lent_part self.entry) start result }
     {
         let mut state = start;
         for (j, y) in self.chao.iter().enumerate() {
@@ -121,7 +124,7 @@ impl Part<'_, '_> {
 
     // The sums of the voiced frames' times and of their Chao values.
     fn sum_points(self) -> Sums
-        ensures { result ≡ point_sums (part_of self.entry) }
+        ensures { result ≡ point_sums (lent_part self.entry) }
     {
         self.over_voiced(
             Sums { x: 0.0, y: 0.0 },
@@ -135,7 +138,7 @@ impl Part<'_, '_> {
     // The sums of the squares of the times, and of their products with the Chao values, each from
     // its mean.
     fn sum_products(self, mx: f64, my: f64) -> Sums
-        ensures { result ≡ product_sums (part_of self.entry) mx my }
+        ensures { result ≡ product_sums (lent_part self.entry) mx my }
     {
         self.over_voiced(Sums { x: 0.0, y: 0.0 }, |s, j, y| {
             let d = seconds(j) - mx;
@@ -150,7 +153,7 @@ impl Part<'_, '_> {
     // are `count`; 0 where the times do not vary.
     #[tactic(auto, unfolding(spec_shape::specs::Fit::line_slope))]
     pub fn line_slope(self, count: usize) -> f64
-        ensures { result ≡ line_slope (part_of self.entry) count }
+        ensures { result ≡ line_slope (lent_part self.entry) count }
     {
         let n = tonekit_float::f64_of(count);
         let sums = self.sum_points();
@@ -160,14 +163,14 @@ impl Part<'_, '_> {
 
     // The sum of the voiced frames' fractions of the part; last is one less than its frames.
     fn sum_fractions(self, last: f64) -> f64
-        ensures { result ≡ voiced_sum (part_of self.entry) (fraction last) }
+        ensures { result ≡ voiced_sum (lent_part self.entry) (λ j y. div binary64 (whole64 j) last) }
     {
         self.over_voiced(0.0, |t, j, _| t + tonekit_float::f64_of(j) / last)
     }
 
     // The sums of powers over the voiced frames, each fraction of the part from the mean.
     fn moments(self, last: f64, mx: f64) -> Moments
-        ensures { result ≡ moments_of (part_of self.entry) last mx }
+        ensures { result ≡ moments_of (lent_part self.entry) last mx }
     {
         let none = Moments {
             s: [0.0; 5],
@@ -181,10 +184,9 @@ impl Part<'_, '_> {
     // The leading coefficient of the least-squares quadratic of Chao values against the fraction of
     // the part, over the voiced frames, of which there are `count`; 0 where they determine no
     // parabola.
-    #[tactic(auto, unfolding(spec_shape::specs::Fit::quadratic_coefficient))]
     pub fn quadratic_coefficient(self, count: usize) -> f64
         requires { 1 ≤ length self.chao.now }
-        ensures { result ≡ quadratic_coefficient (part_of self.entry) count }
+        ensures { result ≡ quadratic_coefficient (lent_part self.entry) count }
     {
         let last = tonekit_float::f64_of(self.chao.len() - 1);
         let mx = self.sum_fractions(last) / tonekit_float::f64_of(count);

@@ -5,16 +5,17 @@ use Rattle.tonekit_core.specs.declared.Refusal.TheVariants.{Overrun}
 use Rattle.spec_arithmetic.specs.Fields.{byte_at, u32_at, f32_at}
 use Rattle.tonekit_bytes.proofs.Fields.{byte_past}
 use Rattle.spec_query.specs.declared.Query.{Query}
-use Rattle.std.specs.Prelude.{Ok, Err, Some, None}
+use Rattle.spec_query.specs.declared.Voiced.{Voiced}
+use Rattle.std.specs.Prelude.{is_some, Ok, Err, Some, None}
 use Rattle.spec_query.specs.Query.{end_of, read_query, load_query}
-use Rattle.spec_query.specs.Frames.{frame_at, voiced_at, voiced_of}
+use Rattle.spec_query.specs.Frames.{frame_at, voiced_at}
 
 -- whether a frame is voiced, by its flag and hz
-voiced_way : (b : Bool) (hz p : Float) → voiced_of (cond b (Some (record { hz = hz; voiced_p = p })) None) ≡ b
+voiced_way : (b : Bool) (hz p : Float) → is_some {T = Voiced} (cond b (Some (record { hz = hz; voiced_p = p })) None) ≡ b
 voiced_way true hz p = refl
 voiced_way false hz p = refl
 
-pub frame_voiced_lem : (s : List ℕ) (i : ℕ) → voiced_of (frame_at s i) ≡ voiced_at s (10 * i)
+pub frame_voiced_lem : (s : List ℕ) (i : ℕ) → is_some (frame_at s i) ≡ voiced_at s (10 * i)
 unfolding frame_at
 frame_voiced_lem s i = voiced_way (voiced_at s (10 * i)) (f32_at s (10 * i + 2)) (f32_at s (10 * i + 6))
 

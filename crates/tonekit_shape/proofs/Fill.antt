@@ -1,6 +1,8 @@
 -- Lists that are written from the front: what is written so far, and the rest as it was. Assumes nothing.
-use Rattle.std.proofs.Common.{ℕ, zero, suc, ◌+◌, ◌-◌, ◌≤◌, ◌<◌, ◌≡◌, refl, sym, ◌∙◌, ap, List, [], ◌∷◌, ◌++◌, append_assoc, append-nil, add-one, arith, length, drop, get_or, set, length-append, length-drop, drop_of_length-le, drop-cons, get_or-append-add, get_or-drop, Float}
+use Rattle.std.proofs.Common.{ℕ, zero, suc, ◌+◌, ◌-◌, ◌≤◌, ◌<◌, ◌≡◌, refl, sym, ◌∙◌, ap, List, [], ◌∷◌, ◌++◌, append_assoc, append-nil, add-one, arith, map, take_all, length, take, drop, get_or, set, length-append, length-drop, drop_of_length-le, drop-cons, get_or-append-add, get_or-drop, Float}
 use lib.Seq.{set_at}
+use Rattle.std.proofs.lemmas.List.{map-append}
+use Rattle.std.proofs.Math.Seq.{take-suc}
 use lib.Ieee.{nan}
 use Rattle.spec_shape.specs.Extract.{list_of}
 
@@ -52,3 +54,18 @@ module _ (f : ℕ → Float) where
 
   pub listed_same : (l out : List Float) (k : ℕ) → k ≤ length l → Listed l k out → length out ≡ length l
   listed_same l out k h e = ap length e ∙ length-append (list_of f k) (drop k l) ∙ omega (arith, listed_length k, length-drop k l)
+
+-- a list that is written from itself, each place by f, is mapped
+module _ (f : Float → Float) (l : List Float) where
+  abbrev each : ℕ → Float
+  each j = f (get_or l j nan)
+
+  mapped : (n : ℕ) → n ≤ length l → list_of each n ≡ map f (take n l)
+  unfolding list_of
+  mapped zero h = refl
+  mapped (suc n) h =
+      ap (λ (t : List Float). t ++ (each n ∷ [])) (mapped n (omega arith))
+      ∙ sym (ap (map f) (take-suc l n nan (omega arith)) ∙ map-append f (take n l) (get_or l n nan ∷ []))
+
+  pub listed_map : list_of each (length l) ≡ map f l
+  listed_map = mapped (length l) (omega arith) ∙ ap (map f) (take_all (length l) l (omega arith))

@@ -4,8 +4,13 @@ use Rattle.std.proofs.lemmas.List.{get_or-take, get_or-append_right, get_or_appe
 use lib.Ieee.{nan}
 use Rattle.std.specs.Float.{binary64}
 use Rattle.std.specs.Float.Ieee.{add, sub, mul, div}
-use Rattle.spec_arithmetic.specs.Position.{whole64}
-use Rattle.spec_shape.specs.Extract.{fill_turn}
+use Rattle.spec_arithmetic.specs.Constants.{whole64}
+
+-- a frame of the gap, on the line from prev to j
+abbrev pub fill_turn : ℕ → ℕ → ℕ → List Float → List Float
+fill_turn prev j g t =
+    set t g (add binary64 (get_or t prev nan)
+    (mul binary64 (div binary64 (whole64 (g - prev)) (whole64 (j - prev))) (sub binary64 (get_or t j nan) (get_or t prev nan))))
 
 -- the curve with a gap between prev and j
 abbrev pub joined : ℕ → ℕ → List Float → List Float → List Float

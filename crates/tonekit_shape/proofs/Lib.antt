@@ -1,3 +1,4 @@
+mod Turns
 mod Fill
 mod Gap
 mod Smooth

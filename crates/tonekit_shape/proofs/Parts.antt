@@ -1,28 +1,23 @@
 -- The parts of a shape record, one after the other, are the record; it has 124 bytes. Assumes nothing.
-use Rattle.std.proofs.Common.{ℕ, ◌+◌, ◌≡◌, refl, ◌∙◌, ap, List, ◌++◌, append-nil, arith, length, length-append, drop_of_length-le, Bool, Float}
+use Rattle.std.proofs.Common.{ℕ, ◌+◌, ◌≡◌, refl, ◌∙◌, ap, List, ◌++◌, append-nil, arith, length, length-append, drop_of_length-le, Bool, cond, Float}
 use lib.Seq.{sets, sets-eq}
 use Rattle.spec_arithmetic.specs.Fields.{f32s_bytes}
 use Rattle.tonekit_bytes.proofs.Write.{more, f32s_length}
 use Rattle.spec_shape.specs.declared.ToneShape.{ToneShape}
 use mir.Val.{bool_byte}
 use Rattle.std.specs.Prelude.{Option, Some, None}
-use Rattle.std.specs.Option.{is_some, unwrap_or}
-use Rattle.spec_shape.specs.Extract.{zero32}
-use Rattle.spec_shape.specs.Record.{united, turns_of, turning_value, span_bytes, fit_bytes, measure_bytes, shape_bytes}
+use Rattle.std.specs.Option.{is_some}
+use Rattle.spec_shape.specs.Record.{united, span_bytes, fit_bytes, measure_bytes, shape_bytes}
 
 -- stores from index 0 on that are as many as the list replace all of it
 pub whole : (l bs : List ℕ) → length l ≡ length bs → sets l 0 bs ≡ bs
 whole l bs e =
     sets-eq bs l 0 (omega arith) ∙ ap (λ (t : List ℕ). bs ++ t) (drop_of_length-le l {i = 0 + length bs} (omega arith)) ∙ append-nil bs
 
--- the flag and the value, by whether there is a turning point
-pub flag_is : (o : Option Float) {b : Bool} {n : ℕ} → n ≡ bool_byte b → b ≡ is_some o → n ≡ turns_of o
+-- the flag, by whether there is a turning point
+pub flag_is : (o : Option Float) {b : Bool} {n : ℕ} → n ≡ bool_byte b → b ≡ is_some o → n ≡ cond (is_some o) 1 0
 flag_is (Some u) e g = e ∙ ap bool_byte g
 flag_is None e g = e ∙ ap bool_byte g
-
-pub value_is : (o : Option Float) {v : Float} → v ≡ unwrap_or o zero32 → v ≡ turning_value o
-value_is (Some u) e = e
-value_is None e = e
 
 fit_length : (x : ToneShape) → length (fit_bytes x) ≡ 17
 unfolding fit_bytes

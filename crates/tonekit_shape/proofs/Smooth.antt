@@ -1,8 +1,12 @@
 -- A frame's mean with its neighbours, on a curve whose earlier frames are smoothed already. Assumes nothing.
 use Rattle.std.proofs.Common.{ℕ, zero, suc, ◌+◌, ◌-◌, ◌≤◌, ◌<◌, ◌≡◌, refl, ap, List, arith, length, get_or, Float}
 use lib.Ieee.{nan}
-use Rattle.spec_shape.specs.Extract.{mean_with, smoothed_at}
+use Rattle.spec_shape.specs.Extract.{mean_with}
 use Rattle.tonekit_shape.proofs.Fill.{Listed, listed_rest, listed_same}
+
+-- the smoothed curve at frame j
+abbrev pub smoothed_at : List Float → ℕ → Float
+smoothed_at l j = mean_with l j (get_or l (j - 1) nan)
 
 kept : (l : List Float) (j : ℕ) (b : Float) → (1 ≤ j → b ≡ get_or l (j - 1) nan) → mean_with l j b ≡ smoothed_at l j
 unfolding mean_with

@@ -1,15 +1,15 @@
 // The curve of a voiced part, one value a frame, made where it stands: semitones, unvoiced frames
 // filled between voiced ones, Chao values, and the 3-frame mean for the turning point.
-ghost use Rattle.std.specs.Prelude.{◌≡◌, ◌≤◌, ◌<◌, length};
-ghost use Rattle.spec_shape.specs.Chao.{width_of};
-ghost use Rattle.spec_shape.specs.Extract.{semitones, gap_filled, holes_filled, chao_curve, mean_with, smoothed};
+ghost use Rattle.std.specs.Prelude.{◌≡◌, ◌≤◌, ◌<◌, length, map};
+ghost use Rattle.spec_shape.specs.Chao.{width_of, st_to_chao};
+ghost use Rattle.spec_shape.specs.Extract.{list_of, gap_filled, holes_filled, mean_with, smoothed};
+ghost use Rattle.tonekit_shape.specs.Held.{semitone};
 
 use tonekit_fit::Frames;
 
 // Each frame's semitones, 0 where it is unvoiced: one logarithm a voiced frame.
-#[tactic(auto, using(tonekit_core::specs::Loop::again, tonekit_core::specs::Loop::ended), unfolding(spec_shape::specs::Extract::semitones))]
 pub fn semitones(curve: &mut [f64], frames: Frames<'_>)
-    ensures { curve.new ≡ semitones frames.entry.bytes.now frames.entry.first curve.old }
+    ensures { curve.new ≡ list_of (semitone frames.entry.bytes.now frames.entry.first) (length curve.old) }
 {
     for (j, st) in curve.iter_mut().enumerate() {
         *st = frames.semitones(j);
@@ -44,9 +44,8 @@ pub fn fill_holes(curve: &mut [f64], frames: Frames<'_>)
 }
 
 // Chao values in the register from floor to ceil.
-#[tactic(auto, using(tonekit_core::specs::Loop::again, tonekit_core::specs::Loop::ended), unfolding(spec_shape::specs::Extract::chao_curve))]
 pub fn chao(curve: &mut [f64], floor: f32, ceil: f32)
-    ensures { curve.new ≡ chao_curve floor (width_of floor ceil) curve.old }
+    ensures { curve.new ≡ map (st_to_chao floor (width_of floor ceil)) curve.old }
 {
     let low = f64::from(floor);
     let width = tonekit_fit::width_of(floor, ceil);

@@ -1,11 +1,13 @@
 // `extract` of the Rust, from the part of a query that holds its frames; and the shape record.
 #![tactic(auto)]
 
-ghost use Rattle.std.specs.Prelude.{◌≡◌, ℕ, ◌+◌, ◌≤◌, ◌<◌, length};
+ghost use Rattle.std.specs.Prelude.{◌≡◌, ℕ, ◌+◌, ◌-◌, ◌≤◌, ◌<◌, length};
 ghost use Rattle.spec_shape.specs.Turning.{turning_point};
 ghost use Rattle.tonekit_core.specs.Calls.{Delivers};
 ghost use Rattle.spec_shape.specs.Record.{united, shaped, shape_outcome};
-ghost use Rattle.spec_shape.specs.Extract.{extent_turn, extent_of, contour_of, weights_of, mean_of, confidence_added, confidence, span_frames, frames_in, drawn, smoothed, shape_of, Lists, Extended, Voiced3};
+ghost use Rattle.spec_shape.specs.Window.{contour_at, weight_at};
+ghost use Rattle.spec_shape.specs.Extract.{extent_of, list_of, mean_of, confidence, whole32, frames_in, drawn, smoothed, shape_of};
+ghost use Rattle.tonekit_shape.specs.Held.{extent_turn, confidence_added, Lists, Extended, Voiced3};
 
 mod curve;
 mod record;
@@ -76,7 +78,7 @@ fn ten<F: Fn(usize) -> f32>(f: F) -> [f32; 10]
 // The ten points of a part's contour.
 fn contour_of(chao: &[f64]) -> [f32; 10]
     requires { (2 ≤ length chao.now) × (length chao.now ≤ 1024) }
-    ensures { result ≡ contour_of chao.now }
+    ensures { result ≡ list_of (contour_at chao.now) 10 }
 {
     ten(|k| tonekit_window::contour_at(chao, k))
 }
@@ -84,7 +86,7 @@ fn contour_of(chao: &[f64]) -> [f32; 10]
 // The voiced weights of the ten points, in a part of n frames.
 fn weights_of(frames: Frames<'_>, n: usize) -> [f32; 10]
     requires { (1 ≤ n) × (n ≤ 1024) }
-    ensures { result ≡ weights_of frames.entry.bytes.now frames.entry.first n }
+    ensures { result ≡ list_of (weight_at frames.entry.bytes.now frames.entry.first n) 10 }
 {
     ten(|k| tonekit_window::weight_at(frames, n, k))
 }
@@ -102,7 +104,7 @@ fn mean_of(contour: &[f32; 10]) -> f32
 }
 
 // sum and frame i's voiced_p, where that is voiced.
-#[tactic(auto, using(tonekit_query::proofs::Steps::frame_voiced_lem, tonekit_query::proofs::Steps::frame_then))]
+#[tactic(auto, using(tonekit_query::proofs::Steps::frame_voiced_lem, tonekit_query::proofs::Steps::frame_then, tonekit_query::proofs::Steps::frame_else))]
 fn confidence_added(frames: &[u8], i: usize, sum: f32) -> f32
     ensures { result ≡ confidence_added frames.now i sum }
 {
@@ -128,7 +130,7 @@ fn confidence_of(frames: &[u8], e: Extent) -> f32
 
 // The frames of a span, unclamped; none where it ends before it starts.
 fn span_frames(q: Query) -> f32
-    ensures { result ≡ span_frames q.start q.end }
+    ensures { result ≡ whole32 (q.end - q.start) }
 {
     tonekit_float::f32_of(q.end.saturating_sub(q.start))
 }
@@ -137,7 +139,7 @@ fn span_frames(q: Query) -> f32
 #[tactic(auto, unfolding(spec_shape::specs::Extract::drawn))]
 fn draw(chao: &mut [f64], frames: Frames<'_>, q: Query)
     ensures { chao.new
-        ≡ drawn frames.entry.bytes.now frames.entry.first q.floor q.ceil chao.old }
+        ≡ drawn frames.entry.bytes.now frames.entry.first (length chao.old) q.floor q.ceil }
 {
     curve::semitones(chao, frames);
     curve::fill_holes(chao, frames);

@@ -18,7 +18,7 @@ fn put_span(out: &mut [u8; SHAPE_SIZE], q: Query)
 }
 
 // Mean, slope, curvature and turning point; without one the flag and the value are 0.
-#[tactic(auto, using(crate::proofs::Parts::flag_is, crate::proofs::Parts::value_is), unfolding(spec_shape::specs::Record::fit_bytes))]
+#[tactic(auto, using(crate::proofs::Parts::flag_is), unfolding(spec_shape::specs::Record::fit_bytes))]
 fn put_fits(out: &mut [u8; SHAPE_SIZE], x: ToneShape)
     ensures { out.new ≡ sets out.old SHAPE_MEAN (fit_bytes x) }
 {

@@ -12,11 +12,18 @@ use Rattle.tonekit_float.proofs.Whole.{part_le}
 use Rattle.tonekit_float.proofs.Nans.{finite_number}
 use Rattle.tonekit_float.proofs.Picked.{lesser_finite, le_lesser}
 use Rattle.tonekit_core.proofs.LoopLaws.{while_ends}
-use Rattle.spec_arithmetic.specs.Position.{whole64}
-use Rattle.spec_shape.specs.Chao.{one64}
+use Rattle.spec_arithmetic.specs.Constants.{zero64, one64, whole64}
 use Rattle.spec_shape.specs.declared.Sweep.{Sweep}
-use Rattle.spec_shape.specs.Window.{span_at, curve_at, moved_to, step_of, unswept, start_of, turn_limit, walk_of, Swept, Frame}
+use Rattle.spec_shape.specs.Window.{span_at, curve_at, moved_to, step_of, walk_of}
+use Rattle.tonekit_window.specs.Held.{unswept, Swept, Frame}
 use Rattle.tonekit_window.proofs.Within.{low_in, high_in, frame}
+
+-- where the walk begins, and the most turns that it takes
+abbrev start_of : List Float → Float → Sweep
+start_of l a = record { t0 = a; v0 = curve_at l a; next = add binary64 (whole64 (whole_part a)) one64; area = zero64 }
+
+abbrev turn_limit : ℕ
+turn_limit = 1100
 
 -- one more than a whole number
 pub next_whole : (x : Float) (n : ℕ) → n ≤ 2 ^ 52 → x ≡ whole64 n → add binary64 x one64 ≡ whole64 (n + 1)

@@ -10,9 +10,11 @@ use Rattle.tonekit_float.proofs.Monotone.{zero_f}
 use Rattle.tonekit_float.proofs.Bounds.{in_finite, in_wider, in_add, in_sub, in_mul}
 use Rattle.tonekit_float.proofs.Exact.{whole_worth, whole_le, sub_nonneg, sub_no_more, add_nonneg, add_within}
 use Rattle.tonekit_float.proofs.Picked.{lesser_finite, lesser_le_left, lesser_le_right, le_lesser, greater_finite, le_greater_right}
-use Rattle.spec_arithmetic.specs.Position.{whole64, position}
+use Rattle.spec_arithmetic.specs.Constants.{half, whole64}
+use Rattle.spec_arithmetic.specs.Position.{position}
 use Rattle.tonekit_contour.proofs.Places.{position_in, position_fits}
-use Rattle.spec_shape.specs.Window.{share, half, edge, half_width, reach, span_at, Frame}
+use Rattle.spec_shape.specs.Window.{share, edge, half_width, reach, span_at}
+use Rattle.tonekit_window.specs.Held.{Frame}
 
 -- ---- the window
 -- 0.05 n

@@ -5,8 +5,10 @@
 
 ghost use Rattle.std.specs.Prelude.{◌≡◌, ◌+◌, ◌-◌, ◌≤◌, ◌<◌, length};
 ghost use Rattle.spec_arithmetic.specs.Whole.{whole_part};
-ghost use Rattle.spec_arithmetic.specs.Position.{whole64, position};
-ghost use Rattle.spec_shape.specs.Window.{half_width, reach, curve_at, moved_to, step_of, mean_over, contour_at, rounded, voiced_in, weight_at, Frame, Spans, Swept, Framed};
+ghost use Rattle.spec_arithmetic.specs.Constants.{whole64};
+ghost use Rattle.spec_arithmetic.specs.Position.{position};
+ghost use Rattle.spec_shape.specs.Window.{half_width, reach, curve_at, moved_to, step_of, mean_over, contour_at, rounded, voiced_in, weight_at};
+ghost use Rattle.tonekit_window.specs.Held.{Frame, Spans, Swept, Framed};
 
 pub use spec_shape::{FrameRange, Span, Sweep};
 use tonekit_fit::Frames;
@@ -221,7 +223,7 @@ pub fn contour_at(values: &[f64], k: usize) -> f32
 #[tactic(auto, using(tonekit_core::specs::Loop::again, tonekit_core::specs::Loop::ended))]
 fn voiced_in(frames: Frames<'_>, within: FrameRange) -> usize
     requires { within.to < 1024 }
-    ensures { result ≡ voiced_in frames.entry.bytes.now frames.entry.first within.from within.to }
+    ensures { result ≡ voiced_in frames.entry.bytes.now frames.entry.first within }
 {
     let mut count = 0;
     for j in within.from..within.to + 1 {

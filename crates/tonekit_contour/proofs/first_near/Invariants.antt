@@ -1,6 +1,7 @@
 use Rattle.std.proofs.Common.{◌≡◌, length}
 use Rattle.tonekit_core.specs.Loop.{range_to}
-use Rattle.spec_shape.specs.Turning.{first_turn, first_near}
+use Rattle.spec_shape.specs.Turning.{first_near}
+use Rattle.tonekit_contour.proofs.Turns.{first_turn}
 use Rattle.tonekit_contour.proofs.first_near.Given as goal
 
 abbrev pub invariant-loop-j : goal.invariant-loop-j

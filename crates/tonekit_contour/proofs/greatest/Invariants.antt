@@ -1,6 +1,7 @@
 use Rattle.std.proofs.Common.{◌≡◌, length}
 use Rattle.tonekit_core.specs.Loop.{range}
-use Rattle.spec_shape.specs.Turning.{greater_at, greatest}
+use Rattle.spec_shape.specs.Turning.{greatest}
+use Rattle.tonekit_contour.proofs.Turns.{greater_at}
 use Rattle.tonekit_contour.proofs.greatest.Given as goal
 
 abbrev pub invariant-loop-v : goal.invariant-loop-v

@@ -1,6 +1,7 @@
 use Rattle.std.proofs.Common.{◌≡◌, ◌≤◌, length}
 use Rattle.tonekit_core.specs.Loop.{range}
-use Rattle.spec_shape.specs.Turning.{last_turn, last_near}
+use Rattle.spec_shape.specs.Turning.{last_near}
+use Rattle.tonekit_contour.proofs.Turns.{last_turn}
 use Rattle.tonekit_contour.proofs.last_near.Given as goal
 
 abbrev pub invariant-loop-j : goal.invariant-loop-j

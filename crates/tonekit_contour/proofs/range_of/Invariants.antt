@@ -2,7 +2,7 @@
 use Rattle.std.proofs.Common.{◌≡◌, true, false, map}
 use Rattle.std.specs.Float.{inf}
 use Rattle.tonekit_core.specs.Loop.{range}
-use Rattle.spec_shape.specs.Range.{lesser_turn, greater_turn}
+use Rattle.tonekit_contour.proofs.Turns.{lesser_turn, greater_turn}
 use Rattle.tonekit_contour.proofs.range_of.Given as goal
 
 abbrev pub invariant-loop-x : goal.invariant-loop-x

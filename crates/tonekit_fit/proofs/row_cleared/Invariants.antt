@@ -1,6 +1,6 @@
 use Rattle.std.proofs.Common.{◌≡◌}
 use Rattle.tonekit_core.specs.Loop.{range}
-use Rattle.spec_shape.specs.Fit.{cell_cleared}
+use Rattle.tonekit_fit.proofs.Turns.{cell_cleared}
 use Rattle.tonekit_fit.proofs.row_cleared.Given as goal
 
 abbrev pub invariant-loop-k : goal.invariant-loop-k

@@ -1,6 +1,8 @@
 use Rattle.std.proofs.Common.{◌≡◌}
 use Rattle.tonekit_core.specs.Loop.{range}
-use Rattle.spec_shape.specs.Extract.{zero32, frames_in, confidence_turn}
+use Rattle.spec_arithmetic.specs.Constants.{zero32}
+use Rattle.spec_shape.specs.Extract.{frames_in}
+use Rattle.tonekit_shape.proofs.Turns.{confidence_turn}
 use Rattle.tonekit_shape.proofs.confidence_of.Given as goal
 
 abbrev pub invariant-loop-j : goal.invariant-loop-j

@@ -1,6 +1,7 @@
 use Rattle.std.proofs.Common.{◌≡◌}
 use Rattle.tonekit_core.specs.Loop.{range}
-use Rattle.spec_shape.specs.Extract.{zero32, add_turn}
+use Rattle.spec_arithmetic.specs.Constants.{zero32}
+use Rattle.tonekit_shape.proofs.Turns.{add_turn}
 use Rattle.tonekit_shape.proofs.mean_of.Given as goal
 
 abbrev pub invariant-loop-x : goal.invariant-loop-x

@@ -1,8 +1,8 @@
 -- What is left of the loop, from here, over the gap between what stands before and behind it, gives what the whole gives.
 use Rattle.std.proofs.Common.{◌≡◌, ◌+◌, ◌-◌, length}
 use Rattle.tonekit_core.specs.Loop.{range}
-use Rattle.spec_shape.specs.Extract.{fill_turn, gap_filled}
-use Rattle.tonekit_shape.proofs.Gap.{joined}
+use Rattle.spec_shape.specs.Extract.{gap_filled}
+use Rattle.tonekit_shape.proofs.Gap.{fill_turn, joined}
 use Rattle.tonekit_shape.proofs.curve.fill_gap.Given as goal
 
 abbrev pub invariant-loop-k : goal.invariant-loop-k

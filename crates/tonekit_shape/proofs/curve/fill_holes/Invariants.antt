@@ -1,6 +1,6 @@
 use Rattle.std.proofs.Common.{◌≡◌, ◌<◌, length}
 use Rattle.tonekit_core.specs.Loop.{range}
-use Rattle.spec_shape.specs.Extract.{hole_turn}
+use Rattle.tonekit_shape.proofs.Turns.{hole_turn}
 use Rattle.tonekit_shape.proofs.curve.fill_holes.Given as goal
 
 abbrev pub invariant-loop-j : goal.invariant-loop-j

@@ -1,7 +1,7 @@
 use Rattle.std.proofs.Common.{◌≡◌, ◌-◌, ◌≤◌, length, get_or}
 use lib.Ieee.{nan}
-use Rattle.spec_shape.specs.Extract.{smoothed_at}
 use Rattle.tonekit_shape.proofs.Fill.{Listed}
+use Rattle.tonekit_shape.proofs.Smooth.{smoothed_at}
 use Rattle.tonekit_shape.proofs.curve.smooth.Given as goal
 
 abbrev pub invariant-loop-j : goal.invariant-loop-j

@@ -1,10 +1,12 @@
 use Rattle.std.proofs.Common.{rules, ◌≡◌, sym, ◌∙◌, ap, subst, ℕ, ◌-◌, ◌≤◌, ◌<◌, min, le-leb}
 use borrow.Author.Tests.{lt-leb}
 use lib.Ieee.{binary64, add, sub}
+use Rattle.spec_arithmetic.specs.Position.{position}
 use Rattle.spec_arithmetic.specs.Whole.{whole_part, round_up}
 use Rattle.spec_shape.specs.declared.Span.{Span}
 use Rattle.spec_shape.specs.declared.FrameRange.{FrameRange}
-use Rattle.spec_shape.specs.Window.{edge, span_at, rounded, nearest, low_frame, high_frame, frames_at, Frame}
+use Rattle.spec_shape.specs.Window.{edge, span_at, rounded, frames_at}
+use Rattle.tonekit_window.specs.Held.{Frame}
 use Rattle.tonekit_window.proofs.Within.{frame, low_lt, high_from, high_lt, position_frame}
 use Rattle.tonekit_window.proofs.Point.frames.Goals as goal
 
@@ -21,11 +23,23 @@ invariant_of-place c =
     let a = c.args.self in
     record { inside = subst Frame (sym c.place.ensures) (position_frame a.n a.k a.few a.ten) }
 
+-- the window's first and last frame, and the nearest to the point
+abbrev low_frame : ℕ → ℕ → ℕ
+low_frame n k = round_up (sub binary64 (span_at n k).low edge)
+
+abbrev high_frame : ℕ → ℕ → ℕ
+high_frame n k = min (whole_part (add binary64 (span_at n k).high edge)) (n - 1)
+
+abbrev nearest : ℕ → ℕ → ℕ
+nearest n k = min (rounded (position k (n - 1))) (n - 1)
+
 -- the two ways
 held : (n k from to : ℕ) → from ≡ low_frame n k → to ≡ high_frame n k → from ≤ to → ◌≡◌ {A = FrameRange} (record { from = from; to = to }) (frames_at n k)
+unfolding frames_at
 held n k from to e g h = simp (← e, ← g, le-leb _ _ h)
 
 none : (n k from to near : ℕ) → from ≡ low_frame n k → to ≡ high_frame n k → to < from → near ≡ nearest n k → ◌≡◌ {A = FrameRange} (record { from = near; to = near }) (frames_at n k)
+unfolding frames_at
 none n k from to near e g h i = simp (← e, ← g, lt-leb _ _ h, ← i)
 
 low_is : (n k from : ℕ) (s : Span) → s ≡ span_at n k → from ≡ round_up (sub binary64 s.low edge) → from ≡ low_frame n k

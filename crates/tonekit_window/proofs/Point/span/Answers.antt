@@ -2,7 +2,8 @@ use Rattle.std.proofs.Common.{◌≡◌, sym, subst, rules, ℕ, ◌-◌, Float}
 use lib.Ieee.{binary64, add, sub}
 use Rattle.spec_arithmetic.specs.Bounds.{In}
 use Rattle.tonekit_float.proofs.Monotone.{zero_f}
-use Rattle.spec_arithmetic.specs.Position.{position, whole64}
+use Rattle.spec_arithmetic.specs.Constants.{whole64}
+use Rattle.spec_arithmetic.specs.Position.{position}
 use Rattle.spec_shape.specs.declared.Span.{Span}
 use Rattle.spec_shape.specs.Window.{reach, span_at}
 use Rattle.tonekit_window.proofs.Within.{low_in, high_in}

@@ -1,0 +1,40 @@
+-- What the code's functions hold of extents and lists, beside the definitions.
+use Rattle.std.specs.Prelude.{ℕ, ◌+◌, ◌≤◌, ◌<◌, ◌≡◌, cond, List, eqb, Float}
+use Rattle.std.specs.Option.{option_map_or}
+use Rattle.std.specs.Float.{binary32}
+use Rattle.std.specs.Float.Ieee.{add}
+use Rattle.spec_query.specs.Frames.{frame_at}
+use Rattle.spec_shape.specs.Chao.{semitones_of, voiced}
+use Rattle.spec_shape.specs.declared.Extent.{Extent}
+use Rattle.spec_shape.specs.Extract.{extent_of, frames_in, list_of}
+
+-- the extent with frame i, where that is voiced
+abbrev pub extent_turn : List ℕ → ℕ → Extent → Extent
+extent_turn frames i e =
+    cond (voiced frames i) (record { count = e.count + 1; first = cond (eqb e.count 0) i e.first; last = i }) e
+
+-- what is found lies among the frames
+pub record Extended (frames : List ℕ) (count start end : ℕ) (e : Extent) : Type 0 where
+  pub is : e ≡ extent_of frames count start end
+  pub ordered : e.first ≤ e.last
+  pub counted : e.count ≤ frames_in e
+  pub inside : 0 < e.count → e.last < count
+
+-- an extent that has a shape: at least 3 voiced frames, in a query of at most 1,024
+pub record Voiced3 (e : Extent) : Type 0 where
+  pub enough : 3 ≤ e.count
+  pub ordered : e.first ≤ e.last
+  pub counted : e.count ≤ frames_in e
+  pub inside : e.last < 1024
+
+-- the semitones of frame j from the first on
+abbrev pub semitone : List ℕ → ℕ → ℕ → Float
+semitone frames first j = semitones_of (frame_at frames (first + j))
+
+-- a sum and frame i's voiced_p, where that is voiced
+abbrev pub confidence_added : List ℕ → ℕ → Float → Float
+confidence_added frames i t = option_map_or (λ v. add binary32 t v.voiced_p) (frame_at frames i) t
+
+-- where R says what each of ten places may hold, l holds what each function gives that gives the same
+abbrev pub Lists : (ℕ → Float → Type 0) → List Float → Type 0
+Lists R l = (f : ℕ → Float) → ((k : ℕ) (x : Float) → k < 10 → R k x → x ≡ f k) → l ≡ list_of f 10
