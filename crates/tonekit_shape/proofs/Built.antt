@@ -1,5 +1,5 @@
 -- A shape is built from its measures. Assumes nothing.
-use Rattle.std.proofs.Common.{ℕ, ◌-◌, ◌≤◌, ◌≡◌, ap, List, arith, length, take, replicate, length-take-le, Float}
+use Rattle.std.proofs.Common.{ℕ, ◌-◌, ◌≤◌, ◌≡◌, List, arith, length, take, replicate, length-take-le, Float}
 use Rattle.std.specs.Prelude.{Option, option_map}
 use lib.ListN.{length-replicate}
 use lib.Ieee.{binary32, mul, div}

@@ -1,6 +1,5 @@
 -- A turn writes one place more; all are written at the end.
 use Rattle.std.proofs.Common.{rules}
-use Rattle.tonekit_shape.specs.Held.{semitone}
 use Rattle.tonekit_shape.proofs.Fill.{listed_none, listed_more, listed_all}
 use Rattle.tonekit_shape.proofs.curve.semitones.Goals as goal
 
