@@ -14,17 +14,17 @@ use Rattle.spec_lookup.specs.declared.Context.{Context}
 use Rattle.spec_shape.specs.Extract.{extent_of}
 use Rattle.spec_sheet.specs.Agree.{Held, Agree}
 use Rattle.spec_judgement.specs.Judge.{Listings}
-use Rattle.spec_judgement.specs.Gather.{Gathering, no_tone, given_of, slotted, list_tone, listings, graded_of, tolerance_of, gathered}
+use Rattle.spec_judgement.specs.Gather.{Gathering, absent_tone, given_of, slotted, list_tone, listings, graded_of, tolerance_of, gathered}
 use Rattle.tonekit_inventory.proofs.Going.{nothing_yet}
 use Rattle.spec_judgement.specs.Judgement.{context_of, query_verdict, judge_gathered, on_query, judgement}
 
 -- a tone of the list is held by its number
-tone_at_lem : (ts : List Tone) (i : ℕ) → i < length ts → tone_in ts (get_or ts i no_tone).number ≡ true
+tone_at_lem : (ts : List Tone) (i : ℕ) → i < length ts → tone_in ts (get_or ts i absent_tone).number ≡ true
 unfolding tone_in
 tone_at_lem [] i h = absurd (not-suc-le-zero h)
 tone_at_lem (t ∷ ts) zero h = rw (eq-eqb t.number t.number refl)
 tone_at_lem (t ∷ ts) (suc i) h =
-    split (eqb t.number (get_or ts i no_tone).number) (λ e. rw e) (λ e. rw e (tone_at_lem ts i (le_of_suc-le-suc h)))
+    split (eqb t.number (get_or ts i absent_tone).number) (λ e. rw e) (λ e. rw e (tone_at_lem ts i (le_of_suc-le-suc h)))
 
 -- nothing stood before, or a held tone
 prev_held : (ts : List Tone) (n : ℕ) → (eqb n 0 || tone_in ts n) ≡ true → (n ≡ 0) ⊎ (tone_in ts n ≡ true)
@@ -61,7 +61,7 @@ module _ (a b : Source) (agree : Agree a b) where
   module _ (c : Context) (x : Accent) (accent : accent_in a.accents c.accent ≡ some x) (prev : (eqb c.prev 0 || tone_in a.tones c.prev) ≡ true) where
     turn_same : (t : ℕ) (l : Listings) → t < length a.tones → list_tone a c t l ≡ list_tone b c t l
     turn_same t l h =
-        let tone = get_or a.tones t no_tone in
+        let tone = get_or a.tones t absent_tone in
         let asks : Held a (record c { tone = tone.number }) = record { accent = (x, accent); tone = tone_at_lem a.tones t h; prev = prev_held a.tones c.prev prev } in
         rw (← agree.tones) (ap (λ (k : Option (List Carried)). slotted t tone (given_of k) l) (agree.lookups (record c { tone = tone.number }) asks))
 
