@@ -8,6 +8,6 @@ pub record Counted (i : Inventory) : Type 0 where
   pub each : (t : ℕ) → t < length i.items → count_at i t ≤ 4
 
 -- a target is at most five of the inventory's tones
-pub record Placed (tones : ℕ) (g : Targets) : Type 0 where
+pub record TargetsHeld (tones : ℕ) (g : Targets) : Type 0 where
   pub few : length g.items ≤ 5
   pub each : (k : ℕ) → k < length g.items → (target_at g k).place < tones

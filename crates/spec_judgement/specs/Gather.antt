@@ -12,7 +12,7 @@ use Rattle.spec_lookup.specs.declared.Context.{Context}
 use Rattle.spec_judgement.specs.declared.Region.{Region}
 use Rattle.spec_judgement.specs.declared.Tolerance.{Tolerance}
 use Rattle.spec_judgement.specs.Judge.{Inventory, Listings, listing, no_entry}
-use Rattle.spec_judgement.specs.declared.Listed.{Listed}
+use Rattle.spec_judgement.specs.declared.ToneListing.{ToneListing}
 use Rattle.spec_judgement.specs.declared.Slot.{Slot}
 use Rattle.spec_judgement.specs.declared.ToneEntry.{ToneEntry}
 use Rattle.spec_judgement.specs.declared.Slots.{Slots}
@@ -27,12 +27,12 @@ abbrev pub region_of : Tone → Option Region
 region_of t = cond (eqb t.flag 0) None (Some (record { from = f32 t.from; to = f32 t.to }))
 
 -- the name of a listing, that of its first component, and how many components it has; of none, none
-abbrev pub named_of : List Carried → Option Listed
+abbrev pub named_of : List Carried → Option ToneListing
 named_of [] = None
 named_of (c ∷ cs) = Some (record { name = record { owner = c.owner; form = c.form; label = c.label }; count = length (c ∷ cs) })
 
 -- a tone's own values, and its listing
-abbrev pub entry_of : Tone → Option Listed → ToneEntry
+abbrev pub entry_of : Tone → Option ToneListing → ToneEntry
 entry_of tone listing = record { number = tone.number; prior = f32 tone.prior; region = region_of tone; listing = listing }
 
 -- the inventory with one more entry; behind the eighth with none
@@ -55,8 +55,8 @@ abbrev pub no_slots : Slots
 no_slots = record { list = replicate 32 (record { weight = f32 0; points = replicate 10 (f32 0) }) }
 
 -- past the end of the tones, where nothing is read
-abbrev pub no_tone : Tone
-no_tone = record { number = 0; prior = 0; flag = 0; from = 0; to = 0 }
+abbrev pub absent_tone : Tone
+absent_tone = record { number = 0; prior = 0; flag = 0; from = 0; to = 0 }
 
 -- the components that a lookup gives; none where it gives nothing
 abbrev pub given_of : math.Option (List Carried) → List Carried
@@ -66,7 +66,7 @@ given_of (some cs) = cs
 -- tone t with its listing in this context, of which the tone is not read
 abbrev pub list_tone : Source → Context → ℕ → Listings → Listings
 list_tone src c t l =
-    let tone = get_or src.tones t no_tone in
+    let tone = get_or src.tones t absent_tone in
     slotted t tone (given_of (src.look (record c { tone = tone.number }))) l
 
 -- for each tone of the source in order its listing in this context, or that it has none

@@ -31,7 +31,7 @@ use Rattle.spec_judgement.specs.Deltas.{no_deltas, deltas_of}
 use Rattle.spec_judgement.specs.declared.Deltas.{Deltas}
 use Rattle.spec_judgement.specs.declared.Ranking.{Ranking}
 use Rattle.spec_judgement.specs.declared.ToneEntry.{ToneEntry}
-use Rattle.spec_judgement.specs.declared.Listed.{Listed}
+use Rattle.spec_judgement.specs.declared.ToneListing.{ToneListing}
 use Rattle.spec_judgement.specs.declared.Slot.{Slot}
 use Rattle.spec_judgement.specs.declared.Slots.{Slots}
 use Rattle.spec_judgement.specs.declared.Component.{Component}
@@ -56,11 +56,11 @@ abbrev pub listing : Inventory → Slots → Listings
 listing i slots = record { inventory = i; slots = slots }
 
 -- how many components were looked up, and their name
-abbrev pub count_in : Option Listed → ℕ
+abbrev pub count_in : Option ToneListing → ℕ
 count_in None = 0
 count_in (Some l) = l.count
 
-abbrev pub name_in : Option Listed → Name
+abbrev pub name_in : Option ToneListing → Name
 name_in None = record { owner = 0; form = 0; label = 0 }
 name_in (Some l) = l.name
 
@@ -162,15 +162,15 @@ advice_of x s t points issues =
     cond (has_issue issues LowSnr) no_deltas (deltas_of x points t s.widen (has_issue issues TooShort))
 
 -- the component's place in its rule, where that is a mixture
-unfoldable pub part_of : Name → ℕ → ℕ
-part_of name slot = cond (eqb name.form MIXTURE_FORM) (slot % 4) 0
+unfoldable pub slot_part : Name → ℕ → ℕ
+slot_part name slot = cond (eqb name.form MIXTURE_FORM) (slot % 4) 0
 
 -- what is said of the best component of the target, which stands at a slot of that tone's entry
 unfoldable pub nearest_at : ToneEntry → ℕ → Float → Nearest
 nearest_at e slot d2 = record {
   distance = distance_from d2;
   name = name_in e.listing;
-  part = part_of (name_in e.listing) slot;
+  part = slot_part (name_in e.listing) slot;
 }
 
 -- the best component, and the deltas against it; nothing of these where there is nothing to score

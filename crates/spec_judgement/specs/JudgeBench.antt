@@ -22,7 +22,7 @@ use Rattle.tonekit_core.specs.declared.Name.{Name}
 use Rattle.spec_judgement.specs.declared.Region.{Region}
 use Rattle.spec_judgement.specs.declared.ToneEntry.{ToneEntry}
 use Rattle.spec_judgement.specs.declared.ToneJudgement.{ToneJudgement}
-use Rattle.spec_judgement.specs.Judge.{Inventory, component_at, weighed, part_mixing, ranked, ranking_of, heard_of, greatest32, advice_of, part_of, not_measured}
+use Rattle.spec_judgement.specs.Judge.{Inventory, component_at, weighed, part_mixing, ranked, ranking_of, heard_of, greatest32, advice_of, slot_part, not_measured}
 use Rattle.spec_judgement.specs.Record.{delta_count, kind_of, amount_of, nearest_bytes, score_bytes, one_bytes, delta_bytes, judgement_bytes}
 
 -- "Tone 1, accent 1 with a citation, eight voiced frames of 110 Hz, floor NaN: hexadecimal 31 01 01 00 24 74 C9, 54 zero bytes, 02 40 00"
@@ -91,12 +91,12 @@ abbrev of_form : ℕ → Name
 of_form form = record { owner = 1; form = form; label = 0 }
 
 -- a part counts from 0, in a mixture alone
-pub third_part : part_of (of_form MIXTURE_FORM) 6 ≡ 2
-unfolding part_of
+pub third_part : slot_part (of_form MIXTURE_FORM) 6 ≡ 2
+unfolding slot_part
 third_part = refl
 
-pub single_part : part_of (of_form SINGLE_FORM) 4 ≡ 0
-unfolding part_of
+pub single_part : slot_part (of_form SINGLE_FORM) 4 ≡ 0
+unfolding slot_part
 single_part = refl
 
 -- ---- every field of the record: bytes that are their own offsets behind the kind, but for the distance's flag, the deltas' count and kinds, and measured

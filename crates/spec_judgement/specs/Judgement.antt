@@ -20,7 +20,7 @@ use Rattle.spec_shape.specs.declared.Extent.{Extent}
 use Rattle.spec_judgement.specs.declared.Tolerance.{Tolerance}
 use Rattle.spec_judgement.specs.Judge.{Inventory, Targets, count_in, judgement_of}
 use Rattle.spec_judgement.specs.Record.{judgement_bytes}
-use Rattle.spec_judgement.specs.Target.{variants_fine, targets_of}
+use Rattle.spec_judgement.specs.Target.{variants_good, targets_of}
 use Rattle.spec_judgement.specs.Gather.{Gathering, gathered}
 
 abbrev pub context_of : Query → Context
@@ -43,7 +43,7 @@ query_verdict voiced accent prev i s q =
     (and_then (ok_or accent refusal.UnknownAccent) (λ t.
     cond (not prev) (Err refusal.UnknownTone)
     (and_then (tones_verdict i) (λ u.
-    cond (variants_fine s q.variants) (Ok t) (Err refusal.BadVariant)))))
+    cond (variants_good s q.variants) (Ok t) (Err refusal.BadVariant)))))
 
 -- "13 for targets"; or the record: `judge` after `extract`, "issues the union"
 abbrev pub recorded : Gathering → Tolerance → Query → List ℕ → Extent → Option Targets → Outcome

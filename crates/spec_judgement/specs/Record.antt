@@ -18,11 +18,11 @@ unfoldable pub amount_of : Option Delta → Float
 amount_of d = option_map_or (λ d. d.amount) d zero32
 
 -- how many there are
-abbrev pub one_if : Bool → ℕ
-one_if b = cond b 1 0
+abbrev pub flag_of : Bool → ℕ
+flag_of b = cond b 1 0
 
 unfoldable pub delta_count : Deltas → ℕ
-delta_count ds = one_if (is_some ds.first) + one_if (is_some ds.second)
+delta_count ds = flag_of (is_some ds.first) + flag_of (is_some ds.second)
 
 -- distance, owner, form, label and part: 0 where there is no best component
 abbrev pub no_nearest : Nearest
@@ -34,7 +34,7 @@ nearest_bytes flag n = (flag ∷ []) ++ (f32_bytes n.distance ++ ((n.name.owner 
 
 -- llr, the best component, heard or 0
 unfoldable pub score_bytes : ToneJudgement → List ℕ
-score_bytes j = f32_bytes j.llr ++ (nearest_bytes (one_if (is_some j.nearest)) (unwrap_or j.nearest no_nearest) ++ (unwrap_or j.heard 0 ∷ []))
+score_bytes j = f32_bytes j.llr ++ (nearest_bytes (flag_of (is_some j.nearest)) (unwrap_or j.nearest no_nearest) ++ (unwrap_or j.heard 0 ∷ []))
 
 -- a delta: kind and amount
 unfoldable pub one_bytes : Option Delta → List ℕ

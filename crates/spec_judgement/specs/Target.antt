@@ -20,19 +20,19 @@ abbrev pub slack : Float
 slack = of_bits binary32 0x3586_37bd
 
 -- "weight below 0 or not finite (−0 passes)"
-unfoldable pub weight_fine : Float → Bool
-weight_fine w = finite w && le zero32 w
+unfoldable pub variant_weight_good : Float → Bool
+variant_weight_good w = finite w && le zero32 w
 
-unfoldable pub weights_fine : List ℕ → ℕ → Bool
-weights_fine s n = range (λ i ok. ok && weight_fine (variant_weight s i)) 0 n true
+unfoldable pub variant_weights_good : List ℕ → ℕ → Bool
+variant_weights_good s n = range (λ i ok. ok && variant_weight_good (variant_weight s i)) 0 n true
 
 -- "1 − sum", in f32: what the n variants leave to the main tone
 unfoldable pub main_weight : List ℕ → ℕ → Float
 main_weight s n = sub binary32 one32 (range (λ i t. add binary32 t (variant_weight s i)) 0 n zero32)
 
 -- not "bad variant: weight below 0 or not finite (−0 passes), or 1 − sum < −1e−6, in f32"
-unfoldable pub variants_fine : List ℕ → ℕ → Bool
-variants_fine s n = weights_fine s n && not (lt (main_weight s n) (neg slack))
+unfoldable pub variants_good : List ℕ → ℕ → Bool
+variants_good s n = variant_weights_good s n && not (lt (main_weight s n) (neg slack))
 
 -- the place of a number among the inventory's
 unfoldable pub place_of : Inventory → ℕ → Option ℕ

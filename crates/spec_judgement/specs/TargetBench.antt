@@ -5,38 +5,38 @@ use Rattle.std.specs.Float.Ieee.{is_nan, neg, add, sub, lt, le, of_bits}
 use Rattle.tonekit_core.specs.Loop.{turns, range, turns_to, range_to}
 use Rattle.spec_arithmetic.specs.Pick.{greater}
 use Rattle.spec_judgement.specs.Judge.{Inventory}
-use Rattle.spec_judgement.specs.Target.{zero32, weight_fine, weights_fine, main_weight, variants_fine, place_of, target_of, with_target, targets_of}
+use Rattle.spec_judgement.specs.Target.{zero32, variant_weight_good, variant_weights_good, main_weight, variants_good, place_of, target_of, with_target, targets_of}
 
 -- the bytes of a query up to two variants, with weights of these bits
 abbrev pub variants : List ℕ → List ℕ → List ℕ
 variants a b = replicate 24 0 ++ ((1 ∷ a) ++ (2 ∷ b))
 
 -- "Variants 0.5 and 0.5+2^−20 pass; 0.5 and 0.5+2^−19 give 15"
-pub slack_passes : variants_fine (variants (0 ∷ 0 ∷ 0 ∷ 0x3f ∷ []) (0x10 ∷ 0 ∷ 0 ∷ 0x3f ∷ [])) 2 ≡ true
-unfolding variants_fine weights_fine weight_fine main_weight range turns neg add sub lt le of_bits
+pub slack_passes : variants_good (variants (0 ∷ 0 ∷ 0 ∷ 0x3f ∷ []) (0x10 ∷ 0 ∷ 0 ∷ 0x3f ∷ [])) 2 ≡ true
+unfolding variants_good variant_weights_good variant_weight_good main_weight range turns neg add sub lt le of_bits
 slack_passes = refl
 
-pub slack_past : variants_fine (variants (0 ∷ 0 ∷ 0 ∷ 0x3f ∷ []) (0x20 ∷ 0 ∷ 0 ∷ 0x3f ∷ [])) 2 ≡ false
-unfolding variants_fine weights_fine weight_fine main_weight range turns neg add sub lt le of_bits
+pub slack_past : variants_good (variants (0 ∷ 0 ∷ 0 ∷ 0x3f ∷ []) (0x20 ∷ 0 ∷ 0 ∷ 0x3f ∷ [])) 2 ≡ false
+unfolding variants_good variant_weights_good variant_weight_good main_weight range turns neg add sub lt le of_bits
 slack_past = refl
 
 -- "−0 passes"; NaN and infinity do not
-pub minus_zero : variants_fine (variants (0 ∷ 0 ∷ 0 ∷ 0x80 ∷ []) (0 ∷ 0 ∷ 0 ∷ 0 ∷ [])) 2 ≡ true
-unfolding variants_fine weights_fine weight_fine main_weight range turns neg add sub lt le of_bits
+pub minus_zero : variants_good (variants (0 ∷ 0 ∷ 0 ∷ 0x80 ∷ []) (0 ∷ 0 ∷ 0 ∷ 0 ∷ [])) 2 ≡ true
+unfolding variants_good variant_weights_good variant_weight_good main_weight range turns neg add sub lt le of_bits
 minus_zero = refl
 
-pub not_a_number : variants_fine (variants (0 ∷ 0 ∷ 0xc0 ∷ 0x7f ∷ []) (0 ∷ 0 ∷ 0 ∷ 0 ∷ [])) 1 ≡ false
-unfolding variants_fine weights_fine weight_fine main_weight range turns neg add sub lt le of_bits
+pub not_a_number : variants_good (variants (0 ∷ 0 ∷ 0xc0 ∷ 0x7f ∷ []) (0 ∷ 0 ∷ 0 ∷ 0 ∷ [])) 1 ≡ false
+unfolding variants_good variant_weights_good variant_weight_good main_weight range turns neg add sub lt le of_bits
 not_a_number = refl
 
 -- the sum is rounded to f32: 1 + 17 / 2^24 is 1 + 16 / 2^24
-pub summed_in_f32 : variants_fine (variants (0 ∷ 0 ∷ 0 ∷ 0x3f ∷ []) (0x11 ∷ 0 ∷ 0 ∷ 0x3f ∷ [])) 2 ≡ true
-unfolding variants_fine weights_fine weight_fine main_weight range turns neg add sub lt le of_bits
+pub summed_in_f32 : variants_good (variants (0 ∷ 0 ∷ 0 ∷ 0x3f ∷ []) (0x11 ∷ 0 ∷ 0 ∷ 0x3f ∷ [])) 2 ≡ true
+unfolding variants_good variant_weights_good variant_weight_good main_weight range turns neg add sub lt le of_bits
 summed_in_f32 = refl
 
 -- "weight below 0": −0.5
-pub below_zero : variants_fine (variants (0 ∷ 0 ∷ 0 ∷ 0xbf ∷ []) (0 ∷ 0 ∷ 0 ∷ 0 ∷ [])) 1 ≡ false
-unfolding variants_fine weights_fine weight_fine main_weight range turns neg add sub lt le of_bits
+pub below_zero : variants_good (variants (0 ∷ 0 ∷ 0 ∷ 0xbf ∷ []) (0 ∷ 0 ∷ 0 ∷ 0 ∷ [])) 1 ≡ false
+unfolding variants_good variant_weights_good variant_weight_good main_weight range turns neg add sub lt le of_bits
 below_zero = refl
 
 -- an inventory of these numbers

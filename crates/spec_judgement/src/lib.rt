@@ -108,7 +108,7 @@ pub struct Ranking {
 
 // What was looked up for a tone: the name of its components, and how many they are.
 #[derive(Clone, Copy)]
-pub struct Listed {
+pub struct ToneListing {
     pub name: Name,
     pub count: u8,
 }
@@ -120,7 +120,7 @@ pub struct ToneEntry {
     pub number: u8,
     pub prior: f32,
     pub region: Option<Region>,
-    pub listing: Option<Listed>,
+    pub listing: Option<ToneListing>,
 }
 
 // The tones that are judged against, in pack order; the components of tone t stand in the slots from

@@ -17,8 +17,8 @@ use Rattle.spec_lookup.specs.Source as source
 use Rattle.spec_lookup.specs.declared.Context.{Context}
 use Rattle.spec_judgement.specs.Score.{scoring_of}
 use Rattle.std.specs.Prelude.{Some}
-use Rattle.spec_judgement.specs.Judge.{Targets, count_in, name_in, entry_at, slot_at, component_at, part_of, nearest_at, judgement_of}
-use Rattle.spec_judgement.specs.Asked.{Placed}
+use Rattle.spec_judgement.specs.Judge.{Targets, count_in, name_in, entry_at, slot_at, component_at, slot_part, nearest_at, judgement_of}
+use Rattle.spec_judgement.specs.Asked.{TargetsHeld}
 use Rattle.spec_judgement.specs.declared.Slot.{Slot}
 use Rattle.tonekit_core.specs.declared.Name.{Name}
 use Rattle.tonekit_judge.proofs.Winner.{winner_among, winner_named}
@@ -51,11 +51,11 @@ module _ (src : Source) (few : length src.tones ≤ 8) (alike : (c : Context) (c
     entered : (t : ℕ) → t < length src.tones → Entered no_carried (cs t) t (listings src c)
     entered = listings_enter no_carried src c few (λ t h. (here t).few)
 
-    placed : (g : Targets) → Placed (length src.tones) g → Placed (length (listings src c).inventory.items) g
+    placed : (g : Targets) → TargetsHeld (length src.tones) g → TargetsHeld (length (listings src c).inventory.items) g
     placed g p = rw (listed_tones src c) p
 
   pub source_names : NamesWinner src
-  unfolding part_of nearest_at
+  unfolding slot_part nearest_at
   source_names c x settings t g issues ok p ll d2 slot e =
       let l = listings src c in
       let s = scoring_of settings.temperature t issues in
@@ -75,7 +75,7 @@ module _ (src : Source) (few : length src.tones ≤ 8) (alike : (c : Context) (c
       let named : name_in (entry_at l.inventory a.tone).listing ≡ name_in (named_of given) = ap name_in en.listing in
       let won = get_or given a.component no_carried in
       let its_slot : slot_at l.slots slot ≡ slot_of won = ap (slot_at l.slots) a.is ∙ en.slot a.component has in
-      let part : part_of (name_in (entry_at l.inventory a.tone).listing) slot ≡ won.part = rw (named, place) (sym u.part) in (
+      let part : slot_part (name_in (entry_at l.inventory a.tone).listing) slot ≡ won.part = rw (named, place) (sym u.part) in (
         get_or given a.component no_carried,
         record {
           tone = a.tone;

@@ -16,10 +16,10 @@ use Rattle.spec_judgement.specs.declared.Tolerance.{Tolerance}
 use Rattle.spec_judgement.specs.declared.Mixture.{Mixture}
 use Rattle.spec_judgement.specs.declared.Mixture.TheVariants.{Scored}
 use Rattle.spec_judgement.specs.Judge.{Targets, Listings, usable, slot_at, component_at, target_mixing, judgement_of}
-use Rattle.spec_judgement.specs.Asked.{Placed}
+use Rattle.spec_judgement.specs.Asked.{TargetsHeld}
 use Rattle.spec_judgement.specs.declared.Nearest.{Nearest}
 use Rattle.spec_judgement.specs.declared.ToneJudgement.{ToneJudgement}
-use Rattle.spec_judgement.specs.Gather.{f32, no_tone, listings}
+use Rattle.spec_judgement.specs.Gather.{f32, absent_tone, listings}
 
 -- a slot of what is gathered for a context, and the component that the lookup gave: the tone's, at its place, with its weight and its ten points
 pub record Carries (src : Source) (c : Context) (slot : ℕ) (won : Carried) : Type 0 where
@@ -28,7 +28,7 @@ pub record Carries (src : Source) (c : Context) (slot : ℕ) (won : Carried) : T
   pub at : slot ≡ 4 * tone + component
   pub listed : tone < length src.tones
   pub given : List Carried
-  pub looked : src.look (record c { tone = (get_or src.tones tone no_tone).number }) ≡ some given
+  pub looked : src.look (record c { tone = (get_or src.tones tone absent_tone).number }) ≡ some given
   pub has : component < length given
   pub is : get_or given component no_carried ≡ won
   pub weight : (slot_at (listings src c).slots slot).weight ≡ f32 won.weight
@@ -53,7 +53,7 @@ target_mixture x settings t l g issues =
 abbrev pub NamesWinner : Source → Type 0
 NamesWinner src =
     (c : Context) (x : ToneShape) (settings : Settings) (t : Tolerance) (g : Targets) (issues : ℕ)
-    → usable x ≡ true → Placed (length src.tones) g
+    → usable x ≡ true → TargetsHeld (length src.tones) g
     → (ll d2 : Float) (slot : ℕ) → target_mixture x settings t (listings src c) g issues ≡ Scored ll slot d2
     → (won : Carried) × Carries src c slot won × Names won (judgement_of x settings t (listings src c) g issues)
 

@@ -6,11 +6,11 @@ use Rattle.tonekit_core.proofs.LoopLaws.{again, ended}
 use Rattle.spec_lookup.specs.Source.{Carried, Source}
 use Rattle.spec_lookup.specs.declared.Context.{Context}
 use Rattle.spec_judgement.specs.declared.ToneEntry.{ToneEntry}
-use Rattle.spec_judgement.specs.declared.Listed.{Listed}
+use Rattle.spec_judgement.specs.declared.ToneListing.{ToneListing}
 use Rattle.spec_judgement.specs.declared.Slots.{Slots}
 use Rattle.spec_judgement.specs.Judge.{Inventory, Listings, listing, no_entry, count_in}
 use Rattle.tonekit_inventory.specs.Gathers.{Lists}
-use Rattle.spec_judgement.specs.Gather.{entry_of, named_of, with_tone, put_in, slotted, no_tone, given_of, list_tone, listings, no_slots}
+use Rattle.spec_judgement.specs.Gather.{entry_of, named_of, with_tone, put_in, slotted, absent_tone, given_of, list_tone, listings, no_slots}
 
 -- ---- a listing's name is that of its first component
 pub first_named : (cs : List Carried) (d : Carried) → 1 ≤ length cs
@@ -56,8 +56,8 @@ module _ (src : Source) (n : ℕ) (c : Context) where
     going_ends h few_tones = record { is = ended (list_tone src c) g.same h; counted = record { few = omega (arith, g.many, g.inside, few_tones); each = λ k l. g.few k } }
 
     -- the tone as it was read, what was put for it, the inventory with both, and the slots after
-    module _ (h : t < n) (few_tones : n ≤ 8) (e : ToneEntry) (tone : e ≡ entry_of (get_or src.tones t no_tone) None)
-        (l : Option Listed) (named : l ≡ named_of (given_of (src.look (record c { tone = e.number })))) (few : count_in l ≤ 4)
+    module _ (h : t < n) (few_tones : n ≤ 8) (e : ToneEntry) (tone : e ≡ entry_of (get_or src.tones t absent_tone) None)
+        (l : Option ToneListing) (named : l ≡ named_of (given_of (src.look (record c { tone = e.number })))) (few : count_in l ≤ 4)
         (i' : Inventory) (pushed : i'.items ≡ i.items ++ (record { number = e.number; prior = e.prior; region = e.region; listing = l } ∷ []))
         (s' : Slots) (put : s' ≡ put_in t (given_of (src.look (record c { tone = e.number }))) s) where
       kept : ltb (length i.items) 8 ≡ true

@@ -10,7 +10,7 @@ use Rattle.spec_lookup.specs.declared.Context.{Context}
 use Rattle.spec_judgement.specs.Judge.{Listings, no_entry, entry_at, slot_at}
 use Rattle.spec_judgement.specs.declared.Slot.{Slot}
 use Rattle.spec_judgement.specs.declared.ToneEntry.{ToneEntry}
-use Rattle.spec_judgement.specs.Gather.{entry_of, named_of, with_tone, put_in, slot_of, slotted, no_tone, given_of, list_tone, listings}
+use Rattle.spec_judgement.specs.Gather.{entry_of, named_of, with_tone, put_in, slot_of, slotted, given_of, list_tone, listings, absent_tone}
 use Rattle.std.proofs.lemmas.List.{get_or-map}
 use Rattle.tonekit_inventory.proofs.Going.{nothing_yet}
 
@@ -88,7 +88,7 @@ module _ (d : Carried) (t : ℕ) (tone : Tone) (cs : List Carried) (l : Listings
 -- a source whose tones have four components at most in this context
 module _ (d : Carried) (src : Source) (c : Context) where
   abbrev pub components_at : ℕ → List Carried
-  components_at t = given_of (src.look (record c { tone = (get_or src.tones t no_tone).number }))
+  components_at t = given_of (src.look (record c { tone = (get_or src.tones t absent_tone).number }))
 
   module _ (tones_few : length src.tones ≤ 8) (few : (t : ℕ) → t < length src.tones → length (components_at t) ≤ 4) where
     record So (n : ℕ) (l : Listings) : Type 0 where

@@ -11,7 +11,7 @@ use Rattle.spec_lookup.specs.declared.Listing.{Listing}
 use Rattle.tonekit_expect.proofs.Carried.{named, components_at, components_length}
 use Rattle.tonekit_inventory.specs.Fields.{region_at}
 use Rattle.tonekit_inventory.specs.OfPack.{source_in}
-use Rattle.spec_judgement.specs.Gather.{region_of, entry_of, named_of, no_tone}
+use Rattle.spec_judgement.specs.Gather.{region_of, entry_of, named_of, absent_tone}
 use Rattle.std.proofs.lemmas.List.{get_or-map}
 use Rattle.tonekit_inventory.proofs.Going.{first_named}
 
@@ -42,12 +42,12 @@ module _ (s : List ℕ) (p : Pack) where
     abbrev at : ℕ
     at = get_or p.tones.at t 0
 
-    tone_is : get_or (source_in s p).tones t no_tone ≡ tone_at s at
+    tone_is : get_or (source_in s p).tones t absent_tone ≡ tone_at s at
     unfolding source_of_pack
     tone_is =
-        get_or-map (tone_at s) (in_order p.tones.at p.tones.count) t 0 no_tone (rw order_length h)
+        get_or-map (tone_at s) (in_order p.tones.at p.tones.count) t 0 absent_tone (rw order_length h)
         ∙ ap (tone_at s) (order_get p.tones.at p.tones.count t h)
 
     pub entry_is : record { number = byte_at s (at + 1); prior = f32_at s (at + 2); region = region_at s (at + 47); listing = None }
-        ≡ entry_of (get_or (source_in s p).tones t no_tone) None
+        ≡ entry_of (get_or (source_in s p).tones t absent_tone) None
     entry_is = rw (tone_is, region_is)

@@ -6,15 +6,15 @@ ghost use Rattle.std.specs.Prelude.{◌≡◌, ◌≤◌, ◌<◌, ℕ, List, Re
 ghost use Rattle.tonekit_core.specs.declared.Rejection.{Rejection};
 ghost use Rattle.spec_lookup.specs.Source.{Source, accent_in, tone_in};
 ghost use Rattle.tonekit_inventory.specs.Fields.{region_at, tolerance_at, settings_at};
-ghost use Rattle.spec_judgement.specs.Gather.{entry_of, named_of, given_of, graded_of, settings_of, no_tone, put_in, no_slots};
+ghost use Rattle.spec_judgement.specs.Gather.{entry_of, named_of, given_of, graded_of, settings_of, absent_tone, put_in, no_slots};
 ghost use Rattle.tonekit_inventory.specs.Gathers.{Lists, Gathers};
 ghost use Rattle.spec_judgement.specs.Judge.{count_in};
 
 mod pack;
 
 pub use pack::HeldPack;
-pub use spec_judgement::{Gathered, Inventory, Listed, Slots, ToneEntry};
-use spec_judgement::{Region, Settings, Tolerance};
+pub use spec_judgement::Gathered;
+use spec_judgement::{Inventory, Region, Settings, Slots, Tolerance, ToneEntry, ToneListing};
 use tonekit_bytes::{byte_at, f32_at};
 use tonekit_core::{Rejection, layout};
 use tonekit_expect::Context;
@@ -39,7 +39,7 @@ pub trait Held<'a>: Drop {
     // The tone at a place, as an inventory has it before its listing is there.
     fn tone(&self, t: usize) -> ToneEntry
         requires { t < length (source self.now).tones }
-        ensures { result ≡ entry_of (get_or (source self.now).tones t no_tone) None };
+        ensures { result ≡ entry_of (get_or (source self.now).tones t absent_tone) None };
 
     // Whether a tone of this number is held.
     fn holds_tone(&self, number: u8) -> bool
@@ -52,7 +52,7 @@ pub trait Held<'a>: Drop {
     // Puts the components that a context takes into tone t's slots, and hands back their name and how
     // many they are, if there are any.
     // Stays: the trait's method and its two impls are one method, so what it takes is named three times in any form.
-    fn put(&self, c: Context, t: usize, slots: &mut Slots) -> Option<Listed>
+    fn put(&self, c: Context, t: usize, slots: &mut Slots) -> Option<ToneListing>
         requires { t < 8 }
         ensures name { result ≡ named_of (given_of ((source self.now).look c)) }
         ensures few { count_in result ≤ 4 }

@@ -9,7 +9,7 @@ ghost use Rattle.spec_judgement.specs.Gather.{put_in};
 ghost use Rattle.tonekit_inventory.specs.OfPack.{source_in, load_source, pack_in, Short};
 
 use crate::Held;
-use spec_judgement::{Listed, Settings, Slot, Slots, Tolerance, ToneEntry};
+use spec_judgement::{Settings, Slot, Slots, Tolerance, ToneEntry, ToneListing};
 use tonekit_bytes::{byte_at, f32_at};
 use tonekit_core::{Rejection, layout};
 use tonekit_expect::{Context, Listing};
@@ -80,10 +80,10 @@ impl<'a> Held<'a> for HeldPack<'a> {
         Some(crate::tolerance_at(self.view.bytes, o + layout::ACCENT_CONTOUR))
     }
 
-    fn put(&self, c: Context, t: usize, slots: &mut Slots) -> Option<Listed> {
+    fn put(&self, c: Context, t: usize, slots: &mut Slots) -> Option<ToneListing> {
         let l = tonekit_expect::look_up(self.view, c)?;
         fill(self.view.bytes, l, t, slots);
-        Some(Listed {
+        Some(ToneListing {
             name: l.name,
             count: l.count as u8,
         })

@@ -8,7 +8,7 @@ use Rattle.spec_judgement.specs.declared.Tolerance.{Tolerance}
 use Rattle.spec_shape.specs.declared.ToneShape.{ToneShape}
 use Rattle.tonekit_core.proofs.LoopLaws.{range_same}
 use Rattle.spec_judgement.specs.Judge.{Inventory, Targets, Listings, count_at, target_at, component_at, plain_of, judged_of, tone_mixing, loglik_at, logliks, part_mixing, target_mixing}
-use Rattle.spec_judgement.specs.Asked.{Counted, Placed}
+use Rattle.spec_judgement.specs.Asked.{Counted, TargetsHeld}
 use Rattle.tonekit_judge.specs.Terms.{Filled, cell, tone_turn, part_turn}
 use Rattle.tonekit_judge.proofs.Turns.{loglik_turn, target_turn}
 use Rattle.spec_judgement.specs.declared.Component.{Component}
@@ -38,7 +38,7 @@ module _ (s : Scoring) (i : Inventory) (d e : ℕ → ℕ → Component)
       range_same (part_turn s d t w) (part_turn s e t w) 0 (count_at i t) m (omega arith)
       (λ j n k. rw (same t j h k))
 
-  pub target_same : (g : Targets) → Placed (length i.items) g → target_mixing s i d g ≡ target_mixing s i e g
+  pub target_same : (g : Targets) → TargetsHeld (length i.items) g → target_mixing s i d g ≡ target_mixing s i e g
   unfolding target_mixing
   target_same g p =
       range_same (target_turn s i d g) (target_turn s i e g) 0 (length g.items) no_mixing (omega arith)
@@ -56,7 +56,7 @@ plain_same s threshold i d e m issues same = rw (logliks_same s i d e same)
 
 -- a judgement from the list of components is the judgement
 pub judged_same : (x : ToneShape) (s : Scoring) (threshold : Float) (t : Tolerance) (l : Listings) (ds : List Component) (g : Targets) (issues : ℕ) {r : ToneJudgement}
-    → Counted l.inventory → Placed (length l.inventory.items) g
+    → Counted l.inventory → TargetsHeld (length l.inventory.items) g
     → Filled (component_at x s l.inventory l.slots) l.inventory (4 * length l.inventory.items) ds
     → r ≡ judged_of x s threshold t l (cell ds) g issues → r ≡ judged_of x s threshold t l (component_at x s l.inventory l.slots) g issues
 unfolding judged_of

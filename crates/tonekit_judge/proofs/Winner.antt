@@ -15,7 +15,7 @@ use Rattle.spec_judgement.specs.declared.Lead.{Lead}
 use Rattle.spec_judgement.specs.declared.Mixing.{Mixing}
 use Rattle.spec_judgement.specs.declared.Mixture.TheVariants.{Scored}
 use Rattle.spec_judgement.specs.Judge.{Inventory, Targets, Listings, entry_at, count_at, target_at, weighed, part_mixing, target_mixing, component_at, nearest_at, with_best, judged_of, usable, judgement_of}
-use Rattle.spec_judgement.specs.Asked.{Placed}
+use Rattle.spec_judgement.specs.Asked.{TargetsHeld}
 use Rattle.tonekit_judge.specs.Terms.{part_turn}
 use Rattle.tonekit_judge.proofs.Turns.{target_turn}
 use Rattle.spec_judgement.specs.declared.Component.{Component}
@@ -62,13 +62,13 @@ module _ (i : Inventory) (s : Scoring) where
         range_keeps (part_turn s d t weight) (λ j m. Best m) 0 (count_at i t) m (omega arith)
         (λ j m l b. weighed_best m (4 * t + j) (d t j).distance b (record { tone = t; component = j; listed = h; has = l; is = refl }) _) b
 
-    target_best : (g : Targets) → Placed (length i.items) g → Best (target_mixing s i d g)
+    target_best : (g : Targets) → TargetsHeld (length i.items) g → Best (target_mixing s i d g)
     unfolding target_mixing
     target_best g p =
         range_keeps (target_turn s i d g) (λ k m. Best m) 0 (length g.items) no_mixing (omega arith)
         (λ k m h b. part_best (target_at g k).place (target_at g k).weight m (p.each k h) b) tt
 
-    pub winner_among : (g : Targets) → Placed (length i.items) g → (ll d2 : Float) (slot : ℕ) → mixture_of (target_mixing s i d g) ≡ Scored ll slot d2 → Among i slot
+    pub winner_among : (g : Targets) → TargetsHeld (length i.items) g → (ll d2 : Float) (slot : ℕ) → mixture_of (target_mixing s i d g) ≡ Scored ll slot d2 → Among i slot
     winner_among g p ll d2 slot e =
         let m = target_mixing s i d g in
         scored_best m.total m.best ll d2 slot (target_best g p) e

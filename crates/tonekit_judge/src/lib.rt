@@ -8,18 +8,18 @@ ghost use Rattle.std.specs.Float.Ieee.{add};
 ghost use Rattle.std.specs.Float.Ieee.Scale.{finite};
 ghost use Rattle.tonekit_core.specs.declared.Measured.TheVariants.{Full, Partial};
 ghost use Rattle.spec_arithmetic.specs.Log.{ln_of};
-ghost use Rattle.spec_judgement.specs.Asked.{Counted, Placed};
+ghost use Rattle.spec_judgement.specs.Asked.{Counted, TargetsHeld};
 ghost use Rattle.spec_judgement.specs.Judge.{count_in, name_in, entry_at, listing, component_at};
 ghost use Rattle.spec_judgement.specs.Judge.{tone_mixing, loglik_at, logliks, ranking_of, heard_of};
 ghost use Rattle.spec_judgement.specs.Judge.{part_mixing, target_mixing, llr_of, plain_of};
-ghost use Rattle.spec_judgement.specs.Judge.{distance_from, advice_of, part_of, nearest_at, judged_of};
+ghost use Rattle.spec_judgement.specs.Judge.{distance_from, advice_of, slot_part, nearest_at, judged_of};
 ghost use Rattle.spec_judgement.specs.Judge.{usable, not_measured, judgement_of};
 ghost use Rattle.tonekit_judge.specs.Terms.{Filled, cell, weighed_term, term_at, mixed_terms};
 
 use arrayvec::ArrayVec;
 pub use spec_judgement::{
-    Component, Inventory, Listed, Nearest, Ranking, Slot, Slots, Target, Targets, ToneEntry,
-    ToneJudgement,
+    Component, Inventory, Nearest, Ranking, Slot, Slots, Target, Targets, ToneEntry, ToneJudgement,
+    ToneListing,
 };
 use tonekit_core::{MeasureIssue, Measured, Name, layout};
 use tonekit_deltas::Deltas;
@@ -248,7 +248,7 @@ impl Components {
 
     // The mixture of the target's tones, each weighed.
     fn target_mixing(&self, inventory: &Inventory, g: &Targets) -> Mixing
-        requires { Counted inventory.now × Placed (length inventory.now.items) g.now }
+        requires { Counted inventory.now × TargetsHeld (length inventory.now.items) g.now }
         ensures { result ≡ target_mixing self.now.scoring inventory.now (cell self.now.list) g.now }
     {
         let mut m = tonekit_score::no_mixing();
@@ -306,10 +306,10 @@ fn advice_of(x: ToneShape, s: Scoring, t: Tolerance, points: &[f32; 10], issues:
 }
 
 // The place of a slot's component in its rule, where that is a mixture.
-// Stays: beside tonekit_expect's `part_number`; this takes a slot and has the definition `part_of`, that a part's place.
-#[tactic(auto, unfolding(spec_judgement::specs::Judge::part_of))]
-fn part_of(name: Name, slot: usize) -> u8
-    ensures { result ≡ part_of name slot }
+// Stays: beside tonekit_expect's `part_number`; this takes a slot and has the definition `slot_part`, that a part's place.
+#[tactic(auto, unfolding(spec_judgement::specs::Judge::slot_part))]
+fn slot_part(name: Name, slot: usize) -> u8
+    ensures { result ≡ slot_part name slot }
 {
     if name.form == layout::MIXTURE_FORM {
         return (slot % 4) as u8;
@@ -326,7 +326,7 @@ fn nearest_at(entry: &ToneEntry, slot: usize, d2: f64) -> Nearest
     Nearest {
         distance: distance_from(d2),
         name,
-        part: part_of(name, slot),
+        part: slot_part(name, slot),
     }
 }
 
@@ -342,7 +342,7 @@ fn judged_of(
     g: &Targets,
     issues: u16,
 ) -> ToneJudgement
-    requires { Counted inventory.now × Placed (length inventory.now.items) g.now }
+    requires { Counted inventory.now × TargetsHeld (length inventory.now.items) g.now }
     ensures { result ≡ judged_of x s threshold t (listing inventory.now slots.now) (component_at x s inventory.now slots.now) g.now issues }
 {
     let c = Components {
@@ -382,7 +382,7 @@ fn not_measured(tones: usize) -> ToneJudgement
 // The judgement of a shape against a target, whose tones are of the inventory, as whoever gathered them
 // has made them; there is no judgement of others.
 #[tactic(auto, unfolding(spec_judgement::specs::Judge::judgement_of))]
-pub fn judge(
+pub fn judgement_of(
     x: ToneShape,
     settings: Settings,
     t: Tolerance,
@@ -391,7 +391,7 @@ pub fn judge(
     targets: &Targets,
     issues: u16,
 ) -> ToneJudgement
-    requires { Counted inventory.now × Placed (length inventory.now.items) targets.now }
+    requires { Counted inventory.now × TargetsHeld (length inventory.now.items) targets.now }
     ensures { result ≡ judgement_of x settings t (listing inventory.now slots.now) targets.now issues }
 {
     if usable(x) {

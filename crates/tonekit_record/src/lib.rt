@@ -5,7 +5,7 @@ ghost use Rattle.std.specs.Prelude.{◌≡◌, ◌+◌, ◌≤◌, [], ◌∷◌
 ghost use Rattle.std.proofs.lemmas.List.Edits.{sets};
 ghost use Rattle.tonekit_core.specs.declared.layout.TheConstants.{JUDGEMENT_KIND, JUDGEMENT_LLR, JUDGEMENT_DISTANCED, JUDGEMENT_DELTA_COUNT, JUDGEMENT_MEASURED, DELTA_SIZE};
 ghost use Rattle.spec_arithmetic.specs.Fields.{le16};
-ghost use Rattle.spec_judgement.specs.Record.{kind_of, amount_of, delta_count, one_if, no_nearest, nearest_bytes, score_bytes, one_bytes, delta_bytes, judgement_bytes};
+ghost use Rattle.spec_judgement.specs.Record.{kind_of, amount_of, delta_count, flag_of, no_nearest, nearest_bytes, score_bytes, one_bytes, delta_bytes, judgement_bytes};
 ghost use Rattle.tonekit_core.specs.Words.{measured_number};
 
 pub use spec_judgement::{Delta, Deltas, Nearest, ToneJudgement};
@@ -64,7 +64,7 @@ fn put_head(out: &mut [u8; layout::JUDGEMENT_SIZE], expected: u8, tones: u8)
 // Writes what is said of the best component, behind a flag.
 #[tactic(auto, unfolding(spec_judgement::specs::Record::nearest_bytes))]
 fn put_nearest(out: &mut [u8; layout::JUDGEMENT_SIZE], nearest: Option<Nearest>)
-    ensures { out.new ≡ sets out.old JUDGEMENT_DISTANCED (nearest_bytes (one_if (is_some nearest)) (unwrap_or nearest no_nearest)) }
+    ensures { out.new ≡ sets out.old JUDGEMENT_DISTANCED (nearest_bytes (flag_of (is_some nearest)) (unwrap_or nearest no_nearest)) }
 {
     let n = nearest.unwrap_or(NO_NEAREST);
     tonekit_bytes::put_u8(

@@ -5,7 +5,7 @@ use Rattle.std.proofs.lemmas.List.{length-map}
 use Rattle.tonekit_core.specs.Layout.{sheet_tone_at}
 use Rattle.spec_arithmetic.specs.Fields.{byte_at, f32_at}
 use Rattle.tonekit_inventory.specs.Fields.{region_at}
-use Rattle.spec_judgement.specs.Gather.{region_of, entry_of, no_tone}
+use Rattle.spec_judgement.specs.Gather.{region_of, entry_of, absent_tone}
 use Rattle.std.proofs.lemmas.List.{get_or-map}
 use Rattle.spec_sheet.specs.FromSheet.{tone_at, source_of_sheet}
 use Rattle.tonekit_sheet_read.specs.declared.Sheet.{Sheet}
@@ -26,12 +26,12 @@ module _ (s : List ℕ) (st : Sheet) where
   unfolding source_of_sheet
   tones_many = length-map (stepped 9 15 st.tones) (tone_at s) ∙ stepped_length 9 15 st.tones
 
-  tone_is : (t : ℕ) → t < st.tones → get_or (source_in s st).tones t no_tone ≡ tone_at s (9 + 15 * t)
+  tone_is : (t : ℕ) → t < st.tones → get_or (source_in s st).tones t absent_tone ≡ tone_at s (9 + 15 * t)
   unfolding source_of_sheet
   tone_is t h =
-      get_or-map (tone_at s) (stepped 9 15 st.tones) t 0 no_tone (rw (stepped_length 9 15 st.tones) h)
+      get_or-map (tone_at s) (stepped 9 15 st.tones) t 0 absent_tone (rw (stepped_length 9 15 st.tones) h)
       ∙ ap (tone_at s) (stepped_get 9 15 st.tones t h)
 
   pub entry_is : (t : ℕ) → t < st.tones → (o : ℕ) → o ≡ sheet_tone_at t → record { number = byte_at s (o + 1); prior = f32_at s (o + 2); region = region_at s (o + 6); listing = None }
-      ≡ entry_of (get_or (source_in s st).tones t no_tone) None
+      ≡ entry_of (get_or (source_in s st).tones t absent_tone) None
   entry_is t h o e = rw (tone_is t h ∙ ap (tone_at s) (sym e), region_is s o)

@@ -8,9 +8,9 @@ use Rattle.spec_arithmetic.specs.Fields.{byte_at, u16_at}
 use Rattle.spec_lookup.specs.Source.{Carried, Source}
 use Rattle.spec_lookup.specs.declared.Context.{Context}
 use Rattle.spec_lookup.specs.Lookup.{Found}
-use Rattle.spec_judgement.specs.declared.Listed.{Listed}
 use Rattle.spec_arithmetic.specs.Files.{Out, loaded, refused}
 use Rattle.spec_sheet.specs.Reader.{Sst, load_sheet}
+use Rattle.spec_judgement.specs.declared.ToneListing.{ToneListing}
 use Rattle.spec_sheet.specs.FromSheet.{carried_from, look_sheet, source_of_sheet}
 use Rattle.tonekit_sheet_read.specs.Held.{shown}
 use Rattle.tonekit_sheet_read.specs.declared.Sheet.{Sheet}
@@ -61,7 +61,7 @@ pub record Looks (s : List ℕ) (st : Sst) (c : Context) (f : Found) : Type 0 wh
   pub list : ListThere s f
 
 -- "21 list: number u8, owner u8, form u8, label u16, count u8": its name, and how many components it has
-unfoldable pub name_at : List ℕ → ℕ → Listed
+unfoldable pub name_at : List ℕ → ℕ → ToneListing
 name_at s o = record {
   name = record { owner = byte_at s (o + SHEET_LIST_OWNER); form = byte_at s (o + SHEET_LIST_FORM); label = u16_at s (o + SHEET_LIST_LABEL) };
   count = byte_at s (o + SHEET_LIST_COUNT);

@@ -12,7 +12,7 @@ ghost use Rattle.spec_sheet.specs.FromSheet.{bits_at, row_place, final_place, pr
 ghost use Rattle.tonekit_sheet_read.specs.Held.{shown};
 ghost use Rattle.tonekit_sheet_inventory.specs.Look.{source_in, load_source, sheet_in, Placed, ShortList, Looks, name_at};
 
-use spec_judgement::{Listed, Settings, Slot, Slots, Tolerance, ToneEntry};
+use spec_judgement::{Settings, Slot, Slots, Tolerance, ToneEntry, ToneListing};
 use tonekit_bytes::{byte_at, f32_at, u16_at};
 use tonekit_core::{Name, Rejection, layout};
 use tonekit_expect::Context;
@@ -122,7 +122,7 @@ fn fill(s: &[u8], o: usize, t: usize, slots: &mut Slots)
 }
 
 // The name of the list at an offset, and how many components it has.
-fn name_at(s: &[u8], o: usize) -> Listed
+fn name_at(s: &[u8], o: usize) -> ToneListing
     ensures { result ≡ name_at s.now o }
 {
     let name = Name {
@@ -130,7 +130,7 @@ fn name_at(s: &[u8], o: usize) -> Listed
         form: byte_at(s, o, layout::SHEET_LIST_FORM),
         label: u16_at(s, o, layout::SHEET_LIST_LABEL),
     };
-    Listed {
+    ToneListing {
         name,
         count: byte_at(s, o, layout::SHEET_LIST_COUNT),
     }
@@ -175,7 +175,7 @@ impl<'a> Held<'a> for HeldSheet<'a> {
         Some(tonekit_inventory::tolerance_at(self.view.bytes, o + layout::SHEET_ACCENT_CONTOUR))
     }
 
-    fn put(&self, c: Context, t: usize, slots: &mut Slots) -> Option<Listed> {
+    fn put(&self, c: Context, t: usize, slots: &mut Slots) -> Option<ToneListing> {
         let o = self.look(c)?;
         fill(self.view.bytes, o, t, slots);
         Some(name_at(self.view.bytes, o))

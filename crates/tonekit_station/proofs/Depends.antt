@@ -14,7 +14,7 @@ use Rattle.spec_lookup.specs.declared.Context.{Context}
 use Rattle.spec_shape.specs.Extract.{extent_of}
 use Rattle.spec_sheet.specs.Agree.{Held, Agree}
 use Rattle.spec_judgement.specs.Judge.{Listings}
-use Rattle.spec_judgement.specs.Gather.{Gathering, no_tone, given_of, slotted, list_tone, listings, graded_of, tolerance_of, gathered}
+use Rattle.spec_judgement.specs.Gather.{Gathering, absent_tone, given_of, slotted, list_tone, listings, graded_of, tolerance_of, gathered}
 use Rattle.tonekit_inventory.proofs.Going.{nothing_yet}
 use Rattle.spec_judgement.specs.Judgement.{context_of, query_verdict, judge_gathered, on_query, judgement}
 use Rattle.tonekit_expect.proofs.Held.{tone_found}
@@ -54,8 +54,8 @@ module _ (a b : Source) (agree : Agree a b) where
   module _ (c : Context) (x : Accent) (accent : accent_in a.accents c.accent ≡ some x) (prev : (eqb c.prev 0 || tone_in a.tones c.prev) ≡ true) where
     turn_same : (t : ℕ) (l : Listings) → t < length a.tones → list_tone a c t l ≡ list_tone b c t l
     turn_same t l h =
-        let tone = get_or a.tones t no_tone in
-        let asks : Held a (record c { tone = tone.number }) = record { accent = (x, accent); tone = tone_found a.tones t no_tone h; prev = prev_held a.tones c.prev prev } in
+        let tone = get_or a.tones t absent_tone in
+        let asks : Held a (record c { tone = tone.number }) = record { accent = (x, accent); tone = tone_found a.tones t absent_tone h; prev = prev_held a.tones c.prev prev } in
         rw (← agree.tones) (ap (λ (k : Option (List Carried)). slotted t tone (given_of k) l) (agree.lookups (record c { tone = tone.number }) asks))
 
     listings_same : listings a c ≡ listings b c

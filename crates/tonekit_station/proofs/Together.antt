@@ -18,7 +18,7 @@ use Rattle.spec_judgement.specs.Judge.{Inventory, ranking_of, heard_of}
 use Rattle.spec_judgement.specs.declared.ToneEntry.{ToneEntry}
 use Rattle.spec_judgement.specs.declared.Tolerance.{Tolerance}
 use Rattle.spec_judgement.specs.JudgeBench as heard
-use Rattle.spec_judgement.specs.Target.{variants_fine}
+use Rattle.spec_judgement.specs.Target.{variants_good}
 use Rattle.spec_judgement.specs.TargetBench as variants
 use Rattle.spec_judgement.specs.Judgement.{tones_verdict, query_verdict, judge_outcome}
 use Rattle.spec_judgement.specs.Bench as station
@@ -56,7 +56,7 @@ pub record Together : Type 0 where
   -- "Root of 2: 0x3FF6A09E667F3BCD."
   pub root_of_2 : root_of (of_bits binary64 0x4000_0000_0000_0000) ≡ of_bits binary64 0x3ff6_a09e_667f_3bcd
   -- "Variants 0.5 and 0.5+2^−20 pass; 0.5 and 0.5+2^−19 give 15."
-  pub slack_passes : variants_fine (weighing 16) 2 ≡ true
+  pub slack_passes : variants_good (weighing 16) 2 ≡ true
   pub slack_past : (voiced : ℕ) (t : Tolerance) (i : Inventory) (q : Query) → 3 ≤ voiced → tones_verdict i ≡ Ok tt
       → q.variants ≡ 2 → query_verdict voiced (Some t) true i (weighing 32) q ≡ Err BadVariant
   -- "Onset tolerance 0.5, unwidened: 0.5 high gives no delta, 0.75 StartLower."

@@ -22,7 +22,7 @@ use Rattle.spec_judgement.specs.declared.Tolerance.{Tolerance}
 use Rattle.spec_judgement.specs.Judge.{Inventory, Targets, judgement_of}
 use Rattle.spec_judgement.specs.Record.{judgement_bytes}
 use Rattle.spec_judgement.specs.declared.ToneJudgement.{ToneJudgement}
-use Rattle.spec_judgement.specs.Target.{variants_fine, targets_of}
+use Rattle.spec_judgement.specs.Target.{variants_good, targets_of}
 use Rattle.spec_judgement.specs.Gather.{Gathering, gathered}
 use Rattle.tonekit_inventory.specs.OfPack as of-pack
 use Rattle.tonekit_sheet_inventory.specs.Look as of-sheet
@@ -41,7 +41,7 @@ module _ (voiced : ℕ) (i : Inventory) (s : List ℕ) (q : Query) where
       (λ f. ltb-false voiced 3 f)
 
   module _ (enough : 3 ≤ voiced) (listed : tones_verdict i ≡ Ok tt) where
-    pub bad_variant : (t : Tolerance) → variants_fine s q.variants ≡ false → query_verdict voiced (Some t) true i s q ≡ Err refusal.BadVariant
+    pub bad_variant : (t : Tolerance) → variants_good s q.variants ≡ false → query_verdict voiced (Some t) true i s q ≡ Err refusal.BadVariant
     unfolding query_verdict
     bad_variant t f = rw (le-ltb voiced 3 enough, listed, f)
 

@@ -69,7 +69,7 @@ fn query_verdict(voiced: usize, g: &Gathered, query: &[u8], q: Query) -> Result<
         return Err(Refusal::UnknownTone);
     }
     tones_verdict(&g.inventory)?;
-    if !tonekit_target::variants_fine(query, q.variants) {
+    if !tonekit_target::variants_good(query, q.variants) {
         return Err(Refusal::BadVariant);
     }
     Ok(tolerance)
@@ -99,7 +99,7 @@ fn judge_gathered(
     };
     let x = tonekit_shape::shape_of(frames, e, q);
     let issues = tonekit_shape::united(q.issues, x.frames);
-    let j = tonekit_judge::judge(
+    let j = tonekit_judge::judgement_of(
         x,
         g.settings,
         tolerance,

@@ -6,7 +6,7 @@ use Rattle.std.proofs.Math.ListN.{get_or-append}
 use Rattle.std.proofs.Math.Seq.{get_or-append_seam}
 use Rattle.tonekit_core.specs.Loop.{Turn}
 use Rattle.spec_judgement.specs.Judge.{Inventory, Targets}
-use Rattle.spec_judgement.specs.Asked.{Placed}
+use Rattle.spec_judgement.specs.Asked.{TargetsHeld}
 use Rattle.spec_judgement.specs.declared.Target.{Target}
 use Rattle.spec_judgement.specs.Target.{target_tone, target_weight, target_of, with_target, aim_at}
 
@@ -20,17 +20,17 @@ no_targets = record { items = [] }
 abbrev no_target : Target
 no_target = record { place = 0; weight = nan }
 
-pub placed_none : (tones : ℕ) → Placed tones no_targets
+pub placed_none : (tones : ℕ) → TargetsHeld tones no_targets
 placed_none tones = record { few = omega arith; each = λ k h. absurd (omega arith) }
 
-module _ (tones : ℕ) (t : Target) (g : Targets) (p : Placed tones g) (room : length g.items < 5) (inside : t.place < tones) where
+module _ (tones : ℕ) (t : Target) (g : Targets) (p : TargetsHeld tones g) (room : length g.items < 5) (inside : t.place < tones) where
   here : (k : ℕ) → k ≡ length g.items → (get_or (g.items ++ t ∷ []) k no_target).place < tones
   here k q = rw (q, get_or-append_seam g.items t [] no_target) inside
 
   before : (k : ℕ) → k < length g.items → (get_or (g.items ++ t ∷ []) k no_target).place < tones
   before k h = rw (get_or-append g.items (t ∷ []) no_target k h) (p.each k h)
 
-  pub placed_more : (r : Targets) → r.items ≡ g.items ++ t ∷ [] → Placed tones r
+  pub placed_more : (r : Targets) → r.items ≡ g.items ++ t ∷ [] → TargetsHeld tones r
   placed_more r e = record {
     few = rw (e, length-append) (omega (arith, room));
     each = λ k h.

@@ -3,8 +3,8 @@
 #![tactic(auto)]
 
 ghost use Rattle.std.specs.Prelude.{◌≡◌, ◌==◌, IfSome, ◌≤◌, ◌<◌, length};
-ghost use Rattle.spec_judgement.specs.Asked.{Placed};
-ghost use Rattle.spec_judgement.specs.Target.{weight_fine, weights_fine, main_weight, variants_fine, place_of, target_of, targets_of};
+ghost use Rattle.spec_judgement.specs.Asked.{TargetsHeld};
+ghost use Rattle.spec_judgement.specs.Target.{variant_weight_good, variant_weights_good, main_weight, variants_good, place_of, target_of, targets_of};
 
 pub use spec_judgement::{Inventory, Target, Targets};
 
@@ -12,22 +12,22 @@ pub use spec_judgement::{Inventory, Target, Targets};
 const VARIANT_SUM_SLACK: f32 = 1e-6;
 
 // Whether a weight is finite and not below 0.
-#[tactic(auto, unfolding(spec_judgement::specs::Target::weight_fine))]
-fn weight_fine(w: f32) -> bool
-    ensures { result ≡ weight_fine w }
+#[tactic(auto, unfolding(spec_judgement::specs::Target::variant_weight_good))]
+fn variant_weight_good(w: f32) -> bool
+    ensures { result ≡ variant_weight_good w }
 {
     tonekit_float::is_finite(w) && 0.0 <= w
 }
 
 // Whether the weight of each of n variants is fine.
 // Stays: tried as `(0..n).all(..)`; that the runs of its closure are the definition's turns did not close.
-fn weights_fine(query: &[u8], n: u8) -> bool
+fn variant_weights_good(query: &[u8], n: u8) -> bool
     requires { n ≤ 4 }
-    ensures { result ≡ weights_fine query.now n }
+    ensures { result ≡ variant_weights_good query.now n }
 {
     let mut ok = true;
     for i in 0..usize::from(n) {
-        ok = ok & weight_fine(tonekit_query::variant_weight(query, i));
+        ok = ok & variant_weight_good(tonekit_query::variant_weight(query, i));
     }
     ok
 }
@@ -48,12 +48,12 @@ pub fn main_weight(query: &[u8], n: u8) -> f32
 
 // Whether a query's n variants may be judged: no weight below 0 or not finite, and no more than 1 in
 // all but for rounding.
-#[tactic(auto, unfolding(spec_judgement::specs::Target::variants_fine))]
-pub fn variants_fine(query: &[u8], n: u8) -> bool
+#[tactic(auto, unfolding(spec_judgement::specs::Target::variants_good))]
+pub fn variants_good(query: &[u8], n: u8) -> bool
     requires { n ≤ 4 }
-    ensures { result ≡ variants_fine query.now n }
+    ensures { result ≡ variants_good query.now n }
 {
-    weights_fine(query, n) && !(main_weight(query, n) < -VARIANT_SUM_SLACK)
+    variant_weights_good(query, n) && !(main_weight(query, n) < -VARIANT_SUM_SLACK)
 }
 
 // The place of a tone's number among the inventory's, none where it is not held.
@@ -82,7 +82,7 @@ fn target_of(inventory: &Inventory, n: u8, weight: f32) -> Option<Target>
 pub fn targets_of(inventory: &Inventory, query: &[u8], tone: u8, variants: u8) -> Option<Targets>
     requires { variants ≤ 4 }
     ensures { (result ≡ targets_of inventory.now query.now tone variants)
-        × IfSome result (λ g. Placed (length inventory.now.items) g) }
+        × IfSome result (λ g. TargetsHeld (length inventory.now.items) g) }
 {
     let main = tonekit_float::greater(main_weight(query, variants), 0.0);
     let mut g = Targets::new();

@@ -31,13 +31,13 @@ shape_of-x-requires c =
     let h = e.inside (omega (arith, n)) in
     record { enough = n; ordered = e.ordered; counted = e.counted; inside = omega (arith, h, c.requires.1) }
 
-pub judge-j-requires : goal.judge-j-requires
-judge-j-requires c = (c.requires.0, rw c.in-Some.is at c.targets_of.ensures.1)
+pub judgement_of-j-requires : goal.judgement_of-j-requires
+judgement_of-j-requires c = (c.requires.0, rw c.in-Some.is at c.targets_of.ensures.1)
 
 pub returns : goal.returns
 returns c =
     delivers_same _ _ _ _ _
     (target_held _ _ _ c.voiced_frames-e.result (voiced (goal.at.returns c).After-voiced_frames-e) _ (sym c.query_verdict.ensures ∙ c.in-Ok.is) _ c.targets_of.ensures.0 c.in-Some.targets c.in-Some.is
-    c.shape_of-x.result (rw (← c.frames-frames.ensures) c.shape_of-x.ensures) c.united-issues.result c.united-issues.ensures c.judge-j.result c.judge-j.ensures c.judgement_record-record.result
-    (c.judgement_record-record.ensures ∙ ap (λ (n : ℕ). judgement_bytes c.args.q.tone n c.judge-j.result) c.len.ensures.value))
+    c.shape_of-x.result (rw (← c.frames-frames.ensures) c.shape_of-x.ensures) c.united-issues.result c.united-issues.ensures c.judgement_of-j.result c.judgement_of-j.ensures c.judgement_record-record.result
+    (c.judgement_record-record.ensures ∙ ap (λ (n : ℕ). judgement_bytes c.args.q.tone n c.judgement_of-j.result) c.len.ensures.value))
     c.write_record.ensures

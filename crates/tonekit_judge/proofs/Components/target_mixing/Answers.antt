@@ -7,7 +7,7 @@ use Rattle.tonekit_judge.proofs.Components.target_mixing.Goals as goal
 pub loop-target-preserved : goal.loop-target-preserved
 loop-target-preserved c =
     let l = c.loop-target in
-    again _ l.invariant (search rules) (rw (c.part_mixing-m.ensures, c.count.ensures, c.deref.ensures.0, c.from-t.ensures, c.deref-target-items.ensures.0) refl)
+    again _ l.invariant (search rules) (rw (c.part_mixing-m.ensures, c.count_of.ensures, c.deref.ensures.0, c.from-t.ensures, c.deref-target-items.ensures.0) refl)
 
 pub returns : goal.returns
 unfolding target_mixing
