@@ -65,7 +65,6 @@ carried c = record { owner = c.name.owner; form = c.name.form; label = c.name.la
 
 -- the first n components of a listing
 unfoldable pub components : List ℕ → Listing → ℕ → List Carried
-unfolding carried component_of
 components s l zero = []
 components s l (suc n) = components s l n ++ (carried (component_of s l n) ∷ [])
 
@@ -96,5 +95,4 @@ accent_at s o = record {
 
 -- what a pack that was read holds
 unfoldable pub source_of_pack : List ℕ → Pst → Source
-unfolding look_up components
 source_of_pack s st = record { settings = settings_at s 0; tones = map (tone_at s) st.tones; accents = map (accent_at s) st.accents; look = λ c. given s (look_up s st c) }

@@ -55,7 +55,6 @@ holds s (o ∷ os) n = eqb (number_at s o) n || holds s os n
 
 -- "Zero means no parent, any tone, any prev": 0, or the number of one of these records
 unfoldable pub zero_or_held : List ℕ → List ℕ → ℕ → Bool
-unfolding holds
 zero_or_held s os n = eqb n 0 || holds s os n
 
 -- the verdict of one test after another: crowded, off scale, doubled, loose
@@ -80,7 +79,6 @@ tone_fine s o =
     && (a_share (f32_at s (o + TONE_PRIOR)) && (knots_fine s (o + TONE_KNOTS) (byte_at s (o + TONE_KNOT_COUNT)) && region_fine s (o + TONE_REGION)))
 
 unfoldable pub tone_verdict : List ℕ → ℕ → Pst → Result Unit Refusal
-unfolding holds
 tone_verdict s o st = in_turn (tone_crowded s o st) (tone_fine s o) (not (holds s st.tones (number_at s o))) true
 
 -- number, parent ("A parent stands earlier in the file"), tolerances
@@ -88,7 +86,6 @@ abbrev pub accent_fine : List ℕ → ℕ → Bool
 accent_fine s o = not (eqb (number_at s o) 0) && tolerances_fine s (o + ACCENT_CONTOUR)
 
 unfoldable pub accent_verdict : List ℕ → ℕ → Pst → Result Unit Refusal
-unfolding holds zero_or_held
 accent_verdict s o st =
     in_turn
     (leb 8 (length st.accents))
@@ -106,7 +103,6 @@ rule_held s o st =
     zero_or_held s st.tones (byte_at s (o + RULE_TONE)) && zero_or_held s st.tones (byte_at s (o + RULE_PREV))
 
 unfoldable pub rule_verdict : List ℕ → ℕ → Pst → Result Unit Refusal
-unfolding zero_or_held
 rule_verdict s o st = in_turn (leb 64 (length st.rules)) (rule_fine s o) true (rule_held s o st)
 
 -- the offset of the last rule
@@ -132,7 +128,6 @@ unfoldable pub part_verdict : List ℕ → ℕ → Pst → Result Unit Refusal
 part_verdict s o st = in_turn (part_crowded s o st) (part_fine (single s st) s o) true true
 
 unfoldable pub body_verdict : ℕ → List ℕ → ℕ → Pst → Result Unit Refusal
-unfolding settings_verdict tone_verdict accent_verdict rule_verdict part_verdict
 body_verdict k s o st =
     cond (eqb k SETTINGS_KIND) (settings_verdict s o)
     (cond (eqb k TONE_KIND) (tone_verdict s o st)

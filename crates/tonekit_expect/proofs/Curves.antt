@@ -10,7 +10,8 @@ use Rattle.tonekit_core.specs.Loop.{turns, range}
 use Rattle.tonekit_float.proofs.Order.{yes}
 use Rattle.spec_arithmetic.specs.Fields.{byte_at, f32_at}
 use Rattle.spec_arithmetic.specs.Places.{index_of, number_at}
-use Rattle.spec_pack.specs.Ranges.{knot_fine, slot_fine, slot_turn, knots_fine}
+use Rattle.spec_pack.specs.Ranges.{knot_fine, slot_fine, knots_fine}
+use Rattle.tonekit_pack.proofs.SlotTurn.{slot_turn}
 use Rattle.spec_pack.specs.Pack.{Pst, loaded, read_pack, parts_from}
 use Rattle.std.specs.Prelude.{Some, None}
 use Rattle.spec_lookup.specs.declared.Context.{Context}
