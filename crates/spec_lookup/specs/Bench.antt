@@ -2,6 +2,7 @@
 use Rattle.std.specs.Prelude.{ℕ, ◌≡◌, refl, Bool, true, false, List, [], ◌∷◌, ◌++◌, Some, None, replicate, Float}
 use Rattle.std.specs.Float.{binary32, binary64}
 use Rattle.std.specs.Float.Ieee.{add, sub, mul, div, of_int, of_bits, le, lt}
+use Rattle.tonekit_core.specs.declared.layout.TheConstants.{ACCENT_CONTOUR, TONE_REGION}
 use Rattle.tonekit_core.specs.Loop.{turns, range, turns_to, range_to, loop_on, loop_to}
 use Rattle.spec_arithmetic.specs.Whole.{whole_part}
 use Rattle.spec_arithmetic.specs.Narrow.{narrowed}
@@ -125,7 +126,7 @@ record2 =
     2 ∷ 1 ∷ 2 ∷ 3 ∷ 4 ∷ 5 ∷ 6 ∷ 7 ∷ 8 ∷ 9 ∷ 10 ∷ 11 ∷ 12 ∷ 13 ∷ 14 ∷ 15 ∷ 16 ∷ 17 ∷ 18 ∷ 19 ∷ 20 ∷ 21 ∷ 22 ∷ 23 ∷ 24 ∷ 25 ∷ 26 ∷ 27 ∷
     28 ∷ 29 ∷ 30 ∷ 31 ∷ 32 ∷ 33 ∷ 34 ∷ 35 ∷ 36 ∷ 37 ∷ 38 ∷ 39 ∷ 40 ∷ 41 ∷ 42 ∷ 43 ∷ 44 ∷ 45 ∷ 46 ∷ 47 ∷ 48 ∷ 49 ∷ 50 ∷ 51 ∷ 52 ∷ 53 ∷ 54 ∷ 55 ∷ []
 
-fields2 : (tone_at record2 0 ≡ record { number = 1; prior = 0x0504_0302; flag = 47; from = 0x3332_3130; to = 0x3736_3534 })
+fields2 : (tone_at TONE_REGION record2 0 ≡ record { number = 1; prior = 0x0504_0302; flag = 47; from = 0x3332_3130; to = 0x3736_3534 })
     × (tone_knots_at record2 0 ≡ f32 0x0a09_0807 ∷ f32 0x0e0d_0c0b ∷ f32 0x1211_100f ∷ f32 0x1615_1413 ∷ f32 0x1a19_1817 ∷ f32 0x1e1d_1c1b ∷ [])
 unfolding knots_at
 fields2 = (refl, refl)
@@ -133,7 +134,7 @@ fields2 = (refl, refl)
 abbrev record3 : List ℕ
 record3 = 3 ∷ 1 ∷ 2 ∷ 3 ∷ 4 ∷ 5 ∷ 6 ∷ 7 ∷ 8 ∷ 9 ∷ 10 ∷ 11 ∷ 12 ∷ 13 ∷ 14 ∷ 15 ∷ 16 ∷ 17 ∷ 18 ∷ []
 
-fields3 : accent_at record3 0 ≡ record { number = 1; contour = 0x0605_0403; onset = 0x0a09_0807; offset = 0x0e0d_0c0b; turning = 0x1211_100f }
+fields3 : accent_at ACCENT_CONTOUR record3 0 ≡ record { number = 1; contour = 0x0605_0403; onset = 0x0a09_0807; offset = 0x0e0d_0c0b; turning = 0x1211_100f }
 fields3 = refl
 
 -- label 0x0908, tone 3, prev 4, final 2, form 6, and no part behind it

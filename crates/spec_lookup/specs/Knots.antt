@@ -15,12 +15,10 @@ abbrev pub knot_before : Float → ℕ → ℕ
 knot_before x last = min (whole_part x) (last - 1)
 
 unfoldable pub segment : ℕ → ℕ → ℕ
-unfolding position
 segment i last = knot_before (position i last) last
 
 -- how far past that knot the point lies
 unfoldable pub fraction : ℕ → ℕ → Float
-unfolding position segment
 fraction i last = sub binary64 (position i last) (whole64 (segment i last))
 
 -- the point at t of the line from a to b: the knots' difference is an f32, the rest f64, narrowed at the end
@@ -37,7 +35,6 @@ point_at knots i =
 
 -- the first n points
 unfoldable pub first_points : List Float → ℕ → List Float
-unfolding point_at
 first_points knots zero = []
 first_points knots (suc n) = first_points knots n ++ (point_at knots n ∷ [])
 

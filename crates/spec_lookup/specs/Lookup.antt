@@ -25,10 +25,6 @@ Look = Option Listing
 abbrev pub Walked : Type 0
 Walked = Option Winner
 
--- the rule at offset r, of accent i
-abbrev pub won : ℕ → ℕ → Winner
-won i r = record { accent = i; rule = r }
-
 -- a rule's final that asks for this phrase position: 1 is no, 2 is yes
 abbrev pub final_of : Context → ℕ
 final_of c = cond c.last 2 1
@@ -38,7 +34,6 @@ unfoldable pub meets : ℕ → ℕ → Bool
 meets c x = eqb c 0 || eqb c x
 
 unfoldable pub matches : List ℕ → Context → ℕ → Bool
-unfolding meets
 matches s c r =
     meets (byte_at s (r + RULE_TONE)) c.tone
     && (meets (byte_at s (r + RULE_PREV)) c.prev && meets (byte_at s (r + RULE_FINAL)) (final_of c))
@@ -57,7 +52,6 @@ more_than s None r = true
 more_than s (Some b) r = ltb (specificity s b) (specificity s r)
 
 unfoldable pub better_of : List ℕ → Context → Found → ℕ → Found
-unfolding matches specificity
 better_of s c best r = cond (matches s c r && more_than s best r) (Some r) best
 
 -- the rules of accent i: from those that stood before it to those before the next accent
@@ -67,13 +61,9 @@ from_rule st i = get_or st.firsts i 0
 abbrev pub to_rule : Pst → ℕ → ℕ
 to_rule st i = cond (ltb (i + 1) (length st.accents)) (get_or st.firsts (i + 1) 0) (length st.rules)
 
-abbrev pub best_turn : List ℕ → List ℕ → Context → ℕ → Found → Found
-best_turn s rules c k best = better_of s c best (get_or rules k 0)
-
 -- the best of them that match
 unfoldable pub best_rule : List ℕ → Pst → Context → ℕ → Found
-unfolding better_of
-best_rule s st c i = range (best_turn s st.rules c) (from_rule st i) (to_rule st i) None
+best_rule s st c i = range (λ k best. better_of s c best (get_or st.rules k 0)) (from_rule st i) (to_rule st i) None
 
 -- "from the graded accent up its parents, the first accent with any matching rule gives its most specific one"
 abbrev pub to_parent : Found → Turn ℕ Walked
@@ -85,16 +75,14 @@ abbrev pub parent_of : List ℕ → Pst → ℕ → Found
 parent_of s st i = index_of s st.accents (byte_at s (get_or st.accents i 0 + ACCENT_PARENT))
 
 abbrev pub or_parent : List ℕ → Pst → ℕ → Found → Turn ℕ Walked
-or_parent s st i (Some r) = stop (Some (won i r))
+or_parent s st i (Some r) = stop (Some (record { accent = i; rule = r }))
 or_parent s st i None = to_parent (parent_of s st i)
 
 unfoldable pub climb_turn : List ℕ → Pst → Context → ℕ → Turn ℕ Walked
-unfolding best_rule index_of
 climb_turn s st c i = or_parent s st i (best_rule s st c i)
 
 -- `find_rule`: a walk of at most as many steps as there are accents
 unfoldable pub find_rule : List ℕ → Pst → Context → ℕ → Walked
-unfolding climb_turn
 find_rule s st c i = loop_to (climb_turn s st c) None (length st.accents) i
 
 -- a winner is the rule of one of n accents, at an offset as offsets are held
@@ -125,7 +113,6 @@ look_at s st c None t = None
 look_at s st c (Some i) None = None
 
 unfoldable pub look_up : List ℕ → Pst → Context → Look
-unfolding find_rule index_of parts_from
 look_up s st c = look_at s st c (index_of s st.accents c.accent) (index_of s st.tones c.tone)
 
 -- the knots of the tone's record at o, and of the part's
@@ -137,7 +124,6 @@ part_knots_at s o = knots_at s (o + PART_KNOTS) (byte_at s (o + PART_KNOT_COUNT)
 
 -- component j of a listing. A citation has weight 1 and its knots in the tone's record; a part has both in its own. "Part number": its place in a mixture
 unfoldable pub component_of : List ℕ → Listing → ℕ → Component
-unfolding knots_at
 component_of s l j =
     cond (eqb l.name.form CITATION_FORM) (record { name = l.name; part = 0; weight = one_f; points = expanded (tone_knots_at s l.at) })
     (record {

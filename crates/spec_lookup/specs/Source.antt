@@ -3,8 +3,8 @@ use Rattle.std.specs.Prelude.{ℕ, zero, suc, ◌+◌, Bool, false, cond, ◌||�
 use Rattle.std.proofs.Math.Option.{Option, none, some}
 use Rattle.std.specs.Float.{binary32}
 use Rattle.std.specs.Float.Ieee.{to_bits}
-use Rattle.tonekit_core.specs.declared.layout.TheConstants.{SETTINGS_TEMPERATURE, SETTINGS_THRESHOLD, TONE_PRIOR, TONE_REGION, TONE_FROM, TONE_TO}
-use Rattle.tonekit_core.specs.declared.layout.TheConstants.{ACCENT_CONTOUR, ACCENT_ONSET, ACCENT_OFFSET, ACCENT_TURNING}
+use Rattle.tonekit_core.specs.declared.layout.TheConstants.{SETTINGS_TEMPERATURE, SETTINGS_THRESHOLD, TONE_PRIOR, TONE_REGION, REGION_FROM, REGION_TO}
+use Rattle.tonekit_core.specs.declared.layout.TheConstants.{ACCENT_CONTOUR, TOLERANCE_ONSET, TOLERANCE_OFFSET, TOLERANCE_TURNING}
 use Rattle.spec_arithmetic.specs.Fields.{byte_at, u32_at}
 use Rattle.spec_arithmetic.specs.Places.{number_at}
 use Rattle.spec_pack.specs.Pack.{Pst}
@@ -65,7 +65,6 @@ carried c = record { owner = c.name.owner; form = c.name.form; label = c.name.la
 
 -- the first n components of a listing
 unfoldable pub components : List ℕ → Listing → ℕ → List Carried
-unfolding carried component_of
 components s l zero = []
 components s l (suc n) = components s l n ++ (carried (component_of s l n) ∷ [])
 
@@ -76,25 +75,25 @@ given s (Some l) = some (components s l l.count)
 abbrev pub settings_at : List ℕ → ℕ → Settings
 settings_at s o = record { temperature = u32_at s (o + SETTINGS_TEMPERATURE); threshold = u32_at s (o + SETTINGS_THRESHOLD) }
 
-abbrev pub tone_at : List ℕ → ℕ → Tone
-tone_at s o = record {
+-- a tone's record at o, with its region at that place, and an accent's with its tolerances: they stand elsewhere in a sheet
+abbrev pub tone_at : ℕ → List ℕ → ℕ → Tone
+tone_at region s o = record {
   number = number_at s o;
   prior = u32_at s (o + TONE_PRIOR);
-  flag = byte_at s (o + TONE_REGION);
-  from = u32_at s (o + TONE_FROM);
-  to = u32_at s (o + TONE_TO);
+  flag = byte_at s (o + region);
+  from = u32_at s (o + (region + REGION_FROM));
+  to = u32_at s (o + (region + REGION_TO));
 }
 
-abbrev pub accent_at : List ℕ → ℕ → Accent
-accent_at s o = record {
+abbrev pub accent_at : ℕ → List ℕ → ℕ → Accent
+accent_at contour s o = record {
   number = number_at s o;
-  contour = u32_at s (o + ACCENT_CONTOUR);
-  onset = u32_at s (o + ACCENT_ONSET);
-  offset = u32_at s (o + ACCENT_OFFSET);
-  turning = u32_at s (o + ACCENT_TURNING);
+  contour = u32_at s (o + contour);
+  onset = u32_at s (o + (contour + TOLERANCE_ONSET));
+  offset = u32_at s (o + (contour + TOLERANCE_OFFSET));
+  turning = u32_at s (o + (contour + TOLERANCE_TURNING));
 }
 
 -- what a pack that was read holds
 unfoldable pub source_of_pack : List ℕ → Pst → Source
-unfolding look_up components
-source_of_pack s st = record { settings = settings_at s 0; tones = map (tone_at s) st.tones; accents = map (accent_at s) st.accents; look = λ c. given s (look_up s st c) }
+source_of_pack s st = record { settings = settings_at s 0; tones = map (tone_at TONE_REGION s) st.tones; accents = map (accent_at ACCENT_CONTOUR s) st.accents; look = λ c. given s (look_up s st c) }

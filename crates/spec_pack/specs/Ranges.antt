@@ -38,15 +38,10 @@ weight_fine bits = ltb bits 0x7f80_0000
 
 -- ten slots from an offset on, of which the first n are knots; "unused slots are zero bytes"
 unfoldable pub slot_fine : List ℕ → ℕ → ℕ → ℕ → Bool
-unfolding knot_fine
 slot_fine s o n k = cond (ltb k n) (knot_fine (f32_at s (o + F32_SIZE * k))) (eqb (u32_at s (o + F32_SIZE * k)) 0)
 
-abbrev pub slot_turn : List ℕ → ℕ → ℕ → ℕ → Bool → Bool
-slot_turn s o n k ok = ok && slot_fine s o n k
-
 unfoldable pub knots_fine : List ℕ → ℕ → ℕ → Bool
-unfolding slot_fine
-knots_fine s o n = range (slot_turn s o n) 0 10 true
+knots_fine s o n = range (λ k ok. ok && slot_fine s o n k) 0 10 true
 
 -- "flag 0 or 1; regions finite, from ≤ to"; "from and to where the flag is 0, are zero bytes". The flag stands at o, from and to behind it
 unfoldable pub region_fine : List ℕ → ℕ → Bool
@@ -56,6 +51,5 @@ region_fine s o =
 
 -- the four tolerances from an offset on
 unfoldable pub tolerances_fine : List ℕ → ℕ → Bool
-unfolding above_zero
 tolerances_fine s o =
     above_zero (f32_at s o) && (above_zero (f32_at s (o + TOLERANCE_ONSET)) && (above_zero (f32_at s (o + TOLERANCE_OFFSET)) && above_zero (f32_at s (o + TOLERANCE_TURNING))))

@@ -17,11 +17,8 @@ variant_fine s i =
     ltb i (byte_at s QUERY_VARIANT_COUNT)
     || (eqb (byte_at s (VARIANT_TONES + VARIANT_SIZE * i)) 0 && eqb (u32_at s (VARIANT_WEIGHTS + VARIANT_SIZE * i)) 0)
 
-abbrev pub variant_turn : List ℕ → ℕ → Bool → Bool
-variant_turn s i ok = ok && variant_fine s i
-
 unfoldable pub variants_fine : List ℕ → Bool
-variants_fine s = range (variant_turn s) 0 4 true
+variants_fine s = range (λ i ok. ok && variant_fine s i) 0 4 true
 
 -- the fixed record: counts past their limits are 4; final is 0 or 1; "bits 10 to 15 are clear"
 unfoldable pub record_verdict : List ℕ → Result Unit Refusal

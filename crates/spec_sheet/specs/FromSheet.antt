@@ -1,33 +1,15 @@
 -- What a station holds that was read from a sheet.
 use Rattle.std.specs.Prelude.{ℕ, zero, suc, ◌+◌, ◌*◌, cond, List, [], ◌∷◌, ◌++◌, Option as Found, Some, None, map, eqb, length, get_or}
 use Rattle.std.proofs.Math.Option.{Option, none, some}
-use Rattle.tonekit_core.specs.declared.layout.TheConstants.{F32_SIZE, SHEET_TONE_PRIOR, SHEET_TONE_REGION, SHEET_TONE_FROM, SHEET_TONE_TO}
-use Rattle.tonekit_core.specs.declared.layout.TheConstants.{SHEET_ACCENT_CONTOUR, SHEET_ACCENT_ONSET, SHEET_ACCENT_OFFSET, SHEET_ACCENT_TURNING, SHEET_ROW_LIST, SHEET_ROW_FINAL_LIST}
+use Rattle.tonekit_core.specs.declared.layout.TheConstants.{F32_SIZE, SHEET_TONE_REGION}
+use Rattle.tonekit_core.specs.declared.layout.TheConstants.{SHEET_ACCENT_CONTOUR, SHEET_ROW_LIST, SHEET_ROW_FINAL_LIST}
 use Rattle.tonekit_core.specs.declared.layout.TheConstants.{SHEET_LIST_SIZE, SHEET_LIST_OWNER, SHEET_LIST_FORM, SHEET_LIST_LABEL, SHEET_LIST_COUNT}
 use Rattle.tonekit_core.specs.declared.layout.TheConstants.{SHEET_COMPONENT_SIZE, SHEET_COMPONENT_WEIGHT, SHEET_COMPONENT_POINTS}
 use Rattle.spec_arithmetic.specs.Fields.{byte_at, u16_at, u32_at}
 use Rattle.spec_arithmetic.specs.Places.{number_at, index_of}
-use Rattle.spec_lookup.specs.Source.{Tone, Accent, Carried, Source, settings_at}
+use Rattle.spec_lookup.specs.Source.{Carried, Source, settings_at, tone_at, accent_at}
 use Rattle.spec_lookup.specs.declared.Context.{Context}
 use Rattle.spec_sheet.specs.Reader.{Sst, row_at}
-
-abbrev pub tone_at : List ℕ → ℕ → Tone
-tone_at s o = record {
-  number = number_at s o;
-  prior = u32_at s (o + SHEET_TONE_PRIOR);
-  flag = byte_at s (o + SHEET_TONE_REGION);
-  from = u32_at s (o + SHEET_TONE_FROM);
-  to = u32_at s (o + SHEET_TONE_TO);
-}
-
-abbrev pub accent_at : List ℕ → ℕ → Accent
-accent_at s o = record {
-  number = number_at s o;
-  contour = u32_at s (o + SHEET_ACCENT_CONTOUR);
-  onset = u32_at s (o + SHEET_ACCENT_ONSET);
-  offset = u32_at s (o + SHEET_ACCENT_OFFSET);
-  turning = u32_at s (o + SHEET_ACCENT_TURNING);
-}
 
 -- n numbers of four bytes from an offset on
 unfoldable pub bits_at : List ℕ → ℕ → ℕ → List ℕ
@@ -79,4 +61,4 @@ unfoldable pub look_sheet : List ℕ → Sst → Context → Option (List Carrie
 look_sheet s st c = look_placed s st c (index_of s st.accents c.accent) (index_of s st.tones c.tone) (prev_found s st c.prev)
 
 unfoldable pub source_of_sheet : List ℕ → Sst → Source
-source_of_sheet s st = record { settings = settings_at s 0; tones = map (tone_at s) st.tones; accents = map (accent_at s) st.accents; look = look_sheet s st }
+source_of_sheet s st = record { settings = settings_at s 0; tones = map (tone_at SHEET_TONE_REGION s) st.tones; accents = map (accent_at SHEET_ACCENT_CONTOUR s) st.accents; look = look_sheet s st }

@@ -2,8 +2,9 @@
 use Rattle.std.specs.Prelude.{ℕ, ◌≡◌, refl, Bool, true, false, cond, List, [], ◌∷◌, ◌++◌, eqb, replicate}
 use Rattle.std.proofs.Math.Option.{Option, none, some}
 use Rattle.std.proofs.Common.{inl, inr}
+use Rattle.tonekit_core.specs.declared.layout.TheConstants.{SHEET_ACCENT_CONTOUR, SHEET_TONE_REGION}
 use Rattle.tonekit_core.specs.Loop.{turns, range, turns_to, range_to}
-use Rattle.spec_lookup.specs.Source.{Settings, Tone, Accent, Carried, Source, accent_in, tone_in, settings_at}
+use Rattle.spec_lookup.specs.Source.{Settings, Tone, Accent, Carried, Source, accent_in, tone_in, settings_at, tone_at, accent_at}
 use Rattle.spec_arithmetic.specs.Places.{index_of}
 use Rattle.spec_lookup.specs.declared.Context.{Context}
 use Rattle.spec_sheet.specs.Agree.{Held}
@@ -12,7 +13,7 @@ use Rattle.spec_sheet.specs.Pieces.{pieces, gather}
 use Rattle.spec_sheet.specs.Sheet.{asc_from, ascending, row_context, view_of, lists_of, bits_bytes, components_bytes, bytes_with, bytes_of, sheet}
 use Rattle.spec_sheet.specs.Sheet.{settings_bytes, tone_bytes, accent_bytes, row_bytes, head_bytes, component_bytes, list_bytes}
 use Rattle.spec_sheet.specs.Reader.{Sst, row_due, row_names, list_size}
-use Rattle.spec_sheet.specs.FromSheet.{tone_at, accent_at, bits_at, carried_at, carried_from, list_numbered, look_sheet, source_of_sheet}
+use Rattle.spec_sheet.specs.FromSheet.{bits_at, carried_at, carried_from, list_numbered, look_sheet, source_of_sheet}
 
 -- a component of this owner, label, weight and first point
 abbrev curve : ℕ → ℕ → ℕ → ℕ → Carried
@@ -168,7 +169,7 @@ record18 = 18 ∷ 1 ∷ 2 ∷ 3 ∷ 4 ∷ 5 ∷ 6 ∷ 7 ∷ 8 ∷ 9 ∷ 10 ∷ 1
 abbrev tone18 : Tone
 tone18 = record { number = 1; prior = 0x0504_0302; flag = 6; from = 0x0a09_0807; to = 0x0e0d_0c0b }
 
-fields18 : (tone_at record18 0 ≡ tone18) × (tone_bytes tone18 ≡ record18)
+fields18 : (tone_at SHEET_TONE_REGION record18 0 ≡ tone18) × (tone_bytes tone18 ≡ record18)
 fields18 = (refl, refl)
 
 abbrev record19 : List ℕ
@@ -177,7 +178,7 @@ record19 = 19 ∷ 1 ∷ 2 ∷ 3 ∷ 4 ∷ 5 ∷ 6 ∷ 7 ∷ 8 ∷ 9 ∷ 10 ∷ 1
 abbrev accent19 : Accent
 accent19 = record { number = 1; contour = 0x0504_0302; onset = 0x0908_0706; offset = 0x0d0c_0b0a; turning = 0x1110_0f0e }
 
-fields19 : (accent_at record19 0 ≡ accent19) × (accent_bytes accent19 ≡ record19)
+fields19 : (accent_at SHEET_ACCENT_CONTOUR record19 0 ≡ accent19) × (accent_bytes accent19 ≡ record19)
 fields19 = (refl, refl)
 
 -- the third row of a sheet of tones 2 and 3 and of accent 1; list 3 is the greatest before it

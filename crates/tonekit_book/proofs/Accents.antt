@@ -97,7 +97,7 @@ module _ (s : List ℕ) (at : ℕ) (fin : Pst) (a q : ℕ) (r : List ℕ) (g : G
       }
 
   -- an accent by its own bytes
-  accent_own : length r ≡ 19 → Stands s at r → accent_at s at ≡ accent_at r 0
+  accent_own : length r ≡ 19 → Stands s at r → accent_at 3 s at ≡ accent_at 3 r 0
   accent_own n h =
       let b = byte_same s at r h (at + 1) 1 refl (omega arith) in
       let c = u32_same s at r h (at + 3) 3 refl (omega arith) in
@@ -116,7 +116,7 @@ module _ (s : List ℕ) (at : ℕ) (fin : Pst) (a q : ℕ) (r : List ℕ) (g : G
       let number = byte_same s at r h (at + 1) 1 refl (omega arith) in
       let own : (o : ℕ) → o ≡ at → tabulate (λ k. rule_at s (number_at s o) (get_or fin.rules k 0)) (to_rule fin a - q) q ≡ map (λ (y : List ℕ). rule_at y (number_at r 0) 0) g.rules =
       λ o w. x.rules (number_at s o) ∙ ap (λ m. map (λ (y : List ℕ). rule_at y m 0) g.rules) (ap (number_at s) w ∙ number) in
-      let tolerances = ap (accent_at s) here ∙ accent_own n h in
+      let tolerances = ap (accent_at 3 s) here ∙ accent_own n h in
       let above = ap (λ o. byte_at s (o + 2)) here ∙ parent in
       let rules = ap (λ m. tabulate (λ k. rule_at s (number_at s (get_or fin.accents a 0)) (get_or fin.rules k 0)) (to_rule fin a - m) m) firsts ∙ own (get_or fin.accents a 0) here in
       let accent : pack_accent s fin a ≡ accent_of_group (record { head = r; rules = g.rules }) = λ i. record { accent = tolerances i; parent = above i; rules = rules i } in

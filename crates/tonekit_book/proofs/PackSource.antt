@@ -9,7 +9,7 @@ use Rattle.spec_pack.specs.Pack.{Pst, parts_from}
 use Rattle.tonekit_core.proofs.Split.{split}
 use Rattle.spec_lookup.specs.declared.Context.{Context}
 use Rattle.std.specs.Prelude.{Some, None}
-use Rattle.spec_lookup.specs.Lookup.{Found, Walked, won, matches, specificity, more_than, better_of, from_rule, to_rule, best_turn, best_rule, parent_of, or_parent, climb_turn, find_rule, rule_listing, listed, look_at, look_up}
+use Rattle.spec_lookup.specs.Lookup.{Found, Walked, matches, specificity, more_than, better_of, from_rule, to_rule, best_rule, parent_of, or_parent, climb_turn, find_rule, rule_listing, listed, look_at, look_up}
 use Rattle.spec_lookup.specs.Source.{Carried, components, given, settings_at, tone_at, accent_at, source_of_pack}
 use Rattle.tonekit_book.specs.Book.{Rule, BookAccent, BookTone, first_with, book_accent_in, rule_matches, conditions, better_rule, best_of, given_or, from_parent, climb, or_citation, look_with, look_in, source_of, tabulate, book_tone_at, rule_at, pack_tone, pack_accent, book_of}
 use Rattle.tonekit_book.proofs.Tabulate.{tabulate_length, map_tabulate, tabulate_all}
@@ -52,10 +52,13 @@ module _ (s : List ℕ) (owner : ℕ) (rules : List ℕ) (c : Context) where
   better_same (Some b) o = found_cond (matches s c o && more_than s (Some b) o) o (Some b)
   better_same None o = found_cond (matches s c o && true) o None
 
-  best_from : (k i : ℕ) (f : Found) → at_found rule (turns (best_turn s rules c) k i f) ≡ fold (better_rule c) (at_found rule f) (tabulate (λ k. rule (get_or rules k 0)) k i)
+  abbrev best_turn : ℕ → Found → Found
+  best_turn k best = better_of s c best (get_or rules k 0)
+
+  best_from : (k i : ℕ) (f : Found) → at_found rule (turns best_turn k i f) ≡ fold (better_rule c) (at_found rule f) (tabulate (λ k. rule (get_or rules k 0)) k i)
   unfolding turns fold tabulate
   best_from zero i f = refl
-  best_from (suc k) i f = best_from k (i + 1) (best_turn s rules c i f) ∙ ap (λ o. fold (better_rule c) o (tabulate (λ k. rule (get_or rules k 0)) k (i + 1))) (better_same f (get_or rules i 0))
+  best_from (suc k) i f = best_from k (i + 1) (best_turn i f) ∙ ap (λ o. fold (better_rule c) o (tabulate (λ k. rule (get_or rules k 0)) k (i + 1))) (better_same f (get_or rules i 0))
 
 pub best_same : (s : List ℕ) (st : Pst) (c : Context) (i owner : ℕ)
     → at_found (rule_at s owner) (best_rule s st c i) ≡ best_of c (tabulate (λ k. rule_at s owner (get_or st.rules k 0)) (to_rule st i - from_rule st i) (from_rule st i))
@@ -88,7 +91,7 @@ module _ (s : List ℕ) (st : Pst) (c : Context) where
       → its_list (loop_on (climb_turn s st c) None n (or_parent s st i f)) ≡ given_or (at_found (rule_at s (number_at s (get_or st.accents i 0))) f)
       (from_parent (climb accents c n) (at_found (pack_accent s st) p))
   unfolding loop_to
-  step n i ih (Some o) e p g = rw (stops (climb_turn s st c) None n (Some (won i o)))
+  step n i ih (Some o) e p g = rw (stops (climb_turn s st c) None n (Some (record { accent = i; rule = o })))
   step n i ih None e (Some j) g = rw g (ih j)
   step n i ih None e None g = rw (g, stops (climb_turn s st c) None n None)
 
@@ -126,6 +129,6 @@ module _ (s : List ℕ) (st : Pst) (c : Context) where
 pub pack_source : (s : List ℕ) (st : Pst) → source_of_pack s st ≡ source_of (book_of s st)
 unfolding source_of_pack source_of book_of
 pack_source s st =
-    let t = tabulate_all (tone_at s) st.tones ∙ sym (map_tabulate (λ (t : BookTone). t.tone) (pack_tone s st) (length st.tones) 0) in
-    let a = tabulate_all (accent_at s) st.accents ∙ sym (map_tabulate (λ (a : BookAccent). a.accent) (pack_accent s st) (length st.accents) 0) in
+    let t = tabulate_all (tone_at 47 s) st.tones ∙ sym (map_tabulate (λ (t : BookTone). t.tone) (pack_tone s st) (length st.tones) 0) in
+    let a = tabulate_all (accent_at 3 s) st.accents ∙ sym (map_tabulate (λ (a : BookAccent). a.accent) (pack_accent s st) (length st.accents) 0) in
     λ i. record { settings = settings_at s 0; tones = t i; accents = a i; look = λ c. look_same s st c i }

@@ -2,6 +2,7 @@
 -- lookup goes by numbers here.
 use Rattle.std.specs.Prelude.{ℕ, zero, suc, ◌+◌, ◌-◌, Bool, true, cond, ◌&&◌, List, [], ◌∷◌, map, eqb, ltb, length, get_or}
 use Rattle.std.proofs.Math.Option.{Option, none, some}
+use Rattle.tonekit_core.specs.declared.layout.TheConstants.{ACCENT_CONTOUR, TONE_REGION}
 use Rattle.tonekit_core.specs.declared.layout.TheConstants.{TONE_KNOT_COUNT, ACCENT_PARENT, RULE_SIZE, RULE_TONE, RULE_PREV, RULE_FINAL}
 use Rattle.tonekit_core.specs.Loop.{fold}
 use Rattle.spec_arithmetic.specs.Fields.{byte_at}
@@ -109,7 +110,7 @@ tabulate f (suc k) i = f i ∷ tabulate f k (i + 1)
 
 -- the tone, and the rule with the parts behind it, of the records at an offset
 abbrev pub book_tone_at : List ℕ → ℕ → BookTone
-book_tone_at s o = record { tone = tone_at s o; cited = λ n. cond (eqb (byte_at s (o + TONE_KNOT_COUNT)) 0) none (some (components s (citation n o) 1)) }
+book_tone_at s o = record { tone = tone_at TONE_REGION s o; cited = λ n. cond (eqb (byte_at s (o + TONE_KNOT_COUNT)) 0) none (some (components s (citation n o) 1)) }
 
 abbrev pub rule_at : List ℕ → ℕ → ℕ → Rule
 rule_at s owner o = record { tone = byte_at s (o + RULE_TONE); prev = byte_at s (o + RULE_PREV); final = byte_at s (o + RULE_FINAL); gives = components s (rule_listing s owner o) (parts_from 4 s (o + RULE_SIZE)) }
@@ -121,7 +122,7 @@ pack_tone s st i = book_tone_at s (get_or st.tones i 0)
 abbrev pub pack_accent : List ℕ → Pst → ℕ → BookAccent
 pack_accent s st i =
     let o = get_or st.accents i 0 in
-    record { accent = accent_at s o; parent = byte_at s (o + ACCENT_PARENT); rules = tabulate (λ k. rule_at s (number_at s o) (get_or st.rules k 0)) (to_rule st i - from_rule st i) (from_rule st i) }
+    record { accent = accent_at ACCENT_CONTOUR s o; parent = byte_at s (o + ACCENT_PARENT); rules = tabulate (λ k. rule_at s (number_at s o) (get_or st.rules k 0)) (to_rule st i - from_rule st i) (from_rule st i) }
 
 unfoldable pub book_of : List ℕ → Pst → Book
 unfolding tabulate

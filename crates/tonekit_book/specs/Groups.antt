@@ -1,5 +1,6 @@
 -- The book of a list of records, each by its own bytes: a rule's record with its parts, an accent's with its rules. They are grouped from the list's end.
 use Rattle.std.specs.Prelude.{ℕ, cond, List, [], ◌∷◌, ◌++◌, map, eqb}
+use Rattle.tonekit_core.specs.declared.layout.TheConstants.{ACCENT_CONTOUR}
 use Rattle.tonekit_core.specs.declared.layout.TheConstants.{TONE_KIND, ACCENT_KIND, ACCENT_PARENT, RULE_KIND, PART_KIND}
 use Rattle.spec_arithmetic.specs.Fields.{byte_at}
 use Rattle.spec_arithmetic.specs.Places.{number_at}
@@ -32,7 +33,7 @@ grouped (r ∷ rs) = grouped_with r (grouped rs)
 
 -- the accent of a group
 abbrev pub accent_of_group : AccentGroup → BookAccent
-accent_of_group g = record { accent = accent_at g.head 0; parent = byte_at g.head ACCENT_PARENT; rules = map (λ (r : List ℕ). rule_at r (number_at g.head 0) 0) g.rules }
+accent_of_group g = record { accent = accent_at ACCENT_CONTOUR g.head 0; parent = byte_at g.head ACCENT_PARENT; rules = map (λ (r : List ℕ). rule_at r (number_at g.head 0) 0) g.rules }
 
 -- the tones' records, in order
 unfoldable pub tone_records : List (List ℕ) → List (List ℕ)

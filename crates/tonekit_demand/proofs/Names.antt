@@ -10,7 +10,6 @@ use Rattle.tonekit_pack.proofs.Loads.{loads}
 use Rattle.spec_sheet.specs.Reader as sheet
 use Rattle.spec_sheet.specs.Sheet.{no_carried}
 use Rattle.spec_sheet.specs.FromSheet.{source_of_sheet}
-use Rattle.spec_sheet.specs.FromSheet as from_sheet
 use Rattle.tonekit_sheet.proofs.Turns as sheet-single
 use Rattle.spec_lookup.specs.Source.{Carried, Source, source_of_pack}
 use Rattle.spec_lookup.specs.Source as source
@@ -95,11 +94,11 @@ module _ (src : Source) (few : length src.tones ≤ 8) (alike : (c : Context) (c
 -- a pack that loads, and a sheet
 pack_few : (p : List ℕ) (st : pack.Pst) (e : ℕ) → pack.read_pack p ≡ files.loaded st e → length (source_of_pack p st).tones ≤ 8
 unfolding source_of_pack
-pack_few p st e r = omega (arith, length-map st.tones (source.tone_at p), (loads p st e r).kept.few_tones)
+pack_few p st e r = omega (arith, length-map st.tones (source.tone_at 47 p), (loads p st e r).kept.few_tones)
 
 sheet_few : (p : List ℕ) (st : sheet.Sst) (e : ℕ) → sheet.read_sheet p ≡ files.loaded st e → length (source_of_sheet p st).tones ≤ 8
 unfolding source_of_sheet
-sheet_few p st e r = omega (arith, length-map st.tones (from_sheet.tone_at p), tones_few p st e r)
+sheet_few p st e r = omega (arith, length-map st.tones (source.tone_at 6 p), tones_few p st e r)
 
 pub packs_name : PacksName
 packs_name p st e h =

@@ -10,9 +10,10 @@ use Rattle.tonekit_core.specs.Loop.{turns, range}
 use Rattle.tonekit_float.proofs.Order.{yes}
 use Rattle.spec_arithmetic.specs.Fields.{byte_at, f32_at}
 use Rattle.spec_arithmetic.specs.Places.{index_of, number_at}
-use Rattle.spec_pack.specs.Ranges.{knot_fine, slot_fine, slot_turn, knots_fine}
+use Rattle.spec_pack.specs.Ranges.{knot_fine, slot_fine, knots_fine}
 use Rattle.spec_arithmetic.specs.Files.{loaded}
 use Rattle.spec_pack.specs.Pack.{Pst, read_pack, parts_from}
+use Rattle.tonekit_pack.proofs.SlotTurn.{slot_turn}
 use Rattle.std.specs.Prelude.{Some, None}
 use Rattle.spec_lookup.specs.declared.Context.{Context}
 use Rattle.spec_lookup.specs.declared.Listing.{Listing}

@@ -8,7 +8,8 @@ use Rattle.tonekit_core.proofs.Split.{split}
 use Rattle.std.specs.Prelude.{Some, None}
 use Rattle.spec_lookup.specs.declared.Winner.{Winner}
 use Rattle.spec_lookup.specs.declared.Context.{Context}
-use Rattle.spec_lookup.specs.Lookup.{Found, Walked, won, matches, more_than, better_of, from_rule, to_rule, best_turn, best_rule, parent_of, or_parent, to_parent, climb_turn, find_rule, listed, look_at, look_up}
+use Rattle.spec_lookup.specs.Lookup.{Found, Walked, matches, more_than, better_of, from_rule, to_rule, best_rule, parent_of, or_parent, to_parent, climb_turn, find_rule, listed, look_at, look_up}
+use Rattle.tonekit_expect.specs.Walking.{best_turn, won}
 
 -- ---- the search
 module _ (s os : List ℕ) (n : ℕ) where

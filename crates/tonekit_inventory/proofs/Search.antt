@@ -42,7 +42,7 @@ module _ (s os : List ℕ) (n : ℕ) (tone_of : ℕ → Tone) (number : (o : ℕ
   tone_held = tones ∙ either (index_of s os n)
 
 -- the tolerances stand behind an accent's kind, number and parent
-pub tolerance : (s : List ℕ) (o : ℕ) → tolerance_at s (o + 3) ≡ tolerance_of (accent_at s o)
+pub tolerance : (s : List ℕ) (o : ℕ) → tolerance_at s (o + 3) ≡ tolerance_of (accent_at 3 s o)
 unfolding tolerance_at
 tolerance s o =
     let onset : o + 3 + 4 ≡ o + 7 = omega arith in
@@ -56,12 +56,12 @@ module _ (s : List ℕ) (p : Pack) (n : ℕ) where
       → Some t ≡ graded_of (accent_in (source_of_pack s (shown p)).accents n)
   unfolding source_of_pack
   graded_found i h e t q =
-      rw (accent_found s (shown p).accents n (accent_at s) (λ o. refl) i e, order_get p.accents.at p.accents.count i h)
+      rw (accent_found s (shown p).accents n (accent_at 3 s) (λ o. refl) i e, order_get p.accents.at p.accents.count i h)
       (ap Some (q ∙ tolerance s (get_or p.accents.at i 0)))
 
   pub graded_none : index_of s (shown p).accents n ≡ None → None ≡ graded_of (accent_in (source_of_pack s (shown p)).accents n)
   unfolding source_of_pack
-  graded_none e = rw (accent_none s (shown p).accents n (accent_at s) (λ o. refl) e)
+  graded_none e = rw (accent_none s (shown p).accents n (accent_at 3 s) (λ o. refl) e)
 
   pub inside : (i : ℕ) → index_of s (shown p).accents n ≡ Some i → i < p.accents.count
   inside i e = omega (arith, (index_found s (shown p).accents n i e).inside, order_length p.accents.at p.accents.count)

@@ -6,7 +6,8 @@ use Rattle.std.specs.Prelude.{Ok}
 use Rattle.tonekit_core.proofs.LoopLaws.{range_same}
 use Rattle.spec_arithmetic.specs.Fields.{byte_at}
 use Rattle.tonekit_bytes.proofs.Agreeing.{Agree, taken_agrees, four, float}
-use Rattle.spec_pack.specs.Ranges.{slot_fine, slot_turn, knots_fine, region_fine, tolerances_fine}
+use Rattle.spec_pack.specs.Ranges.{slot_fine, knots_fine, region_fine, tolerances_fine}
+use Rattle.tonekit_pack.proofs.SlotTurn.{slot_turn}
 use Rattle.spec_arithmetic.specs.Places.{number_at}
 use Rattle.spec_pack.specs.Pack.{Pst, size_of, holds, zero_or_held, last_rule, settings_verdict, tone_verdict, accent_verdict, rule_verdict, part_verdict, body_verdict, due_after, record_verdict, added, start, pack_reader, read_pack, load_pack}
 use Rattle.tonekit_core.proofs.Split.{split}

@@ -1,3 +1,4 @@
+pub mod SlotTurn
 pub mod Numbers
 pub mod ByKind
 pub mod Roomy

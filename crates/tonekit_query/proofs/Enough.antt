@@ -8,7 +8,8 @@ use Rattle.tonekit_core.proofs.LoopLaws.{range_same}
 use Rattle.spec_arithmetic.specs.Fields.{u16_at}
 use Rattle.tonekit_bytes.proofs.Agreeing.{Agree, taken_agrees, two, four, float}
 use Rattle.spec_query.specs.declared.Query.{Query}
-use Rattle.spec_query.specs.Query.{variant_fine, variant_turn, variants_fine, record_verdict, frame_verdict, fields_of, after_frame, frame_turn, read_frames, after_record, read_query, single, load_query, end_of}
+use Rattle.spec_query.specs.Query.{variant_fine, variants_fine, record_verdict, frame_verdict, fields_of, after_frame, frame_turn, read_frames, after_record, read_query, single, load_query, end_of}
+use Rattle.tonekit_query.proofs.VariantTurn.{variant_turn}
 use Rattle.tonekit_query.proofs.Laws.{read_holds, fixed}
 
 -- two inputs whose first 10,287 bytes are the same

@@ -1,3 +1,4 @@
+pub mod VariantTurn
 pub mod Parts
 pub mod Pitch
 pub mod Steps

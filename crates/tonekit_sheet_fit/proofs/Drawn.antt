@@ -9,7 +9,8 @@ use Rattle.tonekit_pack.proofs.Loads.{Loads, firsts_ascend, firsts_bound}
 use Rattle.std.specs.Prelude.{Some, None}
 use Rattle.spec_lookup.specs.declared.Context.{Context}
 use Rattle.spec_lookup.specs.declared.Listing.{Listing}
-use Rattle.spec_lookup.specs.Lookup.{Found, Walked, won, from_rule, to_rule, find_rule, rule_listing, citation, listed, look_at, look_up}
+use Rattle.spec_lookup.specs.Lookup.{Found, Walked, from_rule, to_rule, find_rule, rule_listing, citation, listed, look_at, look_up}
+use Rattle.tonekit_expect.specs.Walking.{won}
 use Rattle.spec_lookup.specs.Source.{Carried, components}
 use Rattle.tonekit_expect.proofs.Curves.{rules_in}
 use Rattle.tonekit_expect.proofs.Walk.{index_found, winner_of}

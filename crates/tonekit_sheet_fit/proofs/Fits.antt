@@ -92,8 +92,8 @@ pub fit_of_pack : (s : List ℕ) → Bytes s → (st : Pst) (e : ℕ) → read_p
 unfolding source_of_pack
 fit_of_pack s b st e p =
     let l = loads s st e p in
-    let t = length-map st.tones (tone_at s) in
-    let a = length-map st.accents (accent_at s) in
+    let t = length-map st.tones (tone_at 47 s) in
+    let a = length-map st.accents (accent_at 3 s) in
     record {
       settings = settings_fit s b st e l;
       some_tones = omega (arith, some_tones s st e l);

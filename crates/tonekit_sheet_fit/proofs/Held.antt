@@ -16,14 +16,14 @@ use Rattle.spec_sheet.specs.Sheet.{no_tone, no_accent}
 use Rattle.tonekit_sheet.specs.Fit.{SettingsFit, region_fits, ToneFit, AccentFit}
 
 module _ (s : List ℕ) (b : Bytes s) where
-  region_fits_lem : (o : ℕ) → region_fine s (o + 47) ≡ true → region_fits (tone_at s o) ≡ true
+  region_fits_lem : (o : ℕ) → region_fine s (o + 47) ≡ true → region_fits (tone_at 47 s o) ≡ true
   unfolding region_fine
   region_fits_lem o h =
       let p : o + 47 + 1 ≡ o + 48 = omega arith in
       let q : o + 47 + 5 ≡ o + 52 = omega arith in
       rw (p, q) at h
 
-  tone_fits : (before : List ℕ) (o : ℕ) → ToneFine s before o → ToneFit (tone_at s o)
+  tone_fits : (before : List ℕ) (o : ℕ) → ToneFine s before o → ToneFit (tone_at 47 s o)
   tone_fits before o t = record {
     least = t.number;
     byte = b (o + 1);
@@ -34,7 +34,7 @@ module _ (s : List ℕ) (b : Bytes s) where
     region = region_fits_lem o t.region;
   }
 
-  accent_fits : (before : List ℕ) (o : ℕ) → AccentFine s before o → AccentFit (accent_at s o)
+  accent_fits : (before : List ℕ) (o : ℕ) → AccentFine s before o → AccentFit (accent_at 3 s o)
   unfolding tolerances_fine
   accent_fits before o a =
       let p : o + 3 + 4 ≡ o + 7 = omega arith in
@@ -62,15 +62,15 @@ module _ (s : List ℕ) (b : Bytes s) where
         let t = l.kept.begun (omega arith) in
         record { temperature_bits = u32_below s b 1; threshold_bits = u32_below s b 5; temperature = t.1; threshold = t.2 }
 
-    pub tones_fit : (i : ℕ) → i < length (map (tone_at s) st.tones) → ToneFit (get_or (map (tone_at s) st.tones) i no_tone)
+    pub tones_fit : (i : ℕ) → i < length (map (tone_at 47 s) st.tones) → ToneFit (get_or (map (tone_at 47 s) st.tones) i no_tone)
     tones_fit i h =
-        let g : i < length st.tones = omega (arith, length-map st.tones (tone_at s)) in
-        rw (get_or-map (tone_at s) st.tones i 0 no_tone g) (tone_fits _ (get_or st.tones i 0) (l.kept.tones i g))
+        let g : i < length st.tones = omega (arith, length-map st.tones (tone_at 47 s)) in
+        rw (get_or-map (tone_at 47 s) st.tones i 0 no_tone g) (tone_fits _ (get_or st.tones i 0) (l.kept.tones i g))
 
-    pub accents_fit : (i : ℕ) → i < length (map (accent_at s) st.accents) → AccentFit (get_or (map (accent_at s) st.accents) i no_accent)
+    pub accents_fit : (i : ℕ) → i < length (map (accent_at 3 s) st.accents) → AccentFit (get_or (map (accent_at 3 s) st.accents) i no_accent)
     accents_fit i h =
-        let g : i < length st.accents = omega (arith, length-map st.accents (accent_at s)) in
-        rw (get_or-map (accent_at s) st.accents i 0 no_accent g) (accent_fits _ (get_or st.accents i 0) (l.kept.accents i g))
+        let g : i < length st.accents = omega (arith, length-map st.accents (accent_at 3 s)) in
+        rw (get_or-map (accent_at 3 s) st.accents i 0 no_accent g) (accent_fits _ (get_or st.accents i 0) (l.kept.accents i g))
 
 -- no two places of which the higher repeats the lower
 apart : (n : ℕ) (f : ℕ → ℕ) → ((i j : ℕ) → i < j → j < n → f i ≡ f j → ⊥) → (i j : ℕ) → i < n → j < n → f i ≡ f j → i ≡ j
@@ -80,30 +80,30 @@ apart n f h i j a b e =
     (λ t. split (ltb j i) (λ u. absurd (h j i (ltb-true j i u) a (sym e))) (λ u. omega (arith, ltb-false i j t, ltb-false j i u)))
 
 module _ (s : List ℕ) (st : Pst) (e : ℕ) (l : Loads s st e) where
-  pub tones_apart : (i j : ℕ) → i < length (map (tone_at s) st.tones) → j < length (map (tone_at s) st.tones)
-      → (get_or (map (tone_at s) st.tones) i no_tone).number ≡ (get_or (map (tone_at s) st.tones) j no_tone).number → i ≡ j
+  pub tones_apart : (i j : ℕ) → i < length (map (tone_at 47 s) st.tones) → j < length (map (tone_at 47 s) st.tones)
+      → (get_or (map (tone_at 47 s) st.tones) i no_tone).number ≡ (get_or (map (tone_at 47 s) st.tones) j no_tone).number → i ≡ j
   tones_apart i j h k q =
-      let n = length-map st.tones (tone_at s) in
+      let n = length-map st.tones (tone_at 47 s) in
       let g : i < length st.tones = omega arith in
       let m : j < length st.tones = omega arith in
       apart (length st.tones) (λ i. number_at s (get_or st.tones i 0)) (tones_once s st e l) i j g m
-      (sym (ap (λ (t : Tone). t.number) (get_or-map (tone_at s) st.tones i 0 no_tone g)) ∙ q ∙ ap (λ (t : Tone). t.number) (get_or-map (tone_at s) st.tones j 0 no_tone m))
+      (sym (ap (λ (t : Tone). t.number) (get_or-map (tone_at 47 s) st.tones i 0 no_tone g)) ∙ q ∙ ap (λ (t : Tone). t.number) (get_or-map (tone_at 47 s) st.tones j 0 no_tone m))
 
-  pub accents_apart : (i j : ℕ) → i < length (map (accent_at s) st.accents) → j < length (map (accent_at s) st.accents)
-      → (get_or (map (accent_at s) st.accents) i no_accent).number ≡ (get_or (map (accent_at s) st.accents) j no_accent).number → i ≡ j
+  pub accents_apart : (i j : ℕ) → i < length (map (accent_at 3 s) st.accents) → j < length (map (accent_at 3 s) st.accents)
+      → (get_or (map (accent_at 3 s) st.accents) i no_accent).number ≡ (get_or (map (accent_at 3 s) st.accents) j no_accent).number → i ≡ j
   accents_apart i j h k q =
-      let n = length-map st.accents (accent_at s) in
+      let n = length-map st.accents (accent_at 3 s) in
       let g : i < length st.accents = omega arith in
       let m : j < length st.accents = omega arith in
       apart (length st.accents) (λ i. number_at s (get_or st.accents i 0)) (accents_once s st e l) i j g m
-      (sym (ap (λ (a : Accent). a.number) (get_or-map (accent_at s) st.accents i 0 no_accent g)) ∙ q ∙ ap (λ (a : Accent). a.number) (get_or-map (accent_at s) st.accents j 0 no_accent m))
+      (sym (ap (λ (a : Accent). a.number) (get_or-map (accent_at 3 s) st.accents i 0 no_accent g)) ∙ q ∙ ap (λ (a : Accent). a.number) (get_or-map (accent_at 3 s) st.accents j 0 no_accent m))
 
 -- an accent's number is held
-pub accent_there : (s os : List ℕ) (i : ℕ) → i < length os → (a : Accent) × (accent_in (map (accent_at s) os) (number_at s (get_or os i 0)) ≡ some a)
+pub accent_there : (s os : List ℕ) (i : ℕ) → i < length os → (a : Accent) × (accent_in (map (accent_at 3 s) os) (number_at s (get_or os i 0)) ≡ some a)
 unfolding accent_in
 accent_there s [] i h = absurd (omega arith)
-accent_there s (o ∷ os) zero h = (accent_at s o, rw (eq-eqb (number_at s o) (number_at s o) refl))
+accent_there s (o ∷ os) zero h = (accent_at 3 s o, rw (eq-eqb (number_at s o) (number_at s o) refl))
 accent_there s (o ∷ os) (suc i) h =
     split (eqb (number_at s o) (number_at s (get_or os i 0)))
-    (λ t. (accent_at s o, rw t))
+    (λ t. (accent_at 3 s o, rw t))
     (λ t. rw t (accent_there s os i (omega arith)))

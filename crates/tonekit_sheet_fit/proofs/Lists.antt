@@ -26,7 +26,7 @@ use Rattle.tonekit_sheet_fit.proofs.Held.{accent_there}
 record Fine (s accents : List ℕ) (m : Listing) : Type 0 where
   any : 1 ≤ m.count
   few : m.count ≤ 4
-  owner : (a : Accent) × (accent_in (map (accent_at s) accents) m.name.owner ≡ some a)
+  owner : (a : Accent) × (accent_in (map (accent_at 3 s) accents) m.name.owner ≡ some a)
   least : 1 ≤ m.name.form
   most : m.name.form ≤ 3
   label : m.name.label < 65536

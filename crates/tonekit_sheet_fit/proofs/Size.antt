@@ -126,8 +126,8 @@ module _ (s : List ℕ) (st : Pst) (e : ℕ) (p : read_pack s ≡ loaded st e) w
   sheet_most_lem =
       let l = loads s st e p in
       let v = view_of (source_of_pack s st) in
-      bytes_most v (lists_of v) (omega (arith, l.kept.few_tones, length-map st.tones (tone_at s)))
-      (omega (arith, l.kept.few_accents, length-map st.accents (accent_at s), few_ascending (map (accent_at s) st.accents))) lists_most
+      bytes_most v (lists_of v) (omega (arith, l.kept.few_tones, length-map st.tones (tone_at 47 s)))
+      (omega (arith, l.kept.few_accents, length-map st.accents (accent_at 3 s), few_ascending (map (accent_at 3 s) st.accents))) lists_most
 
 -- "13,266 bytes always suffice"
 pub suffices : Suffices SHEET_MOST

@@ -3,19 +3,19 @@ use Rattle.std.proofs.Common.{ℕ, ◌+◌, ◌*◌, ◌<◌, ◌≡◌, refl, a
 use Rattle.std.specs.Prelude.{Some, None}
 use Rattle.tonekit_core.specs.Layout.{sheet_accent_at}
 use Rattle.spec_arithmetic.specs.Places.{index_of}
-use Rattle.spec_lookup.specs.Source.{accent_in}
+use Rattle.spec_lookup.specs.Source.{accent_in, accent_at}
 use Rattle.std.specs.Prelude.{Some, None}
 use Rattle.spec_judgement.specs.declared.Tolerance.{Tolerance}
 use Rattle.tonekit_inventory.specs.Fields.{tolerance_at}
 use Rattle.spec_judgement.specs.Gather.{tolerance_of, graded_of}
 use Rattle.tonekit_inventory.proofs.Search.{accent_found, accent_none}
-use Rattle.spec_sheet.specs.FromSheet.{accent_at, source_of_sheet}
+use Rattle.spec_sheet.specs.FromSheet.{source_of_sheet}
 use Rattle.tonekit_sheet_read.specs.declared.Sheet.{Sheet}
 use Rattle.tonekit_sheet_read.specs.Held.{shown}
 use Rattle.tonekit_bytes.proofs.Stepped.{stepped_get}
 
 -- the tolerances stand behind an accent's kind and number
-tolerance : (s : List ℕ) (o : ℕ) → tolerance_at s (o + 2) ≡ tolerance_of (accent_at s o)
+tolerance : (s : List ℕ) (o : ℕ) → tolerance_at s (o + 2) ≡ tolerance_of (accent_at 2 s o)
 unfolding tolerance_at
 tolerance s o =
     let onset : o + 2 + 4 ≡ o + 6 = omega arith in
@@ -28,9 +28,9 @@ module _ (s : List ℕ) (st : Sheet) (n : ℕ) where
       → Some t ≡ graded_of (accent_in (source_of_sheet s (shown st)).accents n)
   unfolding source_of_sheet
   graded_found i h e o o_is t q =
-      rw (accent_found s (shown st).accents n (accent_at s) (λ o. refl) i e, stepped_get (9 + 15 * st.tones) 18 st.accents i h)
-      (ap Some (q ∙ (tolerance s o ∙ ap (λ (y : ℕ). tolerance_of (accent_at s y)) o_is)))
+      rw (accent_found s (shown st).accents n (accent_at 2 s) (λ o. refl) i e, stepped_get (9 + 15 * st.tones) 18 st.accents i h)
+      (ap Some (q ∙ (tolerance s o ∙ ap (λ (y : ℕ). tolerance_of (accent_at 2 s y)) o_is)))
 
   pub graded_none : index_of s (shown st).accents n ≡ None → None ≡ graded_of (accent_in (source_of_sheet s (shown st)).accents n)
   unfolding source_of_sheet
-  graded_none e = rw (accent_none s (shown st).accents n (accent_at s) (λ o. refl) e)
+  graded_none e = rw (accent_none s (shown st).accents n (accent_at 2 s) (λ o. refl) e)

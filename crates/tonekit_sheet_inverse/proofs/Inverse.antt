@@ -4,14 +4,14 @@ use Rattle.std.proofs.Common.{ℕ, ◌+◌, ◌*◌, ◌<◌, ◌≡◌, refl, s
 use lib.ListN.{length-map}
 use Rattle.spec_arithmetic.specs.Places.{number_at}
 use Rattle.tonekit_core.proofs.Split.{absurd_bool}
-use Rattle.spec_lookup.specs.Source.{Tone, Accent, settings_at}
+use Rattle.spec_lookup.specs.Source.{Tone, Accent, settings_at, tone_at, accent_at}
 use Rattle.spec_sheet.specs.Agree.{Bytes}
 use Rattle.spec_sheet.specs.Pieces.{gather}
 use Rattle.spec_sheet.specs.Number.{number_in}
 use Rattle.spec_sheet.specs.Sheet.{ascending, no_tone, no_accent, row_context, View, view_of, rows_of, lists_of, tone_bytes, accent_bytes, list_bytes, tone_piece, accent_piece, row_piece, list_piece, bytes_with, bytes_of, sheet}
 use Rattle.spec_sheet.specs.Reader.{Sst, row_at, list_size, load_sheet}
 use Rattle.spec_arithmetic.specs.Files.{loaded}
-use Rattle.spec_sheet.specs.FromSheet.{tone_at, accent_at, look_sheet, source_of_sheet}
+use Rattle.spec_sheet.specs.FromSheet.{look_sheet, source_of_sheet}
 use Rattle.tonekit_sheet_inverse.proofs.Place.{rows_from, list_place, lists_from}
 use Rattle.tonekit_sheet_inverse.proofs.Spans.{Spans, one_spans, joined, gather_spans, spans_all}
 use Rattle.tonekit_sheet_inverse.proofs.Loads.{Loads, loads_whole}
@@ -23,10 +23,10 @@ use Rattle.tonekit_sheet_inverse.proofs.FirstUse.{content, contents, contents_le
 
 -- what the sheet of a source is made of, where the source is what a sheet holds: its accents stand in order already
 abbrev tones_of : List ℕ → Sst → List Tone
-tones_of s st = map (tone_at s) st.tones
+tones_of s st = map (tone_at 6 s) st.tones
 
 abbrev accents_of : List ℕ → Sst → List Accent
-accents_of s st = map (accent_at s) st.accents
+accents_of s st = map (accent_at 2 s) st.accents
 
 abbrev view_at : List ℕ → Sst → View
 view_at s st = record { settings = settings_at s 0; tones = tones_of s st; accents = accents_of s st; row = λ r last. look_sheet s st (row_context (tones_of s st) (accents_of s st) r last) }
@@ -34,11 +34,11 @@ view_at s st = record { settings = settings_at s 0; tones = tones_of s st; accen
 module _ (s : List ℕ) (b : Bytes s) (st : Sst) (e : ℕ) (l : Loads s st e) (o : Ordered s st) where
   -- ---- the view
   accent_number : (i : ℕ) → i < length st.accents → number_of (accents_of s st) i ≡ accent_number_of s st i
-  accent_number i h = ap (λ (a : Accent). a.number) (get_or-map (accent_at s) st.accents i 0 no_accent h)
+  accent_number i h = ap (λ (a : Accent). a.number) (get_or-map (accent_at 2 s) st.accents i 0 no_accent h)
 
   accents_stand : ascending (accents_of s st) ≡ accents_of s st
   accents_stand =
-      let n : length (accents_of s st) ≡ length st.accents = length-map st.accents (accent_at s) in
+      let n : length (accents_of s st) ≡ length st.accents = length-map st.accents (accent_at 2 s) in
       ascending_up (accents_of s st)
       (λ i h. let q = accent_number i (omega arith) in (rw q (o.accents_least i (omega arith)), rw q (b _)))
       (λ i j h g. rw (accent_number i (omega arith), accent_number j (omega arith)) (o.accents_up i j h (omega arith)))
@@ -48,7 +48,7 @@ module _ (s : List ℕ) (b : Bytes s) (st : Sst) (e : ℕ) (l : Loads s st e) (o
   view_is = rw accents_stand
 
   rows_are : rows_of (view_at s st) ≡ st.rows
-  rows_are = rw (length-map st.tones (tone_at s), length-map st.accents (accent_at s)) (sym l.all_rows)
+  rows_are = rw (length-map st.tones (tone_at 6 s), length-map st.accents (accent_at 2 s)) (sym l.all_rows)
 
   -- ---- its lists
   list_is : (i : ℕ) → i < length st.lists → ListIs s (get_or st.lists i 0)
@@ -67,22 +67,22 @@ module _ (s : List ℕ) (b : Bytes s) (st : Sst) (e : ℕ) (l : Loads s st e) (o
   -- ---- its pieces
   tones_span : Spans s 9 (9 + 15 * length st.tones) (gather (tone_piece (view_at s st)) 0 (length (tones_of s st)))
   tones_span =
-      rw (length-map st.tones (tone_at s))
+      rw (length-map st.tones (tone_at 6 s))
       (gather_spans s (tone_piece (view_at s st)) (λ i. 9 + 15 * i) (length st.tones)
       (λ i h. let t = l.tones i h in
-      let x : Spans s (get_or st.tones i 0) (9 + 15 * (i + 1)) (tone_bytes (tone_at s (get_or st.tones i 0))) = tone_spans s b (get_or st.tones i 0) (9 + 15 * (i + 1)) (omega (arith, t.place)) t.kind in
-      rw (get_or-map (tone_at s) st.tones i 0 no_tone h, ← t.place) x)
+      let x : Spans s (get_or st.tones i 0) (9 + 15 * (i + 1)) (tone_bytes (tone_at 6 s (get_or st.tones i 0))) = tone_spans s b (get_or st.tones i 0) (9 + 15 * (i + 1)) (omega (arith, t.place)) t.kind in
+      rw (get_or-map (tone_at 6 s) st.tones i 0 no_tone h, ← t.place) x)
       9 (9 + 15 * length st.tones) refl refl)
 
   accents_span : Spans s (9 + 15 * length st.tones) (rows_from st) (gather (accent_piece (view_at s st)) 0 (length (accents_of s st)))
   accents_span =
       let t = length st.tones in
-      rw (length-map st.accents (accent_at s))
+      rw (length-map st.accents (accent_at 2 s))
       (gather_spans s (accent_piece (view_at s st)) (λ i. 9 + 15 * t + 18 * i) (length st.accents)
       (λ i h. let a = l.accents i h in
-      let x : Spans s (get_or st.accents i 0) (9 + 15 * t + 18 * (i + 1)) (accent_bytes (accent_at s (get_or st.accents i 0))) =
+      let x : Spans s (get_or st.accents i 0) (9 + 15 * t + 18 * (i + 1)) (accent_bytes (accent_at 2 s (get_or st.accents i 0))) =
       accent_spans s b (get_or st.accents i 0) (9 + 15 * t + 18 * (i + 1)) (omega (arith, a.place)) a.kind in
-      rw (get_or-map (accent_at s) st.accents i 0 no_accent h, ← a.place) x)
+      rw (get_or-map (accent_at 2 s) st.accents i 0 no_accent h, ← a.place) x)
       (9 + 15 * t) (rows_from st) (omega arith) refl)
 
   row_span : (r : ℕ) → r < st.rows → Spans s (row_at st r) (row_at st (r + 1)) (row_piece (view_at s st) (contents s st (length st.lists)) r)

@@ -5,12 +5,12 @@ use lib.Seq.{get_or-append_seam}
 use Rattle.spec_arithmetic.specs.Fields.{byte_at}
 use Rattle.spec_arithmetic.specs.Places.{number_at}
 use Rattle.tonekit_core.proofs.Split.{split}
-use Rattle.spec_lookup.specs.Source.{Carried, settings_at}
+use Rattle.spec_lookup.specs.Source.{Carried, settings_at, tone_at, accent_at}
 use Rattle.spec_lookup.specs.declared.Context.{Context}
 use Rattle.spec_sheet.specs.Agree.{Bytes}
 use Rattle.spec_sheet.specs.Sheet.{settings_bytes, tone_bytes, accent_bytes, row_bytes, bits_bytes, component_bytes, components_bytes, no_carried, list_bytes}
 use Rattle.spec_sheet.specs.Reader.{list_size, same_lists}
-use Rattle.spec_sheet.specs.FromSheet.{tone_at, accent_at, bits_at, carried_at, carried_from}
+use Rattle.spec_sheet.specs.FromSheet.{bits_at, carried_at, carried_from}
 use Rattle.tonekit_sheet.proofs.Components.{components_snoc}
 use Rattle.tonekit_sheet_inverse.proofs.Spans.{Spans, none_spans, one_spans, joined, half_spans, word_spans}
 use Rattle.tonekit_sheet_laws.proofs.Loops.{range_all}
@@ -50,14 +50,14 @@ module _ (s : List ℕ) (b : Bytes s) where
   pub settings_spans : byte_at s 0 ≡ 17 → Spans s 0 9 (settings_bytes (settings_at s 0))
   settings_spans k = joined (one_spans s 0 1 17 refl k) (joined (word_spans s b 1 5 refl) (word_spans s b 5 9 refl))
 
-  pub tone_spans : (o e : ℕ) → e ≡ o + 15 → byte_at s o ≡ 18 → Spans s o e (tone_bytes (tone_at s o))
+  pub tone_spans : (o e : ℕ) → e ≡ o + 15 → byte_at s o ≡ 18 → Spans s o e (tone_bytes (tone_at 6 s o))
   tone_spans o e q k =
       joined (joined (one_spans s o (o + 1) 18 refl k) (one_spans s (o + 1) (o + 2) (number_at s o) (omega arith) refl))
       (joined (word_spans s b (o + 2) (o + 6) (omega arith))
       (joined (one_spans s (o + 6) (o + 7) (byte_at s (o + 6)) (omega arith) refl)
       (joined (word_spans s b (o + 7) (o + 11) (omega arith)) (word_spans s b (o + 11) e (omega arith)))))
 
-  pub accent_spans : (o e : ℕ) → e ≡ o + 18 → byte_at s o ≡ 19 → Spans s o e (accent_bytes (accent_at s o))
+  pub accent_spans : (o e : ℕ) → e ≡ o + 18 → byte_at s o ≡ 19 → Spans s o e (accent_bytes (accent_at 2 s o))
   accent_spans o e q k =
       joined (joined (one_spans s o (o + 1) 19 refl k) (one_spans s (o + 1) (o + 2) (number_at s o) (omega arith) refl))
       (joined (word_spans s b (o + 2) (o + 6) (omega arith))

@@ -3,13 +3,13 @@ use Rattle.std.proofs.lemmas.List.{get_or-map}
 use Rattle.std.proofs.Common.{ℕ, suc, ◌≤◌, ◌<◌, ◌≡◌, ap, ◌∙◌, ⊎_elim, List, map, Bool, true, arith, length, get_or, ext_get_or}
 use mathlib.Core.Option.{some}
 use lib.ListN.{length-map}
-use Rattle.spec_lookup.specs.Source.{Accent, Source, settings_at, accent_in, tone_in}
+use Rattle.spec_lookup.specs.Source.{Accent, Source, settings_at, accent_in, tone_in, tone_at as tone_is_read, accent_at as accent_is_read}
 use Rattle.spec_arithmetic.specs.Places.{index_of}
 use Rattle.spec_lookup.specs.declared.Context.{Context}
 use Rattle.spec_sheet.specs.Sheet.{View, no_tone, no_accent, prev_number, row_context, ascending, view_of, rows_of, lists_of, sheet}
 use Rattle.spec_arithmetic.specs.Files.{Out, refused}
 use Rattle.spec_sheet.specs.Reader.{Sst}
-use Rattle.spec_sheet.specs.FromSheet.{tone_at as tone_is_read, accent_at as accent_is_read, prev_found, look_sheet, source_of_sheet}
+use Rattle.spec_sheet.specs.FromSheet.{prev_found, look_sheet, source_of_sheet}
 use Rattle.spec_sheet.specs.Agree.{Held}
 use Rattle.tonekit_sheet.specs.Fit.{Fit, components_in}
 use Rattle.tonekit_core.specs.declared.Refusal.TheVariants.{CutShort}
@@ -39,15 +39,15 @@ module _ (s : List ℕ) (d : Out Sst) (src : Source) (v : View) (fit : ViewFit s
       let w = settings_read s d src v fit laid in
       λ i. record { temperature = w.temperature i; threshold = w.threshold i }
 
-  tones_same : map (tone_is_read s) (up_to tone_at (length v.tones)) ≡ v.tones
+  tones_same : map (tone_is_read 6 s) (up_to tone_at (length v.tones)) ≡ v.tones
   tones_same =
-      all_read (tone_is_read s) tone_at v.tones no_tone
+      all_read (tone_is_read 6 s) tone_at v.tones no_tone
       (λ k h. let w = tone_read s d src v fit laid k h in
       λ i. record { number = w.number i; prior = w.prior i; flag = w.flag i; from = w.from i; to = w.to i })
 
-  accents_same : map (accent_is_read s) (up_to (accent_at v) (length v.accents)) ≡ v.accents
+  accents_same : map (accent_is_read 2 s) (up_to (accent_at v) (length v.accents)) ≡ v.accents
   accents_same =
-      all_read (accent_is_read s) (accent_at v) v.accents no_accent
+      all_read (accent_is_read 2 s) (accent_at v) v.accents no_accent
       (λ k h. let w = accent_read s d src v fit laid k h in
       λ i. record { number = w.number i; contour = w.contour i; onset = w.onset i; offset = w.offset i; turning = w.turning i })
 

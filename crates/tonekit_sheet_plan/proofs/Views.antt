@@ -22,11 +22,11 @@ module _ (s : List ℕ) (st : Pst) where
   unfolding view_of source_of_pack
   view_tones = refl
 
-  pub view_accents : (pack_view s st).accents ≡ ascending (map (accent_at s) st.accents)
+  pub view_accents : (pack_view s st).accents ≡ ascending (map (accent_at 3 s) st.accents)
   unfolding view_of source_of_pack
   view_accents = refl
 
-  view_look : (r : ℕ) (last : Bool) → (pack_view s st).row r last ≡ given s (look_up s st (row_context (tones_of s st) (ascending (map (accent_at s) st.accents)) r last))
+  view_look : (r : ℕ) (last : Bool) → (pack_view s st).row r last ≡ given s (look_up s st (row_context (tones_of s st) (ascending (map (accent_at 3 s) st.accents)) r last))
   unfolding view_of source_of_pack
   view_look r last = refl
 
@@ -39,10 +39,10 @@ module _ (s : List ℕ) (st : Pst) where
     view_row r last = rw o.same (sym (view_look r last))
 
     accent_count : length (pack_view s st).accents ≡ length os
-    accent_count = ap length view_sorted ∙ length-map os (accent_at s)
+    accent_count = ap length view_sorted ∙ length-map os (accent_at 3 s)
 
     tone_count : length (pack_view s st).tones ≡ length st.tones
-    tone_count = ap length view_tones ∙ length-map st.tones (tone_at s)
+    tone_count = ap length view_tones ∙ length-map st.tones (tone_at 47 s)
 
     pub view_rows : rows_of (pack_view s st) ≡ row_count (length os) (length st.tones)
     view_rows = rw (accent_count, tone_count)

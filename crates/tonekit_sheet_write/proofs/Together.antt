@@ -50,8 +50,8 @@ module _ (s : List ℕ) (p : Pack) (os : List ℕ) (n : ℕ) (its : List (List C
     parts =
         let v = pack_view s (shown p) in
         ap₂ (λ (x y : List ℕ). x ++ y) (ap settings_bytes settings_are)
-        (ap₂ (λ (x y : List ℕ). x ++ y) (made_is (tone_at s) no_tone tone_bytes (shown p).tones (view_tones s (shown p)))
-        (ap₂ (λ (x y : List ℕ). x ++ y) (made_is (accent_at s) no_accent accent_bytes os (view_sorted s (shown p) os o))
+        (ap₂ (λ (x y : List ℕ). x ++ y) (made_is (tone_at 47 s) no_tone tone_bytes (shown p).tones (view_tones s (shown p)))
+        (ap₂ (λ (x y : List ℕ). x ++ y) (made_is (accent_at 3 s) no_accent accent_bytes os (view_sorted s (shown p) os o))
         (ap (λ (d : ℕ). gather (row_piece v its) 0 d ++ (E ++ F)) rows_are)))
 
     -- what stands before a row past the last, the lists, and the end

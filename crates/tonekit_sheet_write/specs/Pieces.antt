@@ -1,6 +1,7 @@
 -- The pieces of a pack's sheet, as they are written.
 use Rattle.std.specs.Prelude.{ℕ, ◌+◌, ◌*◌, ◌≤◌, ◌≡◌, List, [], ◌∷◌, ◌++◌, length, get_or}
 use Rattle.std.proofs.lemmas.List.Edits.{sets}
+use Rattle.tonekit_core.specs.declared.layout.TheConstants.{ACCENT_CONTOUR, TONE_REGION}
 use Rattle.tonekit_core.specs.declared.layout.TheConstants.{SHEET_LIST_KIND, SHEET_LIST_SIZE, SHEET_COMPONENT_SIZE}
 use Rattle.spec_arithmetic.specs.Fields.{le16}
 use Rattle.spec_lookup.specs.Lookup.{component_of}
@@ -22,10 +23,10 @@ abbrev pub settings_made : List ℕ → ℕ → List ℕ
 settings_made s o = settings_bytes (settings_at s o)
 
 abbrev pub tone_made : List ℕ → ℕ → List ℕ
-tone_made s o = tone_bytes (tone_at s o)
+tone_made s o = tone_bytes (tone_at TONE_REGION s o)
 
 abbrev pub accent_made : List ℕ → ℕ → List ℕ
-accent_made s o = accent_bytes (accent_at s o)
+accent_made s o = accent_bytes (accent_at ACCENT_CONTOUR s o)
 
 -- what is made of the records at these offsets, one behind the other
 abbrev pub records_part : (List ℕ → ℕ → List ℕ) → List ℕ → List ℕ → List ℕ

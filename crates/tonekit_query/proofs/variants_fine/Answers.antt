@@ -1,7 +1,8 @@
 use Rattle.std.proofs.Common.{ℕ, zero, suc, ◌+◌, ◌-◌, ◌≡◌, refl, sym, ◌∙◌, false, List, rules}
 use Rattle.tonekit_core.specs.Loop.{range, turns}
 use Rattle.tonekit_core.proofs.LoopLaws.{again, ended}
-use Rattle.spec_query.specs.Query.{variant_turn, variants_fine}
+use Rattle.spec_query.specs.Query.{variants_fine}
+use Rattle.tonekit_query.proofs.VariantTurn.{variant_turn}
 use Rattle.tonekit_query.proofs.variants_fine.Goals as goal
 
 -- one that is not fine decides

@@ -1,6 +1,7 @@
 use Rattle.std.proofs.Common.{◌≡◌}
 use Rattle.tonekit_core.specs.Loop.{range}
-use Rattle.spec_pack.specs.Ranges.{slot_turn, knots_fine}
+use Rattle.spec_pack.specs.Ranges.{knots_fine}
+use Rattle.tonekit_pack.proofs.SlotTurn.{slot_turn}
 use Rattle.tonekit_pack.proofs.ranges.knots_fine.Given as goal
 
 abbrev pub invariant-loop-k : goal.invariant-loop-k

@@ -1,7 +1,8 @@
 -- A search finds a tone that is held.
 use Rattle.std.proofs.Common.{refl, sym}
 use Rattle.tonekit_sheet_read.specs.Held.{shown}
-use Rattle.spec_sheet.specs.FromSheet.{tone_at, source_of_sheet}
+use Rattle.spec_sheet.specs.FromSheet.{source_of_sheet}
+use Rattle.spec_lookup.specs.Source.{tone_at}
 use Rattle.tonekit_inventory.proofs.Search.{tone_held}
 use Rattle.tonekit_sheet_inventory.proofs.HeldSheetHeld.holds_tone.Goals as goal
 
@@ -9,4 +10,4 @@ pub returns : goal.returns
 unfolding source_of_sheet
 returns c =
     let a = c.args in
-    rw (c.is_some.ensures, c.tone_index.ensures) (sym (tone_held a.self.now.view.bytes.now (shown a.self.now.view.sheet).tones a.number (tone_at a.self.now.view.bytes.now) (λ o. refl)))
+    rw (c.is_some.ensures, c.tone_index.ensures) (sym (tone_held a.self.now.view.bytes.now (shown a.self.now.view.sheet).tones a.number (tone_at 6 a.self.now.view.bytes.now) (λ o. refl)))
