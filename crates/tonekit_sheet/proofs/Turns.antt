@@ -1,6 +1,6 @@
 -- The reader's turns: where the reading goes on to a sheet's end, each record passes; and the limit of turns never ends the reading. Assumes nothing.
 use Prim.Native.Nat.{ℕ, zero, suc, ◌+◌, ◌-◌, ◌≤◌, ◌<◌}
-use mathlib.Core.Path.{◌≡◌, refl, sym, ◌∙◌, ap}
+use mathlib.Core.Path.{◌≡◌, refl, sym, ◌∙◌}
 use mathlib.Core.List.{List}
 use native.Mathlib.Omega.{arith}
 use lib.ListN.{length}
@@ -13,7 +13,7 @@ use Rattle.std.specs.Prelude.{Option, Some, None, Ok, Err}
 use Rattle.spec_arithmetic.specs.Fields.{byte_at}
 use Rattle.tonekit_core.proofs.Split.{split}
 use Rattle.tonekit_pack.proofs.Turns.{by_verdict}
-use Rattle.spec_sheet.specs.Reader.{Sst, Out, loaded, refused, size_of, added, finished, record_verdict, record_turn, loose_row, accent_down, row_wrong, list_wrong, or_else, refused_at, start, read_sheet, singly, load_sheet}
+use Rattle.spec_sheet.specs.Reader.{Sst, Out, loaded, refused, size_of, added, finished, record_verdict, record_turn, loose_row, accent_down, row_wrong, list_wrong, refused_at, start, read_sheet, singly, load_sheet}
 use Rattle.tonekit_sheet.proofs.Records.{Sound, sound, size_pos}
 
 -- what has been read with the record at a place
@@ -95,31 +95,15 @@ passes : (r : Refusal) (f : Option ℕ) (out : Out) (st : Sst) (e : ℕ) → ref
 passes r (Some o) out st e h = not_loaded r o e st h
 passes r None out st e h = (refl, h)
 
-or_nothing : (a b : Option ℕ) → or_else a b ≡ None → (a ≡ None) × (b ≡ None)
-or_nothing (Some o) b h = absurd cc
-or_nothing None b h = (refl, h)
-
--- what is out of order, judged one after the other, is the first of what is found
-in_turn : (a b c : Option ℕ) (out : Out) → refused_at Unordered (or_else a (or_else b c)) out ≡ refused_at Unordered a (refused_at Unordered b (refused_at Unordered c out))
-in_turn (Some o) b c out = refl
-in_turn None (Some o) c out = refl
-in_turn None None c out = refl
-
-pub finished_in_turn : (s : List ℕ) (st : Sst) (e : ℕ)
-    → finished s st e
-    ≡ refused_at Loose (loose_row s st) (refused_at Unordered (accent_down s st) (refused_at Unordered (row_wrong s st) (refused_at Unordered (list_wrong s st) (loaded st e))))
-unfolding finished
-finished_in_turn s st e = ap (refused_at Loose (loose_row s st)) (in_turn (accent_down s st) (row_wrong s st) (list_wrong s st) (loaded st e))
-
 pub finished_is : (s : List ℕ) (st : Sst) (e : ℕ) (fin : Sst) (end : ℕ) → finished s st e ≡ loaded fin end → Finished s st e fin end
 unfolding finished
 finished_is s st e fin end h =
     let p = passes Loose (loose_row s st) _ fin end h in
-    let q = passes Unordered (or_else (accent_down s st) (or_else (row_wrong s st) (list_wrong s st))) (loaded st e) fin end p.1 in
-    let a = or_nothing (accent_down s st) (or_else (row_wrong s st) (list_wrong s st)) q.0 in
-    let b = or_nothing (row_wrong s st) (list_wrong s st) a.1 in
-    let l = same_loaded st fin e end q.1 in
-    record { same = l.0; ends = l.1; rows_held = p.0; accents_up = a.0; rows_right = b.0; lists_right = b.1 }
+    let a = passes Unordered (accent_down s st) _ fin end p.1 in
+    let b = passes Unordered (row_wrong s st) _ fin end a.1 in
+    let c = passes Unordered (list_wrong s st) (loaded st e) fin end b.1 in
+    let l = same_loaded st fin e end c.1 in
+    record { same = l.0; ends = l.1; rows_held = p.0; accents_up = a.0; rows_right = b.0; lists_right = c.0 }
 
 -- an input that loads as one sheet is a sheet at its front, and nothing behind it
 by_out : {P : Type 0} (s : List ℕ) (o : Out) (st : Sst) (e : ℕ) → singly s o ≡ loaded st e → (o ≡ loaded st e → length s ≤ e → P) → P

@@ -10,7 +10,8 @@ use Rattle.spec_lookup.specs.declared.Listing.{Listing}
 use Rattle.spec_lookup.specs.Lookup.{component_of}
 use Rattle.spec_lookup.specs.Source.{Accent, Carried, accent_in, carried, components, tone_at, accent_at, source_of_pack}
 use Rattle.spec_sheet.specs.Pieces.{pieces, gather, gather_length}
-use Rattle.spec_sheet.specs.Sheet.{or_skip, asc_from, ascending, View, rows_of, view_of, lists_of, bits_bytes, component_bytes, components_bytes, tone_piece, accent_piece, row_piece, list_piece, bytes_with, bytes_of, sheet}
+use Rattle.spec_sheet.specs.Sheet.{or_skip, asc_from, ascending, View, rows_of, view_of, lists_of, bits_bytes, component_bytes, components_bytes, bytes_with, bytes_of, sheet}
+use Rattle.tonekit_sheet.specs.Turns.{tone_piece, accent_piece, row_piece, list_piece}
 use Rattle.tonekit_sheet_fit.specs.Room.{Suffices}
 use Rattle.tonekit_sheet_fit.proofs.Budget.{sum_scaled, weigh}
 use Rattle.tonekit_sheet_fit.proofs.Bits.{carried_ten}

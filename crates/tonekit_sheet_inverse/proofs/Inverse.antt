@@ -8,10 +8,11 @@ use Rattle.spec_lookup.specs.Source.{Tone, Accent, settings_at}
 use Rattle.spec_sheet.specs.Agree.{Bytes}
 use Rattle.spec_sheet.specs.Pieces.{gather}
 use Rattle.spec_sheet.specs.Number.{number_in}
-use Rattle.spec_sheet.specs.Sheet.{ascending, no_tone, no_accent, row_context, View, view_of, rows_of, lists_of, tone_bytes, accent_bytes, list_bytes, tone_piece, accent_piece, row_piece, list_piece, bytes_with, bytes_of, sheet}
-use Rattle.spec_sheet.specs.Reader.{Sst, loaded, rows_from, row_at, list_size, load_sheet}
+use Rattle.spec_sheet.specs.Sheet.{ascending, no_tone, no_accent, row_context, View, view_of, rows_of, lists_of, tone_bytes, accent_bytes, list_bytes, bytes_with, bytes_of, sheet}
+use Rattle.tonekit_sheet.specs.Turns.{tone_piece, accent_piece, row_piece, list_piece}
+use Rattle.spec_sheet.specs.Reader.{Sst, loaded, row_at, list_size, load_sheet}
 use Rattle.spec_sheet.specs.FromSheet.{tone_at, accent_at, look_sheet, source_of_sheet}
-use Rattle.tonekit_sheet_inverse.specs.Place.{list_place, lists_from}
+use Rattle.tonekit_sheet_inverse.specs.Place.{list_place, rows_from, lists_from}
 use Rattle.tonekit_sheet_inverse.proofs.Spans.{Spans, one_spans, joined, gather_spans, spans_all}
 use Rattle.tonekit_sheet_inverse.proofs.Loads.{Loads, loads_whole}
 use Rattle.tonekit_sheet_inverse.proofs.Order.{accent_number_of, first_list, final_list, Ordered, ordered}

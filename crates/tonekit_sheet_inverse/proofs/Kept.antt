@@ -5,8 +5,8 @@ use Rattle.spec_arithmetic.specs.Places.{number_at}
 use Rattle.spec_pack.specs.Pack.{holds}
 use Rattle.tonekit_core.proofs.Split.{split}
 use Rattle.tonekit_pack.proofs.Each.{Each, each_snoc}
-use Rattle.spec_sheet.specs.Reader.{Sst, rows_due, size_of, body_verdict, added, rows_from, row_at}
-use Rattle.tonekit_sheet_inverse.specs.Place.{list_place, lists_from}
+use Rattle.spec_sheet.specs.Reader.{Sst, rows_due, size_of, body_verdict, added, row_at}
+use Rattle.tonekit_sheet_inverse.specs.Place.{list_place, rows_from, lists_from}
 use Rattle.tonekit_sheet.proofs.Every.{Every, every_snoc}
 use Rattle.tonekit_sheet.proofs.Records.{Complete, rows_done, list_done, Due, settings, tone, accent, row, list, component, finish, tone_number, list_some}
 

@@ -5,7 +5,8 @@ use Rattle.spec_lookup.specs.Source.{Tone, Accent, Carried, Source, accent_in, t
 use Rattle.spec_lookup.specs.declared.Context.{Context}
 use Rattle.spec_sheet.specs.Number.{noted, number_in}
 use Rattle.spec_sheet.specs.Pieces.{gather}
-use Rattle.spec_sheet.specs.Sheet.{or_skip, asc_from, ascending, View, row_context, row_bytes, view_of, rows_of, note_turn, lists_of, row_piece, bytes_with, bytes_of, sheet}
+use Rattle.spec_sheet.specs.Sheet.{or_skip, asc_from, ascending, View, row_context, row_bytes, view_of, rows_of, lists_of, bytes_with, bytes_of, sheet}
+use Rattle.tonekit_sheet.specs.Turns.{note_turn, row_piece}
 use Rattle.spec_sheet.specs.Reader.{Sst, loaded, load_sheet}
 use Rattle.spec_sheet.specs.FromSheet.{source_of_sheet}
 use Rattle.spec_sheet.specs.Agree.{Held, Agree}
