@@ -78,16 +78,11 @@ unfoldable pub accent_verdict : List ℕ → ℕ → Sst → Result (Unit {0}) R
 accent_verdict s o st = in_turn (leb 8 (length st.accents)) (accent_fine s o) (not (holds s st.accents (number_at s o))) true
 
 -- a row names an accent, a tone, and a tone before it or none, that are held; its two lists are judged at the end
-abbrev pub row_fine : List ℕ → ℕ → Bool
-row_fine s o = not (eqb (byte_at s (o + SHEET_ROW_ACCENT)) 0) && not (eqb (byte_at s (o + SHEET_ROW_TONE)) 0)
-
-abbrev pub row_held : List ℕ → ℕ → Sst → Bool
-row_held s o st =
-    holds s st.accents (byte_at s (o + SHEET_ROW_ACCENT))
-    && (holds s st.tones (byte_at s (o + SHEET_ROW_TONE)) && zero_or_held s st.tones (byte_at s (o + SHEET_ROW_PREV)))
-
 unfoldable pub row_verdict : List ℕ → ℕ → Sst → Result (Unit {0}) Refusal
-row_verdict s o st = in_turn false (row_fine s o) true (row_held s o st)
+row_verdict s o st =
+    in_turn false (not (eqb (byte_at s (o + SHEET_ROW_ACCENT)) 0) && not (eqb (byte_at s (o + SHEET_ROW_TONE)) 0)) true
+    (holds s st.accents (byte_at s (o + SHEET_ROW_ACCENT))
+    && (holds s st.tones (byte_at s (o + SHEET_ROW_TONE)) && zero_or_held s st.tones (byte_at s (o + SHEET_ROW_PREV))))
 
 -- "A list's count above 4, or above 1 unless the form is 3, is 4; count 0 is 5"; "At most 128 lists"
 abbrev pub list_crowded : List ℕ → ℕ → Sst → Bool

@@ -123,9 +123,6 @@ bytes_with v lists =
     ++ (gather (λ r. row_bytes (row_context v.tones v.accents r false) (number_in lists (v.row r false)) (number_in lists (v.row r true))) 0 (rows_of v)
     ++ (gather (λ i. list_bytes (i + 1) (get_or lists i [])) 0 (length lists) ++ (SHEET_END_KIND ∷ [])))))
 
-unfoldable pub bytes_of : View → List ℕ
-bytes_of v = bytes_with v (lists_of v)
-
 -- "A pack's sheet is the bytes this section fixes for it": a function of what the pack's lookups give
 unfoldable pub sheet : Source → List ℕ
-sheet src = bytes_of (view_of src)
+sheet src = let v = view_of src in bytes_with v (lists_of v)

@@ -1,4 +1,4 @@
 pub mod Fit
 pub mod Marks
 pub mod Kinds
-pub mod Turns
+pub mod Parts

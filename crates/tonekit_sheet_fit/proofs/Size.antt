@@ -10,8 +10,8 @@ use Rattle.spec_lookup.specs.declared.Listing.{Listing}
 use Rattle.spec_lookup.specs.Lookup.{component_of}
 use Rattle.spec_lookup.specs.Source.{Accent, Carried, accent_in, carried, components, tone_at, accent_at, source_of_pack}
 use Rattle.spec_sheet.specs.Pieces.{pieces, gather, gather_length}
-use Rattle.spec_sheet.specs.Sheet.{or_skip, asc_from, ascending, View, rows_of, view_of, lists_of, bits_bytes, component_bytes, components_bytes, bytes_with, bytes_of, sheet}
-use Rattle.tonekit_sheet.specs.Turns.{tone_piece, accent_piece, row_piece, list_piece}
+use Rattle.spec_sheet.specs.Sheet.{or_skip, asc_from, ascending, View, rows_of, view_of, lists_of, bits_bytes, component_bytes, components_bytes, bytes_with, sheet}
+use Rattle.tonekit_sheet.specs.Parts.{bytes_of, tone_piece, accent_piece, row_piece, list_piece}
 use Rattle.tonekit_sheet_fit.specs.Room.{Suffices}
 use Rattle.tonekit_sheet_fit.proofs.Budget.{sum_scaled, weigh}
 use Rattle.tonekit_sheet_fit.proofs.Bits.{carried_ten}
@@ -131,7 +131,7 @@ module _ (s : List ℕ) (st : Pst) (e : ℕ) (p : read_pack s ≡ loaded st e) w
       )
 
   sheet_most_lem : length (sheet (source_of_pack s st)) ≤ SHEET_MOST
-  unfolding sheet bytes_of view_of source_of_pack
+  unfolding sheet view_of source_of_pack
   sheet_most_lem =
       let l = loads s st e p in
       let v = view_of (source_of_pack s st) in

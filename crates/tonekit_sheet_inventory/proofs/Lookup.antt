@@ -9,7 +9,8 @@ use Rattle.spec_lookup.specs.Lookup.{Found}
 use Rattle.std.specs.Prelude.{Some, None}
 use Rattle.tonekit_expect.proofs.Walk.{index_found}
 use Rattle.spec_sheet.specs.Reader.{Sst, Out, loaded, refused, row_at, read_sheet}
-use Rattle.spec_sheet.specs.FromSheet.{list_numbered, row_place, final_place, prev_found, look_sheet}
+use Rattle.spec_sheet.specs.FromSheet.{list_numbered, prev_found, look_sheet}
+use Rattle.tonekit_sheet.specs.Parts.{row_place, final_place}
 use Rattle.tonekit_sheet_read.specs.declared.Sheet.{Sheet}
 use Rattle.tonekit_sheet_read.specs.Held.{shown, ReadFrom}
 use Rattle.tonekit_bytes.proofs.Stepped.{stepped_length}

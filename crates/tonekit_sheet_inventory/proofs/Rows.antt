@@ -5,7 +5,7 @@ use Rattle.tonekit_core.proofs.Split.{split}
 use Rattle.spec_lookup.specs.declared.Context.{Context}
 use Rattle.spec_sheet.specs.Sheet.{row_count}
 use Rattle.spec_sheet.specs.Reader.{Sst, loaded, row_at, read_sheet}
-use Rattle.spec_sheet.specs.FromSheet.{row_place, final_place}
+use Rattle.tonekit_sheet.specs.Parts.{row_place, final_place}
 use Rattle.tonekit_sheet.proofs.RowPlaces.{rows_few}
 use Rattle.tonekit_sheet_inverse.proofs.Loads.{reads}
 use Rattle.tonekit_sheet_inverse.proofs.Order.{ordered}

@@ -14,7 +14,7 @@ use Rattle.tonekit_pack.proofs.Turns.{by_verdict}
 use Rattle.tonekit_pack.proofs.Front.{region_same, tolerances_same, holds_same, zero_or_same}
 use Rattle.spec_sheet.specs.Sheet.{accent_place, tone_place, prev_place}
 use Rattle.spec_sheet.specs.Reader.{Sst, Out, loaded, refused, rows_due, due_next, size_of, tone_verdict, accent_verdict, row_verdict, list_verdict, point_fine, points_fine, last_list, component_verdict, body_verdict, record_verdict, added, row_at, loose_row, accent_down, prev_due, row_due, row_names, row_wrong, named, list_size, same_lists, repeated, list_wrong, finished, start, read_sheet, singly, load_sheet, said, check_sheet}
-use Rattle.tonekit_sheet.specs.Turns.{point_turn, loose_turn, accent_turn, row_turn, names_turn, same_turn, equal_turn, list_turn}
+use Rattle.tonekit_sheet.specs.Parts.{point_turn, loose_turn, accent_turn, row_turn, names_turn, same_turn, equal_turn, list_turn}
 use Rattle.tonekit_sheet.proofs.RowPlaces.{rows_few, some_tone, row_places}
 use Rattle.tonekit_sheet.proofs.Records.{Complete, Due, due_is, settings, tone, accent, row, list, component, finish, sound, closes}
 use Rattle.tonekit_sheet_read.proofs.Reading.{after_list}
