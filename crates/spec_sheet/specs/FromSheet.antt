@@ -1,5 +1,5 @@
 -- What a station holds that was read from a sheet.
-use Rattle.std.specs.Prelude.{ℕ, zero, suc, ◌+◌, ◌*◌, cond, List, [], ◌∷◌, ◌++◌, Option as Found, Some, None, map, eqb, length, get_or}
+use Rattle.std.specs.Prelude.{ℕ, zero, suc, ◌+◌, ◌*◌, cond, List, [], ◌∷◌, ◌++◌, Option as Found, Some, None, option_map, map, eqb, length, get_or}
 use Rattle.std.proofs.Math.Option.{Option, none, some}
 use Rattle.tonekit_core.specs.declared.layout.TheConstants.{F32_SIZE, SHEET_TONE_REGION}
 use Rattle.tonekit_core.specs.declared.layout.TheConstants.{SHEET_ACCENT_CONTOUR, SHEET_ROW_LIST, SHEET_ROW_FINAL_LIST}
@@ -37,22 +37,14 @@ abbrev pub list_numbered : List ℕ → Sst → ℕ → Option (List Carried)
 list_numbered s st zero = none
 list_numbered s st (suc i) = let o = get_or st.lists i 0 in some (carried_from s o (byte_at s (o + SHEET_LIST_COUNT)))
 
--- a lookup by position: the row of an accent, a tone and what stood before it
-abbrev pub row_place : Sst → ℕ → ℕ → ℕ → ℕ
-row_place st a t p = (a * length st.tones + t) * (length st.tones + 1) + p
-
-abbrev pub final_place : Context → ℕ
-final_place c = cond c.last SHEET_ROW_FINAL_LIST SHEET_ROW_LIST
-
+-- a lookup by position: the row of an accent, a tone and what stood before it, and of its two lists the one for this place in the phrase
 abbrev pub prev_found : List ℕ → Sst → ℕ → Found ℕ
-prev_found s st n = cond (eqb n 0) (Some 0) (after (index_of s st.tones n))
-  where
-    after : Found ℕ → Found ℕ
-    after (Some p) = Some (p + 1)
-    after None = None
+prev_found s st n = cond (eqb n 0) (Some 0) (option_map (λ p. p + 1) (index_of s st.tones n))
 
 abbrev pub look_placed : List ℕ → Sst → Context → Found ℕ → Found ℕ → Found ℕ → Option (List Carried)
-look_placed s st c (Some a) (Some t) (Some p) = list_numbered s st (byte_at s (row_at st (row_place st a t p) + final_place c))
+look_placed s st c (Some a) (Some t) (Some p) =
+    let row = row_at st ((a * length st.tones + t) * (length st.tones + 1) + p) in
+    list_numbered s st (byte_at s (row + cond c.last SHEET_ROW_FINAL_LIST SHEET_ROW_LIST))
 look_placed s st c None t p = none
 look_placed s st c (Some a) None p = none
 look_placed s st c (Some a) (Some t) None = none

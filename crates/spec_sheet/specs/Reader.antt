@@ -8,7 +8,7 @@ use Rattle.tonekit_core.specs.declared.layout.TheConstants.{SHEET_ACCENT_KIND, S
 use Rattle.tonekit_core.specs.declared.layout.TheConstants.{SHEET_ROW_PREV, SHEET_ROW_LIST, SHEET_ROW_FINAL_LIST, SHEET_LIST_KIND, SHEET_LIST_SIZE, SHEET_LIST_OWNER, SHEET_LIST_FORM}
 use Rattle.tonekit_core.specs.declared.layout.TheConstants.{SHEET_LIST_LABEL, SHEET_LIST_COUNT, SHEET_COMPONENT_KIND, SHEET_COMPONENT_SIZE, SHEET_COMPONENT_WEIGHT}
 use Rattle.tonekit_core.specs.declared.layout.TheConstants.{SHEET_COMPONENT_POINTS, SHEET_END_KIND, SHEET_END_SIZE}
-use Rattle.tonekit_core.specs.Layout.{sheet_accent_at, sheet_row_at}
+use Rattle.tonekit_core.specs.Layout.{sheet_row_at}
 use Rattle.tonekit_core.specs.declared.Refusal.{Refusal}
 use Rattle.tonekit_core.specs.declared.Refusal.TheVariants.{Loose, Unordered}
 use Rattle.tonekit_core.specs.declared.Rejection.{Rejection}
@@ -74,16 +74,11 @@ unfoldable pub accent_verdict : List ℕ → ℕ → Sst → Result (Unit {0}) R
 accent_verdict s o st = in_turn (leb 8 (length st.accents)) (accent_fine s o) (not (holds s st.accents (number_at s o))) true
 
 -- a row names an accent, a tone, and a tone before it or none, that are held; its two lists are judged at the end
-abbrev pub row_fine : List ℕ → ℕ → Bool
-row_fine s o = not (eqb (byte_at s (o + SHEET_ROW_ACCENT)) 0) && not (eqb (byte_at s (o + SHEET_ROW_TONE)) 0)
-
-abbrev pub row_held : List ℕ → ℕ → Sst → Bool
-row_held s o st =
-    holds s st.accents (byte_at s (o + SHEET_ROW_ACCENT))
-    && (holds s st.tones (byte_at s (o + SHEET_ROW_TONE)) && zero_or_held s st.tones (byte_at s (o + SHEET_ROW_PREV)))
-
 unfoldable pub row_verdict : List ℕ → ℕ → Sst → Result (Unit {0}) Refusal
-row_verdict s o st = in_turn false (row_fine s o) true (row_held s o st)
+row_verdict s o st =
+    in_turn false (not (eqb (byte_at s (o + SHEET_ROW_ACCENT)) 0) && not (eqb (byte_at s (o + SHEET_ROW_TONE)) 0)) true
+    (holds s st.accents (byte_at s (o + SHEET_ROW_ACCENT))
+    && (holds s st.tones (byte_at s (o + SHEET_ROW_TONE)) && zero_or_held s st.tones (byte_at s (o + SHEET_ROW_PREV))))
 
 -- "A list's count above 4, or above 1 unless the form is 3, is 4; count 0 is 5"; "At most 128 lists"
 abbrev pub list_crowded : List ℕ → ℕ → Sst → Bool
@@ -107,11 +102,8 @@ list_verdict s o st = in_turn (list_crowded s o st) (list_fine s o) true (holds 
 unfoldable pub point_fine : Float → Bool
 point_fine x = le (fin true 1 (pos 7)) x && le x (fin false 1 (pos 7))
 
-abbrev pub point_turn : List ℕ → ℕ → ℕ → Bool → Bool
-point_turn s o k ok = ok && point_fine (f32_at s (o + F32_SIZE * k))
-
 unfoldable pub points_fine : List ℕ → ℕ → Bool
-points_fine s o = range (point_turn s o) 0 10 true
+points_fine s o = range (λ k ok. ok && point_fine (f32_at s (o + F32_SIZE * k))) 0 10 true
 
 -- the offset of the last list
 abbrev pub last_list : Sst → ℕ
@@ -159,25 +151,21 @@ abbrev pub row_at : Sst → ℕ → ℕ
 row_at st r = sheet_row_at (length st.tones) (length st.accents) r
 
 -- a row's list number is 0, or one that a list record gives as its own
-abbrev pub loose_turn : List ℕ → Sst → ℕ → ℕ → Turn ℕ (Option ℕ)
-loose_turn s st r u =
-    cond
-    (zero_or_held s st.lists (byte_at s (row_at st r + SHEET_ROW_LIST))
-    && zero_or_held s st.lists (byte_at s (row_at st r + SHEET_ROW_FINAL_LIST)))
-    (next u)
-    (stop (Some (row_at st r)))
-
 unfoldable pub loose_row : List ℕ → Sst → Option ℕ
-loose_row s st = range_to (loose_turn s st) (λ u. None) 0 st.rows 0
+loose_row s st =
+    range_to
+    (λ r (u : ℕ). cond
+    (zero_or_held s st.lists (byte_at s (row_at st r + SHEET_ROW_LIST)) && zero_or_held s st.lists (byte_at s (row_at st r + SHEET_ROW_FINAL_LIST)))
+    (next u)
+    (stop (Some (row_at st r))))
+    (λ u. None) 0 st.rows 0
 
 -- an accent whose number is not above that of the one before it
-abbrev pub accent_turn : List ℕ → Sst → ℕ → ℕ → Turn ℕ (Option ℕ)
-accent_turn s st i before =
-    let n = number_at s (get_or st.accents i 0) in
-    cond (ltb before n) (next n) (stop (Some (get_or st.accents i 0)))
-
 unfoldable pub accent_down : List ℕ → Sst → Option ℕ
-accent_down s st = range_to (accent_turn s st) (λ n. None) 0 (length st.accents) 0
+accent_down s st =
+    range_to
+    (λ i before. let n = number_at s (get_or st.accents i 0) in cond (ltb before n) (next n) (stop (Some (get_or st.accents i 0))))
+    (λ n. None) 0 (length st.accents) 0
 
 -- row r is the one due at its place
 abbrev pub prev_due : List ℕ → Sst → ℕ → ℕ
@@ -197,55 +185,41 @@ row_names s st r m =
     let n = byte_at s (row_at st r + SHEET_ROW_LIST) in
     leb n (m + 1) && leb (byte_at s (row_at st r + SHEET_ROW_FINAL_LIST)) (max m n + 1)
 
-abbrev pub row_turn : List ℕ → Sst → ℕ → ℕ → Turn ℕ (Option ℕ)
-row_turn s st r m =
-    cond (row_due s st r && row_names s st r m)
-    (next (max (max m (byte_at s (row_at st r + SHEET_ROW_LIST))) (byte_at s (row_at st r + SHEET_ROW_FINAL_LIST))))
-    (stop (Some (row_at st r)))
-
 unfoldable pub row_wrong : List ℕ → Sst → Option ℕ
-row_wrong s st = range_to (row_turn s st) (λ m. None) 0 st.rows 0
+row_wrong s st =
+    range_to
+    (λ r m. cond (row_due s st r && row_names s st r m)
+    (next (max (max m (byte_at s (row_at st r + SHEET_ROW_LIST))) (byte_at s (row_at st r + SHEET_ROW_FINAL_LIST))))
+    (stop (Some (row_at st r))))
+    (λ m. None) 0 st.rows 0
 
 -- a row names list n
-abbrev pub names_turn : List ℕ → Sst → ℕ → ℕ → Bool → Bool
-names_turn s st n r used = used || (eqb (byte_at s (row_at st r + SHEET_ROW_LIST)) n || eqb (byte_at s (row_at st r + SHEET_ROW_FINAL_LIST)) n)
-
 unfoldable pub named : List ℕ → Sst → ℕ → Bool
-named s st n = range (names_turn s st n) 0 st.rows false
+named s st n =
+    range
+    (λ r used. used || (eqb (byte_at s (row_at st r + SHEET_ROW_LIST)) n || eqb (byte_at s (row_at st r + SHEET_ROW_FINAL_LIST)) n))
+    0 st.rows false
 
 -- the bytes of a list and its components, and two lists equal but for their numbers
 abbrev pub list_size : List ℕ → ℕ → ℕ
 list_size s o = SHEET_LIST_SIZE + SHEET_COMPONENT_SIZE * byte_at s (o + SHEET_LIST_COUNT)
 
-abbrev pub same_turn : List ℕ → ℕ → ℕ → ℕ → Bool → Bool
-same_turn s a b k ok = ok && eqb (byte_at s (a + k)) (byte_at s (b + k))
-
 unfoldable pub same_lists : List ℕ → ℕ → ℕ → Bool
-same_lists s a b = range (same_turn s a b) SHEET_LIST_OWNER (list_size s a) true
+same_lists s a b = range (λ k ok. ok && eqb (byte_at s (a + k)) (byte_at s (b + k))) SHEET_LIST_OWNER (list_size s a) true
 
 -- one of the first n lists is equal to the one at o
-abbrev pub equal_turn : List ℕ → List ℕ → ℕ → ℕ → Bool → Bool
-equal_turn s lists o i hit = hit || same_lists s o (get_or lists i 0)
-
 unfoldable pub repeated : List ℕ → List ℕ → ℕ → ℕ → Bool
-repeated s lists n o = range (equal_turn s lists o) 0 n false
+repeated s lists n o = range (λ i hit. hit || same_lists s o (get_or lists i 0)) 0 n false
 
 -- list i has its place as its number, from 1, is named by a row, and is equal to none before it
-abbrev pub list_turn : List ℕ → Sst → ℕ → ℕ → Turn ℕ (Option ℕ)
-list_turn s st i u =
-    let o = get_or st.lists i 0 in
-    cond (eqb (number_at s o) (i + 1) && (named s st (i + 1) && not (repeated s st.lists i o)))
-    (next u)
-    (stop (Some o))
-
 unfoldable pub list_wrong : List ℕ → Sst → Option ℕ
-list_wrong s st = range_to (list_turn s st) (λ u. None) 0 (length st.lists) 0
+list_wrong s st =
+    range_to
+    (λ i (u : ℕ). let o = get_or st.lists i 0 in
+    cond (eqb (number_at s o) (i + 1) && (named s st (i + 1) && not (repeated s st.lists i o))) (next u) (stop (Some o)))
+    (λ u. None) 0 (length st.lists) 0
 
 -- "a sheet's list references (7), then 8, are judged at its end"; 8 stands at the first accent, row or list at fault
-abbrev pub or_else : Option ℕ → Option ℕ → Option ℕ
-or_else (Some o) b = Some o
-or_else None b = b
-
 abbrev pub refused_at : Refusal → Option ℕ → Out Sst → Out Sst
 refused_at r (Some o) out = refused r o
 refused_at r None out = out
@@ -253,7 +227,7 @@ refused_at r None out = out
 unfoldable pub finished : List ℕ → Sst → ℕ → Out Sst
 finished s st e =
     refused_at Loose (loose_row s st)
-    (refused_at Unordered (or_else (accent_down s st) (or_else (row_wrong s st) (list_wrong s st))) (loaded st e))
+    (refused_at Unordered (accent_down s st) (refused_at Unordered (row_wrong s st) (refused_at Unordered (list_wrong s st) (loaded st e))))
 
 abbrev pub start : Here Sst
 start = record { at = 0; st = record { last = 0; tones = []; accents = []; rows = 0; lists = []; due = 0; total = 0 } }

@@ -71,11 +71,8 @@ abbrev pub rows_of : View → ℕ
 rows_of v = row_count (length v.accents) (length v.tones)
 
 -- "numbered from 1 by first use along the rows": not final before final
-abbrev pub note_turn : View → ℕ → List (List Carried) → List (List Carried)
-note_turn v r lists = noted (noted lists (v.row r false)) (v.row r true)
-
 unfoldable pub lists_of : View → List (List Carried)
-lists_of v = range (note_turn v) 0 (rows_of v) []
+lists_of v = range (λ r lists. noted (noted lists (v.row r false)) (v.row r true)) 0 (rows_of v) []
 
 -- "17 as Settings"
 abbrev pub settings_bytes : Settings → List ℕ
@@ -118,29 +115,14 @@ head_bytes n c count = (SHEET_LIST_KIND ∷ n ∷ c.owner ∷ c.form ∷ []) ++ 
 abbrev pub list_bytes : ℕ → List Carried → List ℕ
 list_bytes n cs = head_bytes n (get_or cs 0 no_carried) (length cs) ++ components_bytes cs
 
--- the pieces of a sheet
-abbrev pub tone_piece : View → ℕ → List ℕ
-tone_piece v i = tone_bytes (get_or v.tones i no_tone)
-
-abbrev pub accent_piece : View → ℕ → List ℕ
-accent_piece v i = accent_bytes (get_or v.accents i no_accent)
-
-abbrev pub row_piece : View → List (List Carried) → ℕ → List ℕ
-row_piece v lists r = row_bytes (row_context v.tones v.accents r false) (number_in lists (v.row r false)) (number_in lists (v.row r true))
-
-abbrev pub list_piece : List (List Carried) → ℕ → List ℕ
-list_piece lists i = list_bytes (i + 1) (get_or lists i [])
-
 unfoldable pub bytes_with : View → List (List Carried) → List ℕ
 bytes_with v lists =
     settings_bytes v.settings
-    ++ (gather (tone_piece v) 0 (length v.tones)
-    ++ (gather (accent_piece v) 0 (length v.accents)
-    ++ (gather (row_piece v lists) 0 (rows_of v) ++ (gather (list_piece lists) 0 (length lists) ++ (SHEET_END_KIND ∷ [])))))
-
-unfoldable pub bytes_of : View → List ℕ
-bytes_of v = bytes_with v (lists_of v)
+    ++ (gather (λ i. tone_bytes (get_or v.tones i no_tone)) 0 (length v.tones)
+    ++ (gather (λ i. accent_bytes (get_or v.accents i no_accent)) 0 (length v.accents)
+    ++ (gather (λ r. row_bytes (row_context v.tones v.accents r false) (number_in lists (v.row r false)) (number_in lists (v.row r true))) 0 (rows_of v)
+    ++ (gather (λ i. list_bytes (i + 1) (get_or lists i [])) 0 (length lists) ++ (SHEET_END_KIND ∷ [])))))
 
 -- "A pack's sheet is the bytes this section fixes for it": a function of what the pack's lookups give
 unfoldable pub sheet : Source → List ℕ
-sheet src = bytes_of (view_of src)
+sheet src = let v = view_of src in bytes_with v (lists_of v)

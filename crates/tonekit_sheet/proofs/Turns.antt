@@ -1,12 +1,12 @@
 -- The reader of sheets: its records have bytes and are whole, so that the limit of turns never ends the reading; and what a sheet's end shows. Assumes nothing.
-use Rattle.std.proofs.Common.{ℕ, ◌≤◌, ◌<◌, ◌≡◌, refl, ap, List, length}
+use Rattle.std.proofs.Common.{ℕ, ◌≤◌, ◌<◌, ◌≡◌, refl, List, length}
 use Rattle.std.specs.Prelude.{Option, Some, None}
 use Rattle.tonekit_core.specs.declared.Refusal.{Refusal}
 use Rattle.tonekit_core.specs.declared.Refusal.TheVariants.{Loose, Unordered}
 use Rattle.spec_arithmetic.specs.Files.{Out, loaded}
 use Rattle.tonekit_bytes.proofs.Files as files
 use Rattle.tonekit_bytes.proofs.Files.{Steady, run, not_loaded, same_loaded, single}
-use Rattle.spec_sheet.specs.Reader.{Sst, finished, loose_row, accent_down, row_wrong, list_wrong, or_else, refused_at, start, sheet_reader, read_sheet, load_sheet}
+use Rattle.spec_sheet.specs.Reader.{Sst, finished, loose_row, accent_down, row_wrong, list_wrong, refused_at, start, sheet_reader, read_sheet, load_sheet}
 use Rattle.tonekit_sheet.proofs.Records.{sound, size_pos}
 
 pub steady : Steady sheet_reader
@@ -30,31 +30,15 @@ passes : (r : Refusal) (f : Option ℕ) (out : Out Sst) (st : Sst) (e : ℕ) →
 passes r (Some o) out st e h = not_loaded r o e st h
 passes r None out st e h = (refl, h)
 
-or_nothing : (a b : Option ℕ) → or_else a b ≡ None → (a ≡ None) × (b ≡ None)
-or_nothing (Some o) b h = absurd cc
-or_nothing None b h = (refl, h)
-
--- what is out of order, judged one after the other, is the first of what is found
-in_turn : (a b c : Option ℕ) (out : Out Sst) → refused_at Unordered (or_else a (or_else b c)) out ≡ refused_at Unordered a (refused_at Unordered b (refused_at Unordered c out))
-in_turn (Some o) b c out = refl
-in_turn None (Some o) c out = refl
-in_turn None None c out = refl
-
-pub finished_in_turn : (s : List ℕ) (st : Sst) (e : ℕ)
-    → finished s st e
-    ≡ refused_at Loose (loose_row s st) (refused_at Unordered (accent_down s st) (refused_at Unordered (row_wrong s st) (refused_at Unordered (list_wrong s st) (loaded st e))))
-unfolding finished
-finished_in_turn s st e = ap (refused_at Loose (loose_row s st)) (in_turn (accent_down s st) (row_wrong s st) (list_wrong s st) (loaded st e))
-
 pub finished_is : (s : List ℕ) (st : Sst) (e : ℕ) (fin : Sst) (end : ℕ) → finished s st e ≡ loaded fin end → Finished s st e fin end
 unfolding finished
 finished_is s st e fin end h =
     let p = passes Loose (loose_row s st) _ fin end h in
-    let q = passes Unordered (or_else (accent_down s st) (or_else (row_wrong s st) (list_wrong s st))) (loaded st e) fin end p.1 in
-    let a = or_nothing (accent_down s st) (or_else (row_wrong s st) (list_wrong s st)) q.0 in
-    let b = or_nothing (row_wrong s st) (list_wrong s st) a.1 in
-    let l = same_loaded st fin e end q.1 in
-    record { same = l.0; ends = l.1; rows_held = p.0; accents_up = a.0; rows_right = b.0; lists_right = b.1 }
+    let a = passes Unordered (accent_down s st) _ fin end p.1 in
+    let b = passes Unordered (row_wrong s st) _ fin end a.1 in
+    let c = passes Unordered (list_wrong s st) (loaded st e) fin end b.1 in
+    let l = same_loaded st fin e end c.1 in
+    record { same = l.0; ends = l.1; rows_held = p.0; accents_up = a.0; rows_right = b.0; lists_right = c.0 }
 
 -- an input that loads as one sheet is a sheet at its front, and nothing behind it
 pub loads_alone : (s : List ℕ) (st : Sst) (e : ℕ) → load_sheet s ≡ loaded st e → (read_sheet s ≡ loaded st e) × (length s ≤ e)

@@ -1,3 +1,4 @@
 pub mod Fit
 pub mod Marks
 pub mod Kinds
+pub mod Parts

@@ -6,7 +6,8 @@ use Rattle.spec_lookup.specs.Source.{Carried}
 use Rattle.tonekit_core.proofs.Split.{split}
 use Rattle.tonekit_core.proofs.LoopLaws.{range_keeps}
 use Rattle.spec_sheet.specs.Number.{seen_in, noted}
-use Rattle.spec_sheet.specs.Sheet.{View, rows_of, note_turn, lists_of}
+use Rattle.spec_sheet.specs.Sheet.{View, rows_of, lists_of}
+use Rattle.tonekit_sheet.specs.Parts.{note_turn}
 use Rattle.tonekit_sheet.proofs.Same.{seen_more, seen_last}
 
 -- ---- weights

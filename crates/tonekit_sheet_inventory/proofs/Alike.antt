@@ -15,7 +15,8 @@ use Rattle.tonekit_inventory.proofs.Alike.{Under, Alike}
 use Rattle.spec_sheet.specs.Sheet.{no_carried}
 use Rattle.spec_arithmetic.specs.Files.{loaded}
 use Rattle.spec_sheet.specs.Reader.{Sst, read_sheet, row_at}
-use Rattle.spec_sheet.specs.FromSheet.{bits_at, carried_at, carried_from, list_numbered, row_place, final_place, prev_found, look_placed, look_sheet, source_of_sheet}
+use Rattle.spec_sheet.specs.FromSheet.{bits_at, carried_at, carried_from, list_numbered, prev_found, look_placed, look_sheet, source_of_sheet}
+use Rattle.tonekit_sheet.specs.Parts.{row_place, final_place}
 use Rattle.tonekit_sheet_laws.proofs.Content.{carried_count, carried_get}
 use Rattle.tonekit_sheet_inventory.proofs.Few.{lists_few}
 use Rattle.tonekit_sheet_inventory.proofs.Rows.{number_held}

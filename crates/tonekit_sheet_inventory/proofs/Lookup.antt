@@ -10,7 +10,8 @@ use Rattle.std.specs.Prelude.{Some, None}
 use Rattle.tonekit_expect.proofs.Walk.{index_found}
 use Rattle.spec_arithmetic.specs.Files.{Out, loaded, refused}
 use Rattle.spec_sheet.specs.Reader.{Sst, row_at, read_sheet}
-use Rattle.spec_sheet.specs.FromSheet.{list_numbered, row_place, final_place, prev_found, look_sheet}
+use Rattle.spec_sheet.specs.FromSheet.{list_numbered, prev_found, look_sheet}
+use Rattle.tonekit_sheet.specs.Parts.{row_place, final_place}
 use Rattle.tonekit_sheet_read.specs.declared.Sheet.{Sheet}
 use Rattle.tonekit_sheet_read.specs.Held.{shown}
 use Rattle.tonekit_bytes.proofs.Stepped.{stepped_length}

@@ -6,7 +6,7 @@ use Rattle.spec_lookup.specs.declared.Context.{Context}
 use Rattle.spec_sheet.specs.Sheet.{row_count}
 use Rattle.spec_arithmetic.specs.Files.{loaded}
 use Rattle.spec_sheet.specs.Reader.{Sst, row_at, read_sheet}
-use Rattle.spec_sheet.specs.FromSheet.{row_place, final_place}
+use Rattle.tonekit_sheet.specs.Parts.{row_place, final_place}
 use Rattle.tonekit_sheet.proofs.RowPlaces.{rows_few}
 use Rattle.tonekit_sheet_inverse.proofs.Loads.{reads}
 use Rattle.tonekit_sheet_inverse.proofs.Order.{ordered}

@@ -8,7 +8,8 @@ ghost use Rattle.tonekit_core.specs.declared.layout.TheConstants.{SHEET_LIST_COU
 ghost use Rattle.spec_arithmetic.specs.Fields.{byte_at};
 ghost use Rattle.spec_judgement.specs.Gather.{f32, put_in};
 ghost use Rattle.spec_sheet.specs.Reader.{row_at, read_sheet};
-ghost use Rattle.spec_sheet.specs.FromSheet.{bits_at, row_place, final_place, prev_found, carried_from};
+ghost use Rattle.spec_sheet.specs.FromSheet.{bits_at, prev_found, carried_from};
+ghost use Rattle.tonekit_sheet.specs.Parts.{row_place, final_place};
 ghost use Rattle.tonekit_sheet_read.specs.Held.{shown};
 ghost use Rattle.tonekit_sheet_inventory.specs.Look.{source_in, load_source, sheet_in, Placed, ShortList, Looks, name_at};
 

@@ -8,11 +8,13 @@ use Rattle.spec_lookup.specs.Source.{Tone, Accent, settings_at, tone_at, accent_
 use Rattle.spec_sheet.specs.Agree.{Bytes}
 use Rattle.spec_sheet.specs.Pieces.{gather}
 use Rattle.spec_sheet.specs.Number.{number_in}
-use Rattle.spec_sheet.specs.Sheet.{ascending, no_tone, no_accent, row_context, View, view_of, rows_of, lists_of, tone_bytes, accent_bytes, list_bytes, tone_piece, accent_piece, row_piece, list_piece, bytes_with, bytes_of, sheet}
+use Rattle.spec_sheet.specs.Sheet.{ascending, no_tone, no_accent, row_context, View, view_of, rows_of, lists_of, tone_bytes, accent_bytes, list_bytes, bytes_with, sheet}
 use Rattle.spec_sheet.specs.Reader.{Sst, row_at, list_size, load_sheet}
 use Rattle.spec_arithmetic.specs.Files.{loaded}
 use Rattle.spec_sheet.specs.FromSheet.{look_sheet, source_of_sheet}
 use Rattle.tonekit_sheet_inverse.proofs.Place.{rows_from, list_place, lists_from}
+use Rattle.tonekit_sheet.specs.Parts.{bytes_of, tone_piece, accent_piece, row_piece, list_piece}
+use Rattle.tonekit_sheet_inverse.specs.Place.{rows_from}
 use Rattle.tonekit_sheet_inverse.proofs.Spans.{Spans, one_spans, joined, gather_spans, spans_all}
 use Rattle.tonekit_sheet_inverse.proofs.Loads.{Loads, loads_whole}
 use Rattle.tonekit_sheet_inverse.proofs.Order.{accent_number_of, first_list, final_list, Ordered, ordered}
@@ -117,7 +119,7 @@ module _ (s : List ℕ) (b : Bytes s) (st : Sst) (e : ℕ) (l : Loads s st e) (o
       (joined tones_span (joined accents_span (joined rows_span (joined lists_span (one_spans s (list_place s (lists_from st) n) e 23 l.ends l.closing)))))
 
   bytes_are : e ≡ length s → sheet (source_of_sheet s st) ≡ s
-  unfolding sheet bytes_of
+  unfolding sheet
   bytes_are q = ap bytes_of view_is ∙ ap (bytes_with (view_at s st)) lists_same ∙ spans_all s e _ q all_span
 
 pub inverse : (s : List ℕ) → Bytes s → (st : Sst) (e : ℕ) → load_sheet s ≡ loaded st e → sheet (source_of_sheet s st) ≡ s

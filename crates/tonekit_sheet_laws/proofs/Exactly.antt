@@ -5,9 +5,10 @@ use Rattle.spec_lookup.specs.Source.{Tone, Accent, Carried, Source, accent_in, t
 use Rattle.spec_lookup.specs.declared.Context.{Context}
 use Rattle.spec_sheet.specs.Number.{noted, number_in}
 use Rattle.spec_sheet.specs.Pieces.{gather}
-use Rattle.spec_sheet.specs.Sheet.{or_skip, asc_from, ascending, View, row_context, row_bytes, view_of, rows_of, note_turn, lists_of, row_piece, bytes_with, bytes_of, sheet}
+use Rattle.spec_sheet.specs.Sheet.{or_skip, asc_from, ascending, View, row_context, row_bytes, view_of, rows_of, lists_of, bytes_with, sheet}
 use Rattle.spec_arithmetic.specs.Files.{loaded}
 use Rattle.spec_sheet.specs.Reader.{Sst, load_sheet}
+use Rattle.tonekit_sheet.specs.Parts.{bytes_of, note_turn, row_piece}
 use Rattle.spec_sheet.specs.FromSheet.{source_of_sheet}
 use Rattle.spec_sheet.specs.Agree.{Held, Agree}
 use Rattle.tonekit_sheet.specs.Fit.{Fit}
@@ -48,7 +49,7 @@ module _ (v w : View) (settings : v.settings ≡ w.settings) (tones : v.tones �
       (λ r h. ap₂ (λ (x y : Option (List Carried)). row_bytes (row_context v.tones v.accents r false) (number_in lists x) (number_in lists y)) (same r false h) (same r true h))
 
   pub views_same : bytes_of v ≡ bytes_of w
-  unfolding mixed bytes_of bytes_with
+  unfolding mixed bytes_with
   views_same = rw (lists_same, rows_same (lists_of mixed)) (ap bytes_of mixed_is)
 
 -- the rows only ask what is held, and there what agrees gives the same

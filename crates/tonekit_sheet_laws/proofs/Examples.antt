@@ -8,7 +8,8 @@ use Rattle.spec_pack.specs.Ranges.{above_zero, a_share, weight_fine}
 use Rattle.spec_lookup.specs.Source.{Carried, Source, accent_in}
 use Rattle.spec_sheet.specs.Number.{same_numbers, same_carried, same, seen_in, place_in, noted, number_in}
 use Rattle.spec_sheet.specs.Pieces.{pieces, gather}
-use Rattle.spec_sheet.specs.Sheet.{asc_from, ascending, no_tone, no_accent, no_carried, row_context, view_of, lists_of, bits_bytes, components_bytes, bytes_with, bytes_of, sheet}
+use Rattle.spec_sheet.specs.Sheet.{asc_from, ascending, no_tone, no_accent, no_carried, row_context, view_of, lists_of, bits_bytes, components_bytes, bytes_with, sheet}
+use Rattle.tonekit_sheet.specs.Parts.{bytes_of}
 use Rattle.spec_sheet.specs.Reader.{point_fine}
 use Rattle.tonekit_sheet.specs.Fit.{f32, SettingsFit, ToneFit, AccentFit, CarriedFit, ListFit, components_in, Fit}
 
@@ -36,7 +37,7 @@ pub small_bytes : sheet small ≡
     ∷ 20 ∷ 7 ∷ 3 ∷ 3 ∷ 1 ∷ 1
     ∷ 21 ∷ 1 ∷ 7 ∷ 1 ∷ 0 ∷ 0 ∷ 1
     ∷ 22 ∷ 0 ∷ 0 ∷ 128 ∷ 63 ∷ (replicate 40 0 ++ (23 ∷ []))
-unfolding sheet bytes_of bytes_with view_of ascending asc_from accent_in lists_of range turns noted seen_in place_in same same_carried same_numbers number_in gather pieces row_context bits_bytes components_bytes
+unfolding sheet bytes_with view_of ascending asc_from accent_in lists_of range turns noted seen_in place_in same same_carried same_numbers number_in gather pieces row_context bits_bytes components_bytes
 small_bytes = refl
 
 -- ---- it fits

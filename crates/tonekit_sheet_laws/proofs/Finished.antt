@@ -9,7 +9,8 @@ use Rattle.spec_lookup.specs.Source.{Carried, Source}
 use Rattle.spec_sheet.specs.Number.{number_in}
 use Rattle.spec_sheet.specs.Sheet.{View, no_tone, no_accent, accent_place, tone_place, prev_place, prev_number, rows_of, lists_of}
 use Rattle.spec_arithmetic.specs.Files.{Out, loaded}
-use Rattle.spec_sheet.specs.Reader.{Sst, loose_turn, loose_row, accent_turn, accent_down, prev_due, row_due, row_names, row_turn, row_wrong, named, list_size, same_lists, repeated, list_turn, list_wrong, finished}
+use Rattle.spec_sheet.specs.Reader.{Sst, loose_row, accent_down, prev_due, row_due, row_names, row_wrong, named, list_size, same_lists, repeated, list_wrong, finished}
+use Rattle.tonekit_sheet.specs.Parts.{loose_turn, accent_turn, row_turn, list_turn}
 use Rattle.spec_sheet.specs.Reader.{row_at as row_in}
 use Rattle.spec_sheet.specs.FromSheet.{carried_from}
 use Rattle.tonekit_sheet_laws.proofs.Place.{up_to, tone_at, accent_at, row_at, list_at, read_to}

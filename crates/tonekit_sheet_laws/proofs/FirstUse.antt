@@ -7,7 +7,8 @@ use Rattle.tonekit_core.proofs.LoopLaws.{range_done, range_keeps}
 use Rattle.tonekit_core.proofs.Split.{split}
 use Rattle.spec_lookup.specs.Source.{Carried}
 use Rattle.spec_sheet.specs.Number.{seen_in, place_in, noted, number_in}
-use Rattle.spec_sheet.specs.Sheet.{View, rows_of, note_turn, lists_of}
+use Rattle.spec_sheet.specs.Sheet.{View, rows_of, lists_of}
+use Rattle.tonekit_sheet.specs.Parts.{note_turn}
 use Rattle.tonekit_sheet_laws.proofs.Loops.{range_last}
 use Rattle.tonekit_sheet_laws.proofs.Numbers.{Grows, grows_refl, grows_trans, grows_seen, noted_grows, noted_seen, noted_number, noted_least, noted_most, noted_from, Once, noted_once, place_below, place_get, place_once}
 

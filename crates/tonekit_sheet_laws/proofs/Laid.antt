@@ -3,8 +3,9 @@ use Rattle.std.proofs.Common.{ℕ, zero, suc, ◌+◌, ◌-◌, ◌*◌, ◌≤�
 use Rattle.spec_lookup.specs.Source.{Carried}
 use Rattle.spec_sheet.specs.Pieces.{gather}
 use Rattle.tonekit_sheet.proofs.Gather.{gather_done, gather_length}
-use Rattle.spec_sheet.specs.Sheet.{View, rows_of, settings_bytes, tone_piece, accent_piece, row_piece, list_piece, bytes_with}
+use Rattle.spec_sheet.specs.Sheet.{View, rows_of, settings_bytes, bytes_with}
 use Rattle.tonekit_sheet_laws.proofs.Place.{components_before, tone_at, accent_at, row_at, list_at}
+use Rattle.tonekit_sheet.specs.Parts.{tone_piece, accent_piece, row_piece, list_piece}
 use Rattle.tonekit_bytes.proofs.Stands.{Stands, stands_at, stands_whole, stands_first, stands_then}
 use Rattle.tonekit_sheet_laws.proofs.Bytes.{piece_stands, even_stands, gather_next}
 use Rattle.tonekit_sheet_laws.proofs.Placed.{before_none}

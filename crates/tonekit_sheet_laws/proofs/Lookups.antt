@@ -16,8 +16,9 @@ use Rattle.spec_sheet.specs.Sheet.{View, no_tone, no_accent, prev_number, rows_o
 use Rattle.spec_arithmetic.specs.Files.{Out}
 use Rattle.spec_sheet.specs.Reader.{Sst}
 use Rattle.spec_sheet.specs.Reader.{row_at as row_in}
-use Rattle.spec_sheet.specs.FromSheet.{list_numbered, row_place, final_place, prev_found, look_placed}
+use Rattle.spec_sheet.specs.FromSheet.{list_numbered, prev_found, look_placed}
 use Rattle.tonekit_sheet_laws.proofs.Place.{up_to, tone_at, accent_at, list_at, read_to}
+use Rattle.tonekit_sheet.specs.Parts.{row_place, final_place}
 use Rattle.tonekit_sheet_laws.proofs.FirstUse.{Listed, listed_first, listed_final}
 use Rattle.tonekit_sheet_laws.proofs.Placed.{up_to_length, up_to_get}
 use Rattle.tonekit_sheet.proofs.RowPlaces.{place_below}

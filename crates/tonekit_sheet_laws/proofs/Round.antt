@@ -2,9 +2,10 @@
 use Rattle.std.proofs.Common.{ℕ, ◌+◌, ◌*◌, ◌≤◌, ◌≡◌, refl, sym, ap, ◌∙◌, subst, List, [], mul-pos, arith, length, get_or, le-ltb, Ok}
 use Rattle.tonekit_core.specs.declared.Refusal.TheVariants.{CutShort}
 use Rattle.spec_lookup.specs.Source.{Carried, Source}
-use Rattle.spec_sheet.specs.Sheet.{View, view_of, rows_of, lists_of, bytes_of, sheet}
+use Rattle.spec_sheet.specs.Sheet.{View, view_of, rows_of, lists_of, sheet}
 use Rattle.spec_arithmetic.specs.Files.{Out, loaded, refused}
 use Rattle.spec_sheet.specs.Reader.{Sst, size_of, due_next, body_verdict, start, read_sheet, load_sheet, check_sheet}
+use Rattle.tonekit_sheet.specs.Parts.{bytes_of}
 use Rattle.tonekit_sheet.specs.Fit.{Fit}
 use Rattle.tonekit_sheet_laws.proofs.Place.{components_before, tone_at, accent_at, row_at, list_at, read_to, last_of, st_of_view, st_of}
 use Rattle.tonekit_bytes.proofs.Stands.{kind}
@@ -72,7 +73,7 @@ module _ (s : List ℕ) (src : Source) (v : View) (fit : ViewFit src v) (laid : 
 
 -- where its records stand
 pub sheet_laid : (src : Source) → Fit src → Laid (sheet src) (view_of src) (lists_of (view_of src))
-unfolding sheet bytes_of
+unfolding sheet
 sheet_laid src fit = laid (view_of src) (lists_of (view_of src)) (λ i h. ten src (get_or (lists_of (view_of src)) i []) ((view_fit src fit).lists i h))
 
 pub round : (src : Source) → Fit src → load_sheet (sheet src) ≡ loaded (st_of src) (length (sheet src))

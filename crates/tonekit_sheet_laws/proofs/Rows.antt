@@ -7,8 +7,9 @@ use Rattle.spec_lookup.specs.Source.{Source}
 use Rattle.spec_lookup.specs.declared.Context.{Context}
 use Rattle.spec_sheet.specs.Number.{number_in}
 use Rattle.spec_sheet.specs.Sheet.{View, no_tone, no_accent, accent_place, tone_place, prev_place, prev_number, row_context, rows_of, lists_of}
-use Rattle.spec_sheet.specs.Reader.{Sst, size_of, due_next, rows_due, row_fine, row_held, row_verdict, body_verdict, added}
+use Rattle.spec_sheet.specs.Reader.{Sst, size_of, due_next, rows_due, row_verdict, body_verdict, added}
 use Rattle.tonekit_sheet_laws.proofs.Place.{up_to, tone_at, accent_at, row_at, read_to, last_of}
+use Rattle.tonekit_sheet.specs.Parts.{row_fine, row_held}
 use Rattle.tonekit_sheet_laws.proofs.Placed.{up_to_length, holds_one, zero_or_one, zero_or_zero}
 use Rattle.tonekit_sheet_laws.proofs.Records.{RowThere, row_there}
 use Rattle.tonekit_sheet_laws.proofs.Laid.{Laid}

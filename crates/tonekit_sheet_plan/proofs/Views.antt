@@ -13,7 +13,8 @@ use Rattle.tonekit_pack.proofs.Loads.{loads, some_tones}
 use Rattle.spec_lookup.specs.Lookup.{look_up}
 use Rattle.spec_lookup.specs.Source.{Carried, given, accent_at, tone_at, source_of_pack}
 use Rattle.spec_sheet.specs.Number.{seen_in, noted}
-use Rattle.spec_sheet.specs.Sheet.{View, view_of, ascending, row_context, row_count, rows_of, note_turn, lists_of}
+use Rattle.spec_sheet.specs.Sheet.{View, view_of, ascending, row_context, row_count, rows_of, lists_of}
+use Rattle.tonekit_sheet.specs.Parts.{note_turn}
 use Rattle.tonekit_sheet_plan.specs.Rows.{pack_view, tones_of, accents_at, Ordered, end_of, Reads}
 
 -- ---- the parts of a pack's view

@@ -7,7 +7,7 @@ use Rattle.spec_lookup.specs.Lookup.{Look}
 use Rattle.spec_lookup.specs.Source.{Carried, given}
 use Rattle.spec_lookup.specs.declared.Listing.{Listing}
 use Rattle.spec_sheet.specs.Number.{noted}
-use Rattle.spec_sheet.specs.Sheet.{note_turn}
+use Rattle.tonekit_sheet.specs.Parts.{note_turn}
 use Rattle.tonekit_sheet_plan.specs.declared.Plan.{Plan}
 use Rattle.tonekit_sheet_plan.specs.Rows.{pack_view}
 use Rattle.tonekit_sheet_plan.specs.Listings.{carried_by}

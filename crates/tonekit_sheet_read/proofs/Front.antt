@@ -11,7 +11,8 @@ use Rattle.tonekit_bytes.proofs.Files.{Alike, read_same, read_keeps, single_same
 use Rattle.tonekit_pack.proofs.Front.{region_same, tolerances_same, holds_same, zero_or_same}
 use Rattle.spec_sheet.specs.Sheet.{accent_place, tone_place, prev_place}
 use Rattle.spec_arithmetic.specs.Files.{loaded, said}
-use Rattle.spec_sheet.specs.Reader.{Sst, rows_due, due_next, size_of, tone_verdict, accent_verdict, row_verdict, list_verdict, point_fine, point_turn, points_fine, last_list, component_verdict, body_verdict, record_verdict, added, row_at, loose_turn, loose_row, accent_turn, accent_down, prev_due, row_due, row_names, row_turn, row_wrong, names_turn, named, list_size, same_turn, same_lists, equal_turn, repeated, list_turn, list_wrong, finished, sheet_reader, read_sheet, load_sheet, check_sheet}
+use Rattle.spec_sheet.specs.Reader.{Sst, rows_due, due_next, size_of, tone_verdict, accent_verdict, row_verdict, list_verdict, point_fine, points_fine, last_list, component_verdict, body_verdict, record_verdict, added, row_at, loose_row, accent_down, prev_due, row_due, row_names, row_wrong, named, list_size, same_lists, repeated, list_wrong, finished, sheet_reader, read_sheet, load_sheet, check_sheet}
+use Rattle.tonekit_sheet.specs.Parts.{point_turn, loose_turn, accent_turn, row_turn, names_turn, same_turn, equal_turn, list_turn}
 use Rattle.tonekit_sheet.proofs.RowPlaces.{rows_few, some_tone, row_places}
 use Rattle.tonekit_sheet.proofs.Records.{Complete, Due, due_is, settings, tone, accent, row, list, component, finish, sound, closes}
 use Rattle.tonekit_sheet_read.proofs.Reading.{after_list}

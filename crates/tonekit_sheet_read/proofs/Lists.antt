@@ -5,7 +5,8 @@ use Rattle.spec_arithmetic.specs.Fields.{byte_at}
 use Rattle.spec_pack.specs.Pack.{holds, zero_or_held}
 use Rattle.tonekit_pack.proofs.Numbers.{not_held}
 use Rattle.tonekit_core.proofs.Split.{split}
-use Rattle.spec_sheet.specs.Reader.{Sst, named, list_size, same_turn, same_lists, equal_turn, repeated, list_turn}
+use Rattle.spec_sheet.specs.Reader.{Sst, named, list_size, same_lists, repeated}
+use Rattle.tonekit_sheet.specs.Parts.{same_turn, equal_turn, list_turn}
 use Rattle.tonekit_core.proofs.LoopLaws.{range_same}
 use Rattle.tonekit_sheet_read.proofs.Loops.{settled, range_parts}
 

@@ -2,7 +2,8 @@
 ghost use Rattle.std.specs.Prelude.{◌≡◌, ◌+◌, ◌<◌, ◌≤◌, false, length, is_some, IfSome};
 ghost use Rattle.tonekit_core.specs.Loop.{range};
 ghost use Rattle.spec_pack.specs.Pack.{zero_or_held};
-ghost use Rattle.spec_sheet.specs.Reader.{rows_due, row_at, loose_row, accent_down, prev_due, row_due, row_names, row_wrong, names_turn, named, same_lists, repeated, list_wrong};
+ghost use Rattle.spec_sheet.specs.Reader.{rows_due, row_at, loose_row, accent_down, prev_due, row_due, row_names, row_wrong, named, same_lists, repeated, list_wrong};
+ghost use Rattle.tonekit_sheet.specs.Parts.{names_turn};
 ghost use Rattle.tonekit_sheet_read.specs.Held.{shown};
 ghost use Rattle.tonekit_sheet_read.specs.Marks.{mark_at, Marked};
 

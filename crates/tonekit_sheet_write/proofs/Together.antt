@@ -8,7 +8,8 @@ use Rattle.tonekit_pack.specs.declared.Pack.{Pack}
 use Rattle.spec_lookup.specs.Source.{Carried, tone_at, accent_at, settings_at, source_of_pack}
 use Rattle.spec_sheet.specs.Pieces.{gather, Wrote}
 use Rattle.tonekit_sheet.proofs.Gather.{gather_length, gather_more, gather_none, joined, room_first, room_then}
-use Rattle.spec_sheet.specs.Sheet.{view_of, no_tone, no_accent, settings_bytes, tone_bytes, accent_bytes, row_piece, row_count, rows_of, lists_of, bytes_with, bytes_of, sheet}
+use Rattle.spec_sheet.specs.Sheet.{view_of, no_tone, no_accent, settings_bytes, tone_bytes, accent_bytes, row_count, rows_of, lists_of, bytes_with, sheet}
+use Rattle.tonekit_sheet.specs.Parts.{bytes_of, row_piece}
 use Rattle.tonekit_sheet_plan.specs.Rows.{pack_view, Ordered}
 use Rattle.tonekit_sheet_plan.proofs.Views.{view_tones, view_sorted, view_rows}
 use Rattle.tonekit_sheet_write.specs.Pieces.{settings_made, tone_made, accent_made, records_part, planned_list, lists_part}
@@ -120,5 +121,5 @@ module _ (its : List (List Carried)) where
 
 -- ---- the lists planned are those of the sheet
 pub sheet_is : (s : List ℕ) (p : Pack) (its : List (List Carried)) → its ≡ lists_of (pack_view s (shown p)) → bytes_with (pack_view s (shown p)) its ≡ sheet (source_of_pack s (shown p))
-unfolding sheet bytes_of
+unfolding sheet
 sheet_is s p its e = ap (bytes_with (pack_view s (shown p))) e

@@ -3,7 +3,8 @@ use Rattle.std.specs.Prelude.{ℕ, List}
 use Rattle.tonekit_pack.specs.Held.{shown}
 use Rattle.spec_lookup.specs.Source.{Carried}
 use Rattle.spec_sheet.specs.Pieces.{gather}
-use Rattle.spec_sheet.specs.Sheet.{View, row_piece, row_count, bytes_with}
+use Rattle.spec_sheet.specs.Sheet.{View, row_count, bytes_with}
+use Rattle.tonekit_sheet.specs.Parts.{row_piece}
 use Rattle.tonekit_sheet_plan.specs.Rows.{pack_view}
 use Rattle.tonekit_sheet_plan.specs.Plans.{planned_by}
 use Rattle.tonekit_sheet_write.specs.declared.draft.Draft.{Draft}

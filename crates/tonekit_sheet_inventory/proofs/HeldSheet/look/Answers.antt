@@ -6,9 +6,10 @@ use Rattle.tonekit_bytes.proofs.InOrder.{order_length}
 use Rattle.spec_arithmetic.specs.Places.{index_of}
 use Rattle.tonekit_expect.proofs.Walk.{index_found}
 use Rattle.spec_sheet.specs.Reader.{row_at, read_sheet}
-use Rattle.spec_sheet.specs.FromSheet.{list_numbered, prev_found, row_place, final_place}
+use Rattle.spec_sheet.specs.FromSheet.{list_numbered, prev_found}
 use Rattle.tonekit_sheet_read.specs.Held.{shown}
 use Rattle.tonekit_sheet_inventory.proofs.Lookup.{ReadFrom}
+use Rattle.tonekit_sheet.specs.Parts.{row_place, final_place}
 use Rattle.tonekit_sheet_inventory.proofs.Rows.{number_held}
 use Rattle.tonekit_sheet_inventory.proofs.Lookup.{accent_held, tone_held, prev_inside, prev_held, nothing, no_accent, no_tone, no_prev, number_is, looked, read_from}
 use Rattle.tonekit_sheet_inventory.proofs.HeldSheet.look.Goals as goal

@@ -4,7 +4,7 @@ use Rattle.tonekit_bytes.specs.Places.{in_order}
 use Rattle.tonekit_bytes.proofs.InOrder.{order_length}
 use Rattle.spec_pack.specs.Pack.{read_pack}
 use Rattle.tonekit_pack.specs.Held.{shown}
-use Rattle.spec_sheet.specs.Sheet.{note_turn}
+use Rattle.tonekit_sheet.specs.Parts.{note_turn}
 use Rattle.tonekit_sheet_fit.proofs.Fits.{few_lists}
 use Rattle.tonekit_sheet_plan.specs.Rows.{pack_view, end_of}
 use Rattle.tonekit_sheet_plan.specs.Plans.{planned_by}

@@ -1,7 +1,8 @@
 use Rattle.std.proofs.Common.{◌≤◌, ◌≡◌}
 use Rattle.tonekit_core.specs.Loop.{range}
 use Rattle.tonekit_pack.specs.Held.{shown}
-use Rattle.spec_sheet.specs.Sheet.{note_turn, lists_of}
+use Rattle.spec_sheet.specs.Sheet.{lists_of}
+use Rattle.tonekit_sheet.specs.Parts.{note_turn}
 use Rattle.tonekit_sheet_plan.specs.Rows.{pack_view}
 use Rattle.tonekit_sheet_plan.specs.Plans.{planned_by}
 use Rattle.tonekit_sheet_plan.proofs.Plan.note_rows.Given as goal

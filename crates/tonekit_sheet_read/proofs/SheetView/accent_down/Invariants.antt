@@ -1,6 +1,7 @@
 use Rattle.std.proofs.Common.{◌≡◌, ◌≤◌, length, None}
 use Rattle.tonekit_core.specs.Loop.{range_to}
-use Rattle.spec_sheet.specs.Reader.{accent_turn, accent_down}
+use Rattle.spec_sheet.specs.Reader.{accent_down}
+use Rattle.tonekit_sheet.specs.Parts.{accent_turn}
 use Rattle.tonekit_sheet_read.specs.Held.{shown}
 use Rattle.tonekit_sheet_read.proofs.SheetView.accent_down.Given as goal
 

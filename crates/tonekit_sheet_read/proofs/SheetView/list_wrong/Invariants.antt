@@ -1,6 +1,7 @@
 use Rattle.std.proofs.Common.{◌≡◌, ◌≤◌, length, None}
 use Rattle.tonekit_core.specs.Loop.{range_to}
-use Rattle.spec_sheet.specs.Reader.{list_turn, list_wrong}
+use Rattle.spec_sheet.specs.Reader.{list_wrong}
+use Rattle.tonekit_sheet.specs.Parts.{list_turn}
 use Rattle.tonekit_sheet_read.specs.Held.{shown}
 use Rattle.tonekit_sheet_read.specs.Marks.{Marked}
 use Rattle.tonekit_sheet_read.proofs.SheetView.list_wrong.Given as goal

@@ -1,6 +1,7 @@
 use Rattle.std.proofs.Common.{◌≡◌, ◌≤◌, None}
 use Rattle.tonekit_core.specs.Loop.{range_to}
-use Rattle.spec_sheet.specs.Reader.{loose_turn, loose_row}
+use Rattle.spec_sheet.specs.Reader.{loose_row}
+use Rattle.tonekit_sheet.specs.Parts.{loose_turn}
 use Rattle.tonekit_sheet_read.specs.Held.{shown}
 use Rattle.tonekit_sheet_read.proofs.SheetView.loose_row.Given as goal
 

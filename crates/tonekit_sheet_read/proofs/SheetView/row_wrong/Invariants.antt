@@ -1,6 +1,7 @@
 use Rattle.std.proofs.Common.{◌≡◌, ◌≤◌, None}
 use Rattle.tonekit_core.specs.Loop.{range_to}
-use Rattle.spec_sheet.specs.Reader.{row_turn, row_wrong}
+use Rattle.spec_sheet.specs.Reader.{row_wrong}
+use Rattle.tonekit_sheet.specs.Parts.{row_turn}
 use Rattle.tonekit_sheet_read.specs.Held.{shown}
 use Rattle.tonekit_sheet_read.proofs.SheetView.row_wrong.Given as goal
 

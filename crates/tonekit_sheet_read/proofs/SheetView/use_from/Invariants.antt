@@ -1,6 +1,6 @@
 use Rattle.std.proofs.Common.{◌≡◌, false, ◌≤◌}
 use Rattle.tonekit_core.specs.Loop.{range}
-use Rattle.spec_sheet.specs.Reader.{names_turn}
+use Rattle.tonekit_sheet.specs.Parts.{names_turn}
 use Rattle.tonekit_sheet_read.specs.Held.{shown}
 use Rattle.tonekit_sheet_read.proofs.SheetView.use_from.Given as goal
 

@@ -1,6 +1,7 @@
 use Rattle.std.proofs.Common.{◌≡◌, false, length}
 use Rattle.tonekit_core.specs.Loop.{range}
-use Rattle.spec_sheet.specs.Reader.{equal_turn, repeated}
+use Rattle.spec_sheet.specs.Reader.{repeated}
+use Rattle.tonekit_sheet.specs.Parts.{equal_turn}
 use Rattle.tonekit_sheet_read.proofs.order.repeated.Given as goal
 
 abbrev pub invariant-loop-other : goal.invariant-loop-other
