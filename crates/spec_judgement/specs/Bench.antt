@@ -99,7 +99,7 @@ place_in_pack = refl
 
 -- the program's input is the pack's length, the pack, the query: a pack of one byte, and no query
 pub one_byte_held : station_outcome (1 ∷ 0 ∷ 9 ∷ []) ≡ refused Misplaced 0
-unfolding judge_outcome load_pack read_pack loop_to loop_on reader.record_verdict
+unfolding judge_outcome load_pack read_pack loop_to loop_on reader.record_verdict due_after
 one_byte_held = refl
 
 -- "11 · unvoiced · under 3 voiced frames", from a pack's and a query's bytes: two frames

@@ -58,7 +58,7 @@ equal_tones = refl
 
 -- of a tone at 0 and one at −100 the first is as good as certain: e^(−100) adds nothing to 1 in f64
 pub likelier_tone : heard_of two_tones one64 (ranking_of two_tones (zero ∷ of_bits binary32 0xc2c8_0000 ∷ [])) ≡ Some 7
-unfolding heard_of ranking_of ranked range turns add_to value_of ln_of exp_of is_nan eq neg add sub mul div lt le round of_int of_bits
+unfolding heard_of ranking_of ranked range turns add_to value_of ln_of exp_of is_nan eq neg add sub mul div lt le round of_int of_bits log_by parts_of centred series log_horner exp_by exp_series exp_horner floor_of
 likelier_tone = refl
 
 -- a component's region is that of its own tone: a shape that is 1 high throughout and unvoiced, where the second tone has a region, has the two ends' distance

@@ -1,5 +1,5 @@
 -- What holds of every entry of a list, with the entries before it, when the list grows at its end. Assumes nothing.
-use Rattle.std.proofs.Common.{ℕ, ◌-◌, ◌≤◌, ◌<◌, ◌≡◌, List, [], ◌∷◌, ◌++◌, arith, ltb, ltb-true, ltb-false, length, get_or, take, length-append}
+use Rattle.std.proofs.Common.{ℕ, ◌≤◌, ◌<◌, ◌≡◌, List, [], ◌∷◌, ◌++◌, arith, ltb, ltb-true, ltb-false, length, get_or, take, length-append}
 use lib.ListN.{get_or-append}
 use lib.Seq.{take-append-le, take-append_seam, get_or-append_seam}
 use Rattle.tonekit_core.proofs.Split.{split}
@@ -16,9 +16,3 @@ each_snoc P xs x h p i l =
     rw (take-append-le i xs (x ∷ []) c, get_or-append xs (x ∷ []) 0 i b) (h i b))
     (λ f. let e : i ≡ length xs = omega (arith, ltb-false i (length xs) f, length-append xs (x ∷ [])) in
     rw (e, take-append_seam xs (x ∷ []), get_or-append_seam xs x [] 0) p)
-
--- the last entry
-pub last_snoc : (os : List ℕ) (o : ℕ) → get_or (os ++ (o ∷ [])) (length (os ++ (o ∷ [])) - 1) 0 ≡ o
-last_snoc os o =
-    let q : length (os ++ (o ∷ [])) - 1 ≡ length os = simp length-append (omega arith) in
-    rw q (get_or-append_seam os o [] 0)

@@ -11,7 +11,7 @@ use Rattle.tonekit_core.proofs.Split.{split, either, neither, both, not_zero}
 use Rattle.tonekit_core.proofs.Lists.{last_snoc}
 use Rattle.spec_arithmetic.specs.Files.{Out, loaded, refused}
 use Rattle.tonekit_pack.proofs.Numbers.{zero_or_before, none_before}
-use Rattle.tonekit_pack.proofs.Each.{Each, each_snoc, last_snoc}
+use Rattle.tonekit_pack.proofs.Each.{Each, each_snoc}
 use Rattle.tonekit_pack.proofs.Records.{Due, settings, tone, accent, rule, part, finish, sound, passed, tone_passed, accent_passed, rule_passed, part_passed, tone_room, accent_room, rule_room, part_room}
 use Rattle.tonekit_pack.specs.Going.{Near}
 use Rattle.tonekit_pack.proofs.Reading.{near_next}

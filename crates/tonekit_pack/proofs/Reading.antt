@@ -1,6 +1,5 @@
 -- What the reader's loop keeps: from here it gives what it gives of the whole, and its place is near enough for a u16. Assumes nothing.
 use Rattle.std.proofs.Common.{ℕ, ◌+◌, ◌<◌, ◌≡◌, refl, List, arith, length, length-append, ltb}
-use Rattle.tonekit_core.proofs.LoopLaws.{loop_again}
 use Rattle.std.specs.Prelude.{Result, Ok, Err}
 use Rattle.spec_arithmetic.specs.Fields.{byte_at}
 use Rattle.tonekit_pack.specs.declared.Pack.{Pack}

@@ -7,7 +7,7 @@ use Rattle.tonekit_bytes.specs.Places.{in_order}
 use Rattle.tonekit_pack.specs.Kinds.{last_of}
 use Rattle.spec_pack.specs.Pack.{Pst}
 use Rattle.tonekit_pack.specs.Format.{answer}
-use Rattle.spec_arithmetic.specs.Files.{Out, loaded}
+use Rattle.spec_arithmetic.specs.Files.{Out}
 
 -- of each array as many entries as were read
 abbrev pub shown : Pack → Pst
