@@ -1,11 +1,34 @@
 -- Cases of the definitions, each by computing it.
-use Rattle.std.specs.Prelude.{◌≡◌, ℕ, true, false, pos, negsuc, refl}
+use Rattle.std.specs.Prelude.{◌≡◌, ℕ, true, false, pos, negsuc, refl, [], ◌∷◌, Some, None}
 use Rattle.std.specs.Float.{nan, inf, fin, binary32, binary64, float_with_sign}
-use Rattle.std.specs.Float.Ieee.{round, of_int, of_bits, to_bits, is_nan, lt}
+use Rattle.std.specs.Float.Ieee.{round, of_int, of_bits, to_bits, is_nan, lt, le, eq}
+use Rattle.spec_arithmetic.specs.Constants.{one32, one64, two}
+use Rattle.spec_arithmetic.specs.Fields.{byte_at, u16_at, u32_at, f32_at, le16, le32, f32_bytes, f32s_bytes}
+use Rattle.tonekit_core.specs.Loop.{range_to, turns_to}
+use Rattle.spec_arithmetic.specs.Places.{index_of}
 use Rattle.spec_arithmetic.specs.Narrow.{narrowed}
 use Rattle.spec_arithmetic.specs.Pick.{lesser, greater}
 use Rattle.spec_arithmetic.specs.Magnitude.{magnitude, total_le}
 use Rattle.spec_arithmetic.specs.Whole.{whole_part, round_up}
+
+-- ---- "Integers are little-endian, floats IEEE 754 bits", and past the end 0 is read
+read_numbers : (byte_at (9 ∷ 8 ∷ []) 2 ≡ 0) × (u16_at (9 ∷ 1 ∷ 2 ∷ []) 1 ≡ 0x0201) × (u32_at (9 ∷ 1 ∷ 2 ∷ 3 ∷ 4 ∷ []) 1 ≡ 0x0403_0201)
+read_numbers = (refl, refl, refl)
+
+written_numbers : (le16 0x0201 ≡ 1 ∷ 2 ∷ []) × (le32 0x0403_0201 ≡ 1 ∷ 2 ∷ 3 ∷ 4 ∷ [])
+written_numbers = (refl, refl)
+
+read_float : f32_at (9 ∷ 0 ∷ 0 ∷ 128 ∷ 63 ∷ []) 1 ≡ one32
+read_float = refl
+
+written_floats : (f32_bytes one32 ≡ 0 ∷ 0 ∷ 128 ∷ 63 ∷ []) × (f32s_bytes (one32 ∷ nan ∷ []) ≡ 0 ∷ 0 ∷ 128 ∷ 63 ∷ 0 ∷ 0 ∷ 0xC0 ∷ 0x7F ∷ [])
+unfolding f32s_bytes to_bits of_bits
+written_floats = (refl, refl)
+
+-- two records of kind 2: a number is found in the first record that has it, and the kind is no number
+found : (index_of (2 ∷ 7 ∷ 2 ∷ 9 ∷ []) (0 ∷ 2 ∷ []) 9 ≡ Some 1) × (index_of (2 ∷ 7 ∷ 2 ∷ 7 ∷ []) (0 ∷ 2 ∷ []) 7 ≡ Some 0) × (index_of (2 ∷ 7 ∷ 2 ∷ 9 ∷ []) (0 ∷ 2 ∷ []) 2 ≡ None)
+unfolding index_of range_to turns_to
+found = (refl, refl, refl)
 
 -- ---- f64 to f32, by their patterns: 1 + 2 ^ -24 and 1 + 3 * 2 ^ -24 lie halfway between two f32
 tie_down : narrowed (of_bits binary64 0x3FF0_0000_1000_0000) ≡ of_bits binary32 0x3F80_0000
@@ -78,6 +101,14 @@ unfolding of_int round
 u32_greatest = refl
 
 -- ---- minimum and maximum: of two zeros the earlier, of a NaN and a number the number
+lesser_number : (lesser one64 two ≡ one64) × (lesser two one64 ≡ one64)
+unfolding lesser is_nan lt of_bits
+lesser_number = (refl, refl)
+
+greater_number : (greater one64 two ≡ two) × (greater two one64 ≡ two)
+unfolding greater is_nan lt of_bits
+greater_number = (refl, refl)
+
 lesser_zeros : lesser (fin false 0 (pos 0)) (fin true 0 (pos 0)) ≡ fin false 0 (pos 0)
 unfolding lesser is_nan lt
 lesser_zeros = refl
@@ -110,6 +141,10 @@ magnitude_zero = refl
 magnitude_nan : magnitude nan ≡ nan
 unfolding float_with_sign
 magnitude_nan = refl
+
+total_numbers : (total_le one64 two ≡ true) × (total_le two one64 ≡ false)
+unfolding total_le is_nan le lt eq of_bits
+total_numbers = (refl, refl)
 
 -- a NaN is above infinity, and infinity is not above a NaN
 nan_greatest : total_le (inf false) nan ≡ true

@@ -1,8 +1,8 @@
 -- Bench cases and worked examples, by computation.
-use Rattle.std.specs.Prelude.{◌≡◌, negsuc, refl, Float}
-use Rattle.std.specs.Float.{binary64}
+use Rattle.std.specs.Prelude.{◌≡◌, true, false, pos, negsuc, refl, Float}
+use Rattle.std.specs.Float.{fin, binary64}
 use Rattle.std.specs.Float.Ieee.{is_nan, neg, add, sub, mul, div, lt, of_bits, of_int, round}
-use Rattle.spec_arithmetic.specs.Constants.{whole64}
+use Rattle.spec_arithmetic.specs.Constants.{ROOT2, one64, whole64}
 use Rattle.spec_arithmetic.specs.Log.{ln_of, log2_of, log_by, parts_of, centred, series, log_horner}
 use Rattle.spec_arithmetic.specs.Exp.{exp_of, exp_by, exp_series, exp_horner, floor_of}
 
@@ -10,16 +10,16 @@ use Rattle.spec_arithmetic.specs.Exp.{exp_of, exp_by, exp_series, exp_horner, fl
 abbrev semitones : Float → Float
 semitones x = mul binary64 (whole64 12) (log2_of (div binary64 x (whole64 55)))
 
--- "55 Hz is 0 semitones, 110 is 12, 27.5 is −12"
-pub at_55 : semitones (whole64 55) ≡ whole64 0
+-- "55 Hz is 0 semitones, 110 is 12, 27.5 is −12": 12 is 3 · 2 ^ 2
+pub at_55 : semitones (whole64 55) ≡ fin false 0 (pos 0)
 unfolding log2_of add sub mul div lt of_bits of_int round log_by parts_of centred series log_horner
 at_55 = refl
 
-pub at_110 : semitones (whole64 110) ≡ whole64 12
+pub at_110 : semitones (whole64 110) ≡ fin false 3 (pos 2)
 unfolding log2_of add sub mul div lt of_bits of_int round log_by parts_of centred series log_horner
 at_110 = refl
 
-pub at_27_5 : semitones (of_bits binary64 0x403B_8000_0000_0000) ≡ of_int binary64 (negsuc 11)
+pub at_27_5 : semitones (of_bits binary64 0x403B_8000_0000_0000) ≡ fin true 3 (pos 2)
 unfolding log2_of add sub mul div lt of_bits of_int round log_by parts_of centred series log_horner
 at_27_5 = refl
 
@@ -35,3 +35,18 @@ log2_of_3 = refl
 pub exp_below_18 : exp_of (of_bits binary64 0xC032_5000_0000_0000) ≡ of_bits binary64 0x3E47_EDA6_3A15_1DB8
 unfolding exp_of is_nan neg add sub mul div lt of_bits of_int round exp_by exp_series exp_horner floor_of
 exp_below_18 = refl
+
+-- "if m > 1.4142135623730951, halve m": not that number itself
+pub bound_not_halved : centred (record { m = ROOT2; e = one64 }) ≡ record { m = ROOT2; e = one64 }
+unfolding centred lt of_bits
+bound_not_halved = refl
+
+-- "below −708 it is 0"
+pub exp_of_708_5 : exp_of (of_bits binary64 0xC086_2400_0000_0000) ≡ fin false 0 (pos 0)
+unfolding exp_of exp_by exp_series exp_horner floor_of is_nan neg add sub mul div lt of_bits of_int round
+exp_of_708_5 = refl
+
+-- the floors of −2 and −1.5
+pub floors : (floor_of (fin true 1 (pos 1)) ≡ negsuc 1) × (floor_of (fin true 3 (negsuc 0)) ≡ negsuc 1)
+unfolding floor_of
+floors = (refl, refl)
