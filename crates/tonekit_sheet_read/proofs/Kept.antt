@@ -4,7 +4,6 @@ use lib.ListN.{get_or-append}
 use Rattle.spec_arithmetic.specs.Fields.{byte_at}
 use Rattle.tonekit_core.proofs.Split.{split}
 use Rattle.tonekit_core.proofs.Lists.{last_snoc}
-use Rattle.tonekit_pack.proofs.Each.{last_snoc}
 use Rattle.spec_sheet.specs.Reader.{Sst, size_of, last_list, body_verdict, added, start}
 use Rattle.tonekit_sheet.proofs.Every.{every_snoc}
 use Rattle.tonekit_sheet.proofs.Records.{Complete, rows_done, list_done, Due, settings, tone, accent, row, list, component, finish, tone_room, accent_room, list_room, list_some, component_room}
