@@ -1,4 +1,5 @@
 -- A search by number among a pack's or a sheet's records finds what a station holds under that number. Assumes nothing.
+use Rattle.std.specs.Prelude.{Option}
 use Rattle.std.proofs.Common.{ℕ, zero, suc, ◌+◌, ◌-◌, ◌<◌, ◌≡◌, refl, ◌∙◌, ap, is_some, Bool, true, false, cond, ◌||◌, List, [], ◌∷◌, map, arith, add-one, eqb, length, get_or, drop, drop_of_length-le, drop-cons}
 use Rattle.std.specs.Prelude.{Some, None}
 use mathlib.Core.Option.{none, some}
@@ -8,7 +9,6 @@ use Rattle.tonekit_pack.specs.declared.Pack.{Pack}
 use Rattle.tonekit_pack.specs.Held.{shown}
 use Rattle.tonekit_core.proofs.Split.{split}
 use Rattle.tonekit_bytes.proofs.InOrder.{order_length, order_get}
-use Rattle.spec_lookup.specs.Lookup.{Found}
 use Rattle.spec_lookup.specs.Source.{Tone, Accent, accent_at, accent_in, tone_in, source_of_pack}
 use Rattle.tonekit_expect.proofs.Walk.{index_found}
 use Rattle.spec_judgement.specs.declared.Tolerance.{Tolerance}
@@ -16,16 +16,16 @@ use Rattle.spec_judgement.specs.Fields.{tolerance_at}
 use Rattle.spec_judgement.specs.Gather.{tolerance_of, graded_of}
 
 -- what is said of the record that a search found: hit of its offset, or miss
-abbrev pick : {R : Type 0} → (ℕ → R) → R → List ℕ → Found → R
+abbrev pick : {R : Type 0} → (ℕ → R) → R → List ℕ → Option ℕ → R
 pick hit miss os (Some i) = hit (get_or os i 0)
 pick hit miss os None = miss
 
 -- what a list says of the first record with number n is what the search finds
 module _ {R : Type 0} (s : List ℕ) (n : ℕ) (hit : ℕ → R) (miss : R) (says : List ℕ → R) (ends : says [] ≡ miss) (goes : (o : ℕ) (os : List ℕ) → says (o ∷ os) ≡ cond (eqb (number_at s o) n) (hit o) (says os)) where
-  abbrev on : List ℕ → ℕ → ℕ → Turn ℕ Found → Found
+  abbrev on : List ℕ → ℕ → ℕ → Turn ℕ (Option ℕ) → Option ℕ
   on os = turns_to (index_turn s os n) (λ u. None)
 
-  stopped : (os : List ℕ) (k j : ℕ) (f : Found) → on os k j (stop f) ≡ f
+  stopped : (os : List ℕ) (k j : ℕ) (f : Option ℕ) → on os k j (stop f) ≡ f
   unfolding turns_to
   stopped os zero j f = refl
   stopped os (suc k) j f = refl
@@ -65,7 +65,7 @@ module _ (s os : List ℕ) (n : ℕ) (tone_of : ℕ → Tone) (number : (o : ℕ
   unfolding tone_in
   tones = searched s n (λ o. true) false (λ l. tone_in (map tone_of l) n) refl (λ o l. rw (number o) (or_cond (eqb (number_at s o) n) (tone_in (map tone_of l) n))) os
 
-  either : (f : Found) → pick (λ o. true) false os f ≡ is_some f
+  either : (f : Option ℕ) → pick (λ o. true) false os f ≡ is_some f
   either None = refl
   either (Some i) = refl
 

@@ -5,7 +5,6 @@ use Rattle.spec_pack.specs.Pack.{Pst, Out, loaded, refused, load_pack}
 use Rattle.tonekit_pack.specs.Held.{shown}
 use Rattle.tonekit_pack.specs.declared.Pack.{Pack}
 use Rattle.spec_lookup.specs.Lookup as lookup
-use Rattle.spec_lookup.specs.Lookup.{Look}
 use Rattle.spec_lookup.specs.Source.{Source, source_of_pack}
 use Rattle.spec_lookup.specs.declared.Listing.{Listing}
 
@@ -33,5 +32,5 @@ pub record Short (s : List ℕ) (l : Listing) : Type 0 where
   pub each : (j : ℕ) → j < l.count → lookup.Listed s l j
 
 -- what a lookup in a pack that loads finds
-abbrev pub Looked : List ℕ → Look → Type 0
+abbrev pub Looked : List ℕ → Option Listing → Type 0
 Looked s k = (l : Listing) → k ≡ Some l → Short s l
