@@ -5,7 +5,7 @@ use Rattle.tonekit_core.specs.declared.layout.TheConstants.{CITATION_FORM, MIXTU
 use Rattle.tonekit_core.specs.declared.layout.TheConstants.{TONE_KNOT_COUNT, TONE_KNOTS, PART_SIZE, PART_WEIGHT, PART_KNOT_COUNT, PART_KNOTS}
 use Rattle.spec_arithmetic.specs.Fields.{byte_at, u16_at, f32_at}
 use Rattle.spec_arithmetic.specs.Places.{number_at, index_of}
-use Rattle.spec_pack.specs.Ranges.{one_f}
+use Rattle.spec_arithmetic.specs.Constants.{one32}
 use Rattle.spec_pack.specs.Pack.{Pst, parts_from}
 use Rattle.spec_lookup.specs.Knots.{Knots, knots_at, expanded}
 use Rattle.spec_lookup.specs.declared.Winner.{Winner}
@@ -113,7 +113,7 @@ part_knots_at s o = knots_at s (o + PART_KNOTS) (byte_at s (o + PART_KNOT_COUNT)
 -- component j of a listing. A citation has weight 1 and its knots in the tone's record; a part has both in its own. "Part number": its place in a mixture
 unfoldable pub component_of : List ℕ → Listing → ℕ → Component
 component_of s l j =
-    cond (eqb l.name.form CITATION_FORM) (record { name = l.name; part = 0; weight = one_f; points = expanded (tone_knots_at s l.at) })
+    cond (eqb l.name.form CITATION_FORM) (record { name = l.name; part = 0; weight = one32; points = expanded (tone_knots_at s l.at) })
     (record {
       name = l.name;
       part = cond (eqb l.name.form MIXTURE_FORM) j 0;
