@@ -1,5 +1,5 @@
 -- Document 01's section Lookup, on a pack that was read: which curves a context takes. Names follow `expect.rs`.
-use Rattle.std.specs.Prelude.{ℕ, ◌+◌, ◌*◌, ◌≤◌, ◌<◌, Bool, true, cond, ◌&&◌, ◌||◌, ◌≡◌, List, Option, Some, None, eqb, ltb, length, get_or, Float}
+use Rattle.std.specs.Prelude.{ℕ, ◌+◌, ◌*◌, Bool, true, cond, ◌&&◌, ◌||◌, List, Option, Some, None, eqb, ltb, length, get_or, Float}
 use Rattle.tonekit_core.specs.Loop.{Turn, next, stop, range, loop_to}
 use Rattle.tonekit_core.specs.declared.layout.TheConstants.{CITATION_FORM, MIXTURE_FORM, ACCENT_PARENT, RULE_SIZE, RULE_LABEL, RULE_TONE, RULE_PREV, RULE_FINAL, RULE_FORM}
 use Rattle.tonekit_core.specs.declared.layout.TheConstants.{TONE_KNOT_COUNT, TONE_KNOTS, PART_SIZE, PART_WEIGHT, PART_KNOT_COUNT, PART_KNOTS}
@@ -7,7 +7,7 @@ use Rattle.spec_arithmetic.specs.Fields.{byte_at, u16_at, f32_at}
 use Rattle.spec_arithmetic.specs.Places.{number_at, index_of}
 use Rattle.spec_arithmetic.specs.Constants.{one32}
 use Rattle.spec_pack.specs.Pack.{Pst, parts_from}
-use Rattle.spec_lookup.specs.Knots.{Knots, knots_at, expanded}
+use Rattle.spec_lookup.specs.Knots.{knots_at, expanded}
 use Rattle.spec_lookup.specs.declared.Winner.{Winner}
 use Rattle.spec_lookup.specs.declared.Context.{Context}
 use Rattle.spec_lookup.specs.declared.Listing.{Listing}
@@ -73,10 +73,6 @@ climb_turn s st c i = or_parent s st i (best_rule s st c i)
 unfoldable pub find_rule : List ℕ → Pst → Context → ℕ → Option Winner
 find_rule s st c i = loop_to (climb_turn s st c) None (length st.accents) i
 
--- a winner is the rule of one of n accents, at an offset as offsets are held
-abbrev pub Placed : ℕ → Option Winner → Type 0
-Placed n w = (x : Winner) → w ≡ Some x → (x.accent < n) × (x.rule < 65536)
-
 -- the rule at r, under the number of the accent whose it is, with the parts that follow it
 abbrev pub rule_listing : List ℕ → ℕ → ℕ → Listing
 rule_listing s owner r = record {
@@ -120,14 +116,3 @@ component_of s l j =
       weight = f32_at s (l.at + PART_SIZE * j + PART_WEIGHT);
       points = expanded (part_knots_at s (l.at + PART_SIZE * j));
     })
-
--- its knots
-abbrev pub knots_of : List ℕ → Listing → ℕ → List Float
-knots_of s l j =
-    cond (eqb l.name.form CITATION_FORM) (tone_knots_at s l.at) (part_knots_at s (l.at + PART_SIZE * j))
-
--- component j can be read, as in each listing that a pack that loads gives: it stands within the bytes, and its knots are in their ranges
-pub record Listed (s : List ℕ) (l : Listing) (j : ℕ) : Type 0 where
-  pub inside : l.at + PART_SIZE * j + PART_SIZE ≤ length s
-  pub few : j < 4
-  pub curve : Knots (knots_of s l j)

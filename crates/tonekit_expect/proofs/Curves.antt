@@ -19,7 +19,8 @@ use Rattle.std.specs.Prelude.{Some, None}
 use Rattle.spec_lookup.specs.declared.Context.{Context}
 use Rattle.spec_lookup.specs.declared.Listing.{Listing}
 use Rattle.spec_lookup.specs.Knots.{Knot, Point, Knots, knots_at}
-use Rattle.spec_lookup.specs.Lookup.{to_rule, find_rule, rule_listing, citation, listed, look_at, look_up, knots_of, component_of, Listed}
+use Rattle.spec_lookup.specs.Lookup.{to_rule, find_rule, rule_listing, citation, listed, look_at, look_up, component_of}
+use Rattle.tonekit_expect.specs.Pieces.{knots_of, Listed}
 use Rattle.tonekit_core.proofs.Split.{split}
 use Rattle.tonekit_pack.proofs.Loads.{RuleFine, Loads, loads, firsts_bound}
 use Rattle.tonekit_expect.proofs.Bound.{length_knots, points_bounded}

@@ -9,7 +9,7 @@ use Rattle.std.specs.Prelude.{Some, None}
 use Rattle.spec_lookup.specs.declared.Winner.{Winner}
 use Rattle.spec_lookup.specs.declared.Context.{Context}
 use Rattle.spec_lookup.specs.Lookup.{matches, more_than, better_of, from_rule, to_rule, best_rule, parent_of, or_parent, to_parent, climb_turn, find_rule, listed, look_at, look_up}
-use Rattle.tonekit_expect.specs.Walking.{best_turn, won}
+use Rattle.tonekit_expect.specs.Pieces.{best_turn, won}
 
 -- ---- the search
 module _ (s os : List ℕ) (n : ℕ) where

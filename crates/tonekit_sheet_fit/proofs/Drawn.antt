@@ -12,7 +12,7 @@ use Rattle.std.specs.Prelude.{Some, None}
 use Rattle.spec_lookup.specs.declared.Context.{Context}
 use Rattle.spec_lookup.specs.declared.Listing.{Listing}
 use Rattle.spec_lookup.specs.Lookup.{from_rule, to_rule, find_rule, rule_listing, citation, listed, look_at, look_up}
-use Rattle.tonekit_expect.specs.Walking.{won}
+use Rattle.tonekit_expect.specs.Pieces.{won}
 use Rattle.spec_lookup.specs.Source.{Carried, components}
 use Rattle.tonekit_expect.proofs.Walk.{index_found, winner_of}
 

@@ -3,7 +3,8 @@ use Rattle.std.specs.Prelude.{Option}
 use Rattle.std.specs.Prelude.{ℕ, ◌-◌, ◌≤◌, ◌<◌, ◌≡◌, cond, List, Some, eqb}
 use Rattle.tonekit_core.specs.declared.layout.TheConstants.{CITATION_FORM, RULE_KIND, RULE_SIZE}
 use Rattle.spec_arithmetic.specs.Fields.{byte_at}
-use Rattle.spec_lookup.specs.Lookup.{rule_listing, citation, Listed}
+use Rattle.spec_lookup.specs.Lookup.{rule_listing, citation}
+use Rattle.tonekit_expect.specs.Pieces.{Listed}
 use Rattle.spec_lookup.specs.Source.{Carried, components}
 use Rattle.spec_lookup.specs.declared.Listing.{Listing}
 
