@@ -14,7 +14,7 @@ use Rattle.spec_lookup.specs.declared.Context.{Context}
 use Rattle.spec_lookup.specs.declared.Listing.{Listing}
 use Rattle.spec_arithmetic.specs.Position.{position}
 use Rattle.spec_lookup.specs.Knots.{segment, fraction, on_line, point_at, first_points, expanded, knots_at, point_most, point_least}
-use Rattle.spec_lookup.specs.Lookup.{meets, matches, specificity, better_of, best_rule, climb_turn, find_rule, rule_listing, listed, look_up, tone_knots_at, component_of, knots_of}
+use Rattle.spec_lookup.specs.Lookup.{meets, matches, specificity, better_of, best_rule, climb_turn, find_rule, rule_listing, listed, look_up, tone_knots_at, part_knots_at, component_of}
 use Rattle.spec_lookup.specs.Source.{settings_at, tone_at, accent_at}
 
 abbrev pub two : Float
@@ -157,6 +157,6 @@ parts = record { name = record { owner = 1; form = 3; label = 2 }; at = 0; count
 
 fields5 : ((component_of (replicate 46 0 ++ record5) parts 1).weight ≡ f32 0x0403_0201)
     × ((component_of (replicate 46 0 ++ record5) parts 1).part ≡ 1)
-    × (knots_of (replicate 46 0 ++ record5) parts 1 ≡ f32 0x0908_0706 ∷ f32 0x0d0c_0b0a ∷ f32 0x1110_0f0e ∷ f32 0x1514_1312 ∷ f32 0x1918_1716 ∷ [])
+    × (part_knots_at (replicate 46 0 ++ record5) 46 ≡ f32 0x0908_0706 ∷ f32 0x0d0c_0b0a ∷ f32 0x1110_0f0e ∷ f32 0x1514_1312 ∷ f32 0x1918_1716 ∷ [])
 unfolding component_of knots_at
 fields5 = (refl, refl, refl)

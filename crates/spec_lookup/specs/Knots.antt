@@ -10,12 +10,9 @@ use Rattle.spec_arithmetic.specs.Fields.{f32_at}
 use Rattle.spec_arithmetic.specs.Position.{position}
 use Rattle.spec_arithmetic.specs.Constants.{whole64}
 
--- the knot at or before a position, but never the last one
-abbrev pub knot_before : Float → ℕ → ℕ
-knot_before x last = min (whole_part x) (last - 1)
-
+-- the knot at or before point i, but never the last one
 unfoldable pub segment : ℕ → ℕ → ℕ
-segment i last = knot_before (position i last) last
+segment i last = min (whole_part (position i last)) (last - 1)
 
 -- how far past that knot the point lies
 unfoldable pub fraction : ℕ → ℕ → Float

@@ -1,4 +1,5 @@
 -- What a station holds, whichever bytes it was read from: settings, tones in order, accents with tolerances, and what each lookup gives. Floats by their bits.
+use Rattle.std.specs.Prelude.{Option as Found}
 use Rattle.std.specs.Prelude.{ℕ, zero, suc, ◌+◌, Bool, false, cond, ◌||◌, List, [], ◌∷◌, ◌++◌, Some, None, map, eqb}
 use Rattle.std.proofs.Math.Option.{Option, none, some}
 use Rattle.std.specs.Float.{binary32}
@@ -8,7 +9,7 @@ use Rattle.tonekit_core.specs.declared.layout.TheConstants.{ACCENT_CONTOUR, TOLE
 use Rattle.spec_arithmetic.specs.Fields.{byte_at, u32_at}
 use Rattle.spec_arithmetic.specs.Places.{number_at}
 use Rattle.spec_pack.specs.Pack.{Pst}
-use Rattle.spec_lookup.specs.Lookup.{Look, look_up, component_of}
+use Rattle.spec_lookup.specs.Lookup.{look_up, component_of}
 use Rattle.spec_lookup.specs.declared.Context.{Context}
 use Rattle.spec_lookup.specs.declared.Listing.{Listing}
 use Rattle.spec_lookup.specs.declared.Component.{Component}
@@ -68,7 +69,7 @@ unfoldable pub components : List ℕ → Listing → ℕ → List Carried
 components s l zero = []
 components s l (suc n) = components s l n ++ (carried (component_of s l n) ∷ [])
 
-abbrev pub given : List ℕ → Look → Option (List Carried)
+abbrev pub given : List ℕ → Found Listing → Option (List Carried)
 given s None = none
 given s (Some l) = some (components s l l.count)
 

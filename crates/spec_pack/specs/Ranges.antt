@@ -5,24 +5,16 @@ use Rattle.std.specs.Float.Ieee.{lt, le, neg}
 use Rattle.std.specs.Float.Ieee.Scale.{finite}
 use Rattle.tonekit_core.specs.Loop.{range}
 use Rattle.tonekit_core.specs.declared.layout.TheConstants.{F32_SIZE, REGION_FROM, REGION_TO, TOLERANCE_ONSET, TOLERANCE_OFFSET, TOLERANCE_TURNING}
+use Rattle.spec_arithmetic.specs.Constants.{zero32, one32}
 use Rattle.spec_arithmetic.specs.Fields.{byte_at, u32_at, f32_at}
-
-abbrev pub zero_f : Float
-zero_f = fin false 0 (pos 0)
-
-abbrev pub one_f : Float
-one_f = fin false 1 (pos 0)
-
-abbrev pub hundred : Float
-hundred = fin false 25 (pos 2)
 
 -- "Temperature and tolerances are finite and above 0"
 unfoldable pub above_zero : Float → Bool
-above_zero x = lt zero_f x && lt x (inf false)
+above_zero x = lt zero32 x && lt x (inf false)
 
 -- "prior and threshold above 0, at most 1"
 unfoldable pub a_share : Float → Bool
-a_share x = lt zero_f x && le x one_f
+a_share x = lt zero32 x && le x one32
 
 -- of size at most `most`
 unfoldable pub within : Float → Float → Bool
@@ -30,7 +22,7 @@ within x most = le (neg most) x && le x most
 
 -- "Knots number 1 to 10, size at most 100"
 unfoldable pub knot_fine : Float → Bool
-knot_fine x = le (fin true 25 (pos 2)) x && le x hundred
+knot_fine x = le (fin true 25 (pos 2)) x && le x (fin false 25 (pos 2))
 
 -- "weights finite, sign clear, zero allowed": the patterns below infinity's
 unfoldable pub weight_fine : ℕ → Bool

@@ -1,4 +1,6 @@
 -- A pack's lookups are those of its book (`look_same`), and so is all that a station with the pack holds (`pack_source`). Assumes nothing.
+use Rattle.std.specs.Prelude.{Option as Found}
+use Rattle.spec_lookup.specs.declared.Winner.{Winner}
 use Rattle.std.proofs.Common.{ℕ, zero, suc, ◌+◌, ◌-◌, ◌≡◌, refl, sym, ◌∙◌, ap, ap₂, Bool, true, false, cond, ◌&&◌, List, arith, eqb, length, get_or}
 use mathlib.Core.Option.{Option, none, some}
 use Rattle.tonekit_core.specs.Loop.{Turn, next, stop, fold, turns, range, turns_to, range_to, loop_on, loop_to}
@@ -9,14 +11,14 @@ use Rattle.spec_pack.specs.Pack.{Pst, parts_from}
 use Rattle.tonekit_core.proofs.Split.{split}
 use Rattle.spec_lookup.specs.declared.Context.{Context}
 use Rattle.std.specs.Prelude.{Some, None}
-use Rattle.spec_lookup.specs.Lookup.{Found, Walked, matches, specificity, more_than, better_of, from_rule, to_rule, best_rule, parent_of, or_parent, climb_turn, find_rule, rule_listing, listed, look_at, look_up}
+use Rattle.spec_lookup.specs.Lookup.{matches, specificity, more_than, better_of, from_rule, to_rule, best_rule, parent_of, or_parent, climb_turn, find_rule, rule_listing, listed, look_at, look_up}
 use Rattle.spec_lookup.specs.Source.{Carried, components, given, settings_at, tone_at, accent_at, source_of_pack}
 use Rattle.tonekit_book.specs.Book.{Rule, BookAccent, BookTone, first_with, book_accent_in, rule_matches, conditions, better_rule, best_of, given_or, from_parent, climb, or_citation, look_with, look_in, source_of, tabulate, book_tone_at, rule_at, pack_tone, pack_accent, book_of}
 use Rattle.tonekit_book.proofs.Tabulate.{tabulate_length, map_tabulate, tabulate_all}
 
 -- ---- a search by number
 -- what stands at the place that was found
-abbrev pub at_found : {A : Type 0} → (ℕ → A) → Found → Option A
+abbrev pub at_found : {A : Type 0} → (ℕ → A) → Found ℕ → Option A
 at_found g (Some i) = some (g i)
 at_found g None = none
 
@@ -43,19 +45,19 @@ module _ (s : List ℕ) (owner : ℕ) (rules : List ℕ) (c : Context) where
   abbrev rule : ℕ → Rule
   rule o = rule_at s owner o
 
-  found_cond : (t : Bool) (o : ℕ) (f : Found) → at_found rule (cond t (Some o) f) ≡ cond t (some (rule o)) (at_found rule f)
+  found_cond : (t : Bool) (o : ℕ) (f : Found ℕ) → at_found rule (cond t (Some o) f) ≡ cond t (some (rule o)) (at_found rule f)
   found_cond true o f = refl
   found_cond false o f = refl
 
-  better_same : (f : Found) (o : ℕ) → at_found rule (better_of s c f o) ≡ better_rule c (at_found rule f) (rule o)
+  better_same : (f : Found ℕ) (o : ℕ) → at_found rule (better_of s c f o) ≡ better_rule c (at_found rule f) (rule o)
   unfolding better_of better_rule matches specificity rule_matches conditions
   better_same (Some b) o = found_cond (matches s c o && more_than s (Some b) o) o (Some b)
   better_same None o = found_cond (matches s c o && true) o None
 
-  abbrev best_turn : ℕ → Found → Found
+  abbrev best_turn : ℕ → Found ℕ → Found ℕ
   best_turn k best = better_of s c best (get_or rules k 0)
 
-  best_from : (k i : ℕ) (f : Found) → at_found rule (turns best_turn k i f) ≡ fold (better_rule c) (at_found rule f) (tabulate (λ k. rule (get_or rules k 0)) k i)
+  best_from : (k i : ℕ) (f : Found ℕ) → at_found rule (turns best_turn k i f) ≡ fold (better_rule c) (at_found rule f) (tabulate (λ k. rule (get_or rules k 0)) k i)
   unfolding turns fold tabulate
   best_from zero i f = refl
   best_from (suc k) i f = best_from k (i + 1) (best_turn i f) ∙ ap (λ o. fold (better_rule c) o (tabulate (λ k. rule (get_or rules k 0)) k (i + 1))) (better_same f (get_or rules i 0))
@@ -76,7 +78,7 @@ module _ (s : List ℕ) (st : Pst) (c : Context) where
   accents = tabulate (pack_accent s st) (length st.accents) 0
 
   -- the components of the rule that the walk ends with
-  abbrev its_list : Walked → Option (List Carried)
+  abbrev its_list : Found Winner → Option (List Carried)
   its_list (Some w) = some (components s (rule_listing s (number_at s (get_or st.accents w.accent 0)) w.rule) (parts_from 4 s (w.rule + 7)))
   its_list None = none
 
@@ -84,10 +86,10 @@ module _ (s : List ℕ) (st : Pst) (c : Context) where
   parent_same i = index_same (λ (a : BookAccent). a.accent.number) s st.accents (pack_accent s st i).parent (pack_accent s st) (λ i. refl)
 
   -- n accents at most, from accent i on
-  abbrev walk : ℕ → ℕ → Walked
+  abbrev walk : ℕ → ℕ → Found Winner
   walk n i = loop_to (climb_turn s st c) None n i
 
-  step : (n i : ℕ) → ((j : ℕ) → its_list (walk n j) ≡ climb accents c n (pack_accent s st j)) → (f : Found) → best_rule s st c i ≡ f → (p : Found) → parent_of s st i ≡ p
+  step : (n i : ℕ) → ((j : ℕ) → its_list (walk n j) ≡ climb accents c n (pack_accent s st j)) → (f : Found ℕ) → best_rule s st c i ≡ f → (p : Found ℕ) → parent_of s st i ≡ p
       → its_list (loop_on (climb_turn s st c) None n (or_parent s st i f)) ≡ given_or (at_found (rule_at s (number_at s (get_or st.accents i 0))) f)
       (from_parent (climb accents c n) (at_found (pack_accent s st) p))
   unfolding loop_to
@@ -105,11 +107,11 @@ module _ (s : List ℕ) (st : Pst) (c : Context) where
 -- ---- the lookup
 module _ (s : List ℕ) (st : Pst) (c : Context) where
   -- the rule's components, or the citation of the tone at o
-  given_same : (o : ℕ) (w : Walked) → given s (listed s st c o w) ≡ or_citation c.accent (book_tone_at s o) (its_list s st c w)
+  given_same : (o : ℕ) (w : Found Winner) → given s (listed s st c o w) ≡ or_citation c.accent (book_tone_at s o) (its_list s st c w)
   given_same o (Some w) = refl
   given_same o None = split (eqb (byte_at s (o + 6)) 0) (λ t. rw t) (λ t. rw t)
 
-  at_same : (a t : Found) → given s (look_at s st c a t) ≡ look_with (accents s st c) c (at_found (pack_accent s st) a) (at_found (pack_tone s st) t)
+  at_same : (a t : Found ℕ) → given s (look_at s st c a t) ≡ look_with (accents s st c) c (at_found (pack_accent s st) a) (at_found (pack_tone s st) t)
   unfolding find_rule
   at_same None t = refl
   at_same (Some i) None = refl

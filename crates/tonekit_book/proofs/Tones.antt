@@ -4,7 +4,7 @@ use mathlib.Core.Option.{none, some}
 use Rattle.std.specs.Prelude.{Ok}
 use Rattle.spec_arithmetic.specs.Fields.{byte_at}
 use Rattle.spec_arithmetic.specs.Places.{number_at}
-use Rattle.spec_pack.specs.Ranges.{one_f}
+use Rattle.spec_arithmetic.specs.Constants.{one32}
 use Rattle.spec_pack.specs.Pack.{Pst, size_of, tone_fine, added, start}
 use Rattle.tonekit_core.proofs.Split.{split, neither}
 use Rattle.tonekit_pack.proofs.Records.{passed}
@@ -43,7 +43,7 @@ module _ (s : List ℕ) (at : ℕ) (r : List ℕ) (n : length r ≡ 56) (few : b
   citation_own owner =
       let c = byte_same s at r h (at + 6) 6 refl (omega arith) in
       let k = ap (knots_at s (at + 7)) c ∙ knots_own s at r h (byte_at r 6) (at + 7) 7 refl (omega arith) in
-      ap (λ y. carried (record { name = record { owner = owner; form = 1; label = 0 }; part = 0; weight = one_f; points = expanded y }) ∷ []) k
+      ap (λ y. carried (record { name = record { owner = owner; form = 1; label = 0 }; part = 0; weight = one32; points = expanded y }) ∷ []) k
 
   tone_own : book_tone_at s at ≡ tone_of_record r
   tone_own =

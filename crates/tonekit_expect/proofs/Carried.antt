@@ -1,6 +1,6 @@
 -- What the components of a listing carry: the listing's owner, form and label; a part number in a mixture only; a citation's weight is 1; ten points.
 use Rattle.std.proofs.Common.{ℕ, zero, suc, ◌<◌, ◌≡◌, refl, ◌∙◌, ⊎_elim, cond, List, [], ◌∷◌, arith, add-one, le_of_suc-le-suc, eq-or-lt_of_le, eqb, length, get_or, length-append, eqb-true, eq-eqb}
-use lib.Ieee.{to_bits, binary32}
+use lib.Ieee.{to_bits, binary32, of_bits}
 use lib.ListN.{get_or-append, length-map}
 use lib.Seq.{get_or_at}
 use Rattle.spec_lookup.specs.declared.Listing.{Listing}
@@ -27,7 +27,7 @@ module _ (s : List ℕ) (l : Listing) where
 
   -- "A citation has .. weight 1"
   pub citation_weight : (j : ℕ) → l.name.form ≡ 1 → (carried (component_of s l j)).weight ≡ 0x3f80_0000
-  unfolding carried component_of to_bits
+  unfolding carried component_of of_bits to_bits
   citation_weight j e = rw (eq-eqb l.name.form 1 e)
 
   pub component_ten : (j : ℕ) → length (component_of s l j).points ≡ 10

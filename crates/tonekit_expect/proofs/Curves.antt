@@ -1,5 +1,7 @@
 -- Every component that a lookup in a pack that loads lists has a curve (`listed_fine`), and its points are finite and of size at most 128
 -- (`points_fine_lem`).
+use Rattle.std.specs.Prelude.{Option}
+use Rattle.spec_lookup.specs.declared.Winner.{Winner}
 use Rattle.std.proofs.Common.{ℕ, zero, suc, ◌+◌, ◌*◌, ◌≤◌, ◌<◌, ◌≡◌, refl, sym, ◌∙◌, subst, ⊎_elim, Bool, true, false, ◌&&◌, List, [], ◌∷◌, arith, le_of_suc-le-suc, eq-or-lt_of_le, T, eqb, ltb, pos, length, get_or, eqb-true, ltb-true, ne_eqb, lt-ltb}
 use lib.ListN.{get_or-append}
 use lib.Seq.{get_or_at}
@@ -18,7 +20,8 @@ use Rattle.std.specs.Prelude.{Some, None}
 use Rattle.spec_lookup.specs.declared.Context.{Context}
 use Rattle.spec_lookup.specs.declared.Listing.{Listing}
 use Rattle.spec_lookup.specs.Knots.{Knot, Point, Knots, knots_at}
-use Rattle.spec_lookup.specs.Lookup.{Found, Walked, to_rule, find_rule, rule_listing, citation, listed, look_at, look_up, knots_of, component_of, Listed}
+use Rattle.spec_lookup.specs.Lookup.{to_rule, find_rule, rule_listing, citation, listed, look_at, look_up, component_of}
+use Rattle.tonekit_expect.specs.Pieces.{knots_of, Listed}
 use Rattle.tonekit_core.proofs.Split.{split}
 use Rattle.tonekit_pack.proofs.Loads.{RuleFine, Loads, loads, firsts_bound}
 use Rattle.tonekit_expect.proofs.Bound.{length_knots, points_bounded}
@@ -95,7 +98,7 @@ module _ (s : List ℕ) (st : Pst) (e : ℕ) (l : Loads s st e) (c : Context) wh
       let o = get_or st.tones t 0 in
       record { inside = omega (arith, f.whole); few = omega arith; curve = slots_knots s (o + 7) (byte_at s (o + 6)) (omega (arith, n)) f.few f.knots }
 
-  of_winner : (m : Listing) (i t j : ℕ) → i < length st.accents → t < length st.tones → (w : Walked) → find_rule s st c i ≡ w
+  of_winner : (m : Listing) (i t j : ℕ) → i < length st.accents → t < length st.tones → (w : Option Winner) → find_rule s st c i ≡ w
       → listed s st c (get_or st.tones t 0) w ≡ Some m → j < m.count → Listed s m j
   of_winner m i t j hi ht (Some w) q g h =
       let a = w.accent in
@@ -111,7 +114,7 @@ module _ (s : List ℕ) (st : Pst) (e : ℕ) (l : Loads s st e) (c : Context) wh
       let is : citation c.accent o ≡ m = cc in
       subst (λ (l : Listing). Listed s l j) is (of_citation t j ht (eqb-false (byte_at s (o + 6)) 0 z) (subst (λ (l : Listing). j < l.count) (sym is) h)))
 
-  of_places : (m : Listing) (j : ℕ) (f g : Found) → index_of s st.accents c.accent ≡ f → index_of s st.tones c.tone ≡ g
+  of_places : (m : Listing) (j : ℕ) (f g : Option ℕ) → index_of s st.accents c.accent ≡ f → index_of s st.tones c.tone ≡ g
       → look_at s st c f g ≡ Some m → j < m.count → Listed s m j
   of_places m j (Some i) (Some t) a b q h =
       of_winner m i t j (index_found _ _ _ i a).inside (index_found _ _ _ t b).inside (find_rule s st c i) refl q h

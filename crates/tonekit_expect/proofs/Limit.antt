@@ -1,5 +1,7 @@
 -- The limit on the walk's steps never ends it: where a chain of parents ends at all, it has no more accents than there are (`limit_idle`),
 -- and where parents stand earlier, every chain ends (`earlier_ends`).
+use Rattle.std.specs.Prelude.{Option}
+use Rattle.spec_lookup.specs.declared.Winner.{Winner}
 use Rattle.std.proofs.Common.{ℕ, zero, suc, ◌+◌, ◌-◌, ◌≤◌, ◌<◌, ◌≡◌, refl, sym, ◌∙◌, ap, subst, ⊎_elim, cond, List, arith, sub-one, eqb, ltb, length, get_or, eqb-true, ltb-true, ltb-false, eq-eqb}
 use borrow.Author.Tests.{eqb-false}
 use Rattle.tonekit_core.specs.Loop.{range_to, loop_to, loop_stop}
@@ -11,7 +13,7 @@ use Rattle.spec_pack.specs.Pack.{Pst, read_pack}
 use Rattle.tonekit_bytes.specs.Places.{index_turn}
 use Rattle.std.specs.Prelude.{Some, None}
 use Rattle.spec_lookup.specs.declared.Context.{Context}
-use Rattle.spec_lookup.specs.Lookup.{Found, Walked, best_rule, parent_of, climb_turn, find_rule}
+use Rattle.spec_lookup.specs.Lookup.{best_rule, parent_of, climb_turn, find_rule}
 use Rattle.tonekit_expect.proofs.Chain.{Earlier, Ends, top, up}
 use Rattle.tonekit_core.proofs.Split.{split}
 use Rattle.tonekit_pack.proofs.Loads.{loads, parent_before}
@@ -19,10 +21,10 @@ use Rattle.tonekit_expect.proofs.Walk.{index_found, climb_hit, climb_top, climb_
 
 -- ---- a limit past the chain's end changes nothing
 module _ (s : List ℕ) (st : Pst) (c : Context) where
-  abbrev walk : ℕ → ℕ → Walked
+  abbrev walk : ℕ → ℕ → Option Winner
   walk n i = loop_to (climb_turn s st c) None n i
 
-  same : {n i : ℕ} → Ends s st n i → (m : ℕ) → n ≤ m → (f : Found) → best_rule s st c i ≡ f → walk m i ≡ walk n i
+  same : {n i : ℕ} → Ends s st n i → (m : ℕ) → n ≤ m → (f : Option ℕ) → best_rule s st c i ≡ f → walk m i ≡ walk n i
   same {i = i} (top p) m h (Some r) e = sym (loop_stop _ _ {n = m} refl (omega arith) (climb_hit s st c i r e)) ∙ loop_stop _ _ refl (omega arith) (climb_hit s st c i r e)
   same {i = i} (top p) m h None e = sym (loop_stop _ _ {n = m} refl (omega arith) (climb_top s st c i e p)) ∙ loop_stop _ _ refl (omega arith) (climb_top s st c i e p)
   same {i = i} (up p x) m h (Some r) e = sym (loop_stop _ _ {n = m} refl (omega arith) (climb_hit s st c i r e)) ∙ loop_stop _ _ refl (omega arith) (climb_hit s st c i r e)
@@ -32,7 +34,7 @@ module _ (s : List ℕ) (st : Pst) (c : Context) where
 
 -- ---- where parents stand earlier, every chain ends
 module _ (s os : List ℕ) (n : ℕ) where
-  abbrev search-from : ℕ → Found
+  abbrev search-from : ℕ → Option ℕ
   search-from i = range_to (index_turn s os n) (λ u. None) i (length os) 0
 
   -- the search stops no later than at a record with the number
@@ -49,7 +51,7 @@ module _ (s os : List ℕ) (n : ℕ) where
   unfolding index_of
   first m h q = stops_by m 0 m (omega arith) h q
 
-  none : ((m : ℕ) → m < length os → number_at s (get_or os m 0) ≡ n → ⊥) → (f : Found) → index_of s os n ≡ f → index_of s os n ≡ None
+  none : ((m : ℕ) → m < length os → number_at s (get_or os m 0) ≡ n → ⊥) → (f : Option ℕ) → index_of s os n ≡ f → index_of s os n ≡ None
   none h None e = e
   none h (Some i) e = let x = index_found s os n i e in absurd (h i x.inside x.number)
 

@@ -1,4 +1,5 @@
 -- The search by number, and one step of the walk up the parents.
+use Rattle.std.specs.Prelude.{Option}
 use Rattle.std.proofs.Common.{ℕ, zero, suc, ◌+◌, ◌-◌, ◌≤◌, ◌<◌, ◌≡◌, refl, sym, ◌∙◌, ap, subst, ◌&&◌, List, arith, eqb, length, get_or, eqb-true}
 use Rattle.tonekit_core.specs.Loop.{Turn, next, stop, turns, range, turns_to, range_to, loop_on, loop_to}
 use Rattle.spec_arithmetic.specs.Places.{index_of, number_at}
@@ -8,8 +9,8 @@ use Rattle.tonekit_core.proofs.Split.{split}
 use Rattle.std.specs.Prelude.{Some, None}
 use Rattle.spec_lookup.specs.declared.Winner.{Winner}
 use Rattle.spec_lookup.specs.declared.Context.{Context}
-use Rattle.spec_lookup.specs.Lookup.{Found, Walked, matches, more_than, better_of, from_rule, to_rule, best_rule, parent_of, or_parent, to_parent, climb_turn, find_rule, listed, look_at, look_up}
-use Rattle.tonekit_expect.specs.Walking.{best_turn, won}
+use Rattle.spec_lookup.specs.Lookup.{matches, more_than, better_of, from_rule, to_rule, best_rule, parent_of, or_parent, to_parent, climb_turn, find_rule, listed, look_at, look_up}
+use Rattle.tonekit_expect.specs.Pieces.{best_turn, won}
 
 -- ---- the search
 module _ (s os : List ℕ) (n : ℕ) where
@@ -24,7 +25,7 @@ module _ (s os : List ℕ) (n : ℕ) where
       (λ t. let q : j ≡ r = let e' = rw t at e in cc in subst Numbered q (record { inside = h; number = eqb-true (number_at s (get_or os j 0)) n t }))
       (λ f. let z : ◌≡◌ {A = ℕ} 0 1 = let e' = rw f at e in cc in absurd (omega arith))
 
-  from : (k j i : ℕ) (t : Turn ℕ Found) → k + j ≤ length os → ((r : ℕ) → t ≡ stop (Some r) → Numbered r) → turns_to (index_turn s os n) (λ u. None) k j t ≡ Some i → Numbered i
+  from : (k j i : ℕ) (t : Turn ℕ (Option ℕ)) → k + j ≤ length os → ((r : ℕ) → t ≡ stop (Some r) → Numbered r) → turns_to (index_turn s os n) (λ u. None) k j t ≡ Some i → Numbered i
   unfolding turns_to
   from zero j i (next u) h p e = let z : ◌≡◌ {A = ℕ} 0 1 = cc in absurd (omega arith)
   from zero j i (stop f) h p e = p i (ap stop e)
@@ -58,17 +59,17 @@ loop_out f d (suc n) s z r h = absurd (omega arith)
 
 -- ---- what a walk ends with: a rule of one of the accents, of which P holds if it holds of every accent's own rules
 module _ (s : List ℕ) (st : Pst) (c : Context) (P : ℕ → ℕ → Type 0) (each : (i k : ℕ) → from_rule st i ≤ k → k < to_rule st i → P i (get_or st.rules k 0)) where
-  Best : ℕ → Found → Type 0
+  Best : ℕ → Option ℕ → Type 0
   Best i f = (r : ℕ) → f ≡ Some r → P i r
 
-  better_is : (i k : ℕ) (f : Found) → from_rule st i ≤ k → k < to_rule st i → Best i f → Best i (best_turn s st.rules c k f)
+  better_is : (i k : ℕ) (f : Option ℕ) → from_rule st i ≤ k → k < to_rule st i → Best i f → Best i (best_turn s st.rules c k f)
   unfolding Best better_of
   better_is i k f l h b =
       split (matches s c (get_or st.rules k 0) && more_than s f (get_or st.rules k 0))
       (λ t r e. let q : get_or st.rules k 0 ≡ r = let e' = rw t at e in cc in subst (P i) q (each i k l h))
       (λ t r e. b r (rw t at e))
 
-  best_turns : (i k j : ℕ) (f : Found) → from_rule st i ≤ j → (0 < k → k + j ≤ to_rule st i) → Best i f → Best i (turns (best_turn s st.rules c) k j f)
+  best_turns : (i k j : ℕ) (f : Option ℕ) → from_rule st i ≤ j → (0 < k → k + j ≤ to_rule st i) → Best i f → Best i (turns (best_turn s st.rules c) k j f)
   unfolding turns
   best_turns i zero j f l h b = b
   best_turns i (suc k) j f l h b =
@@ -80,11 +81,11 @@ module _ (s : List ℕ) (st : Pst) (c : Context) (P : ℕ → ℕ → Type 0) (e
   best_is i r e = best_turns i (to_rule st i - from_rule st i) (from_rule st i) None (omega arith) (λ p. omega arith) (λ r q. let z : ◌≡◌ {A = ℕ} 0 1 = cc in absurd (omega arith)) r e
 
   -- a turn goes on to an accent, or stops with such a rule
-  record Right (t : Turn ℕ Walked) : Type 0 where
+  record Right (t : Turn ℕ (Option Winner)) : Type 0 where
     onward : (j : ℕ) → t ≡ next j → j < length st.accents
     ending : (a r : ℕ) → t ≡ stop (Some (won a r)) → (a < length st.accents) × P a r
 
-  parent_right : (i : ℕ) (f : Found) → parent_of s st i ≡ f → Right (to_parent f)
+  parent_right : (i : ℕ) (f : Option ℕ) → parent_of s st i ≡ f → Right (to_parent f)
   parent_right i (Some j) e = record {
     onward = λ k q. let h : j ≡ k = cc in subst (λ (n : ℕ). n < length st.accents) h (index_found _ _ _ j e).inside;
     ending = λ a r q. let z : ◌≡◌ {A = ℕ} 0 1 = cc in absurd (omega arith);
@@ -94,7 +95,7 @@ module _ (s : List ℕ) (st : Pst) (c : Context) (P : ℕ → ℕ → Type 0) (e
     ending = λ a r q. let z : ◌≡◌ {A = ℕ} 0 1 = cc in absurd (omega arith);
   }
 
-  turn_right : (i : ℕ) → i < length st.accents → (f : Found) → best_rule s st c i ≡ f → Right (or_parent s st i f)
+  turn_right : (i : ℕ) → i < length st.accents → (f : Option ℕ) → best_rule s st c i ≡ f → Right (or_parent s st i f)
   turn_right i h (Some r) e = record {
     onward = λ k q. let z : ◌≡◌ {A = ℕ} 0 1 = cc in absurd (omega arith);
     ending = λ a b q.
@@ -105,7 +106,7 @@ module _ (s : List ℕ) (st : Pst) (c : Context) (P : ℕ → ℕ → Type 0) (e
   }
   turn_right i h None e = parent_right i (parent_of s st i) refl
 
-  walk_right : (n : ℕ) (t : Turn ℕ Walked) (a r : ℕ) → Right t → loop_on (climb_turn s st c) None n t ≡ Some (won a r) → (a < length st.accents) × P a r
+  walk_right : (n : ℕ) (t : Turn ℕ (Option Winner)) (a r : ℕ) → Right t → loop_on (climb_turn s st c) None n t ≡ Some (won a r) → (a < length st.accents) × P a r
   unfolding loop_on climb_turn
   walk_right zero (next j) a r R e = let z : ◌≡◌ {A = ℕ} 0 1 = cc in absurd (omega arith)
   walk_right zero (stop w) a r R e = R.ending a r (ap stop e)
@@ -127,6 +128,6 @@ pub winner_is : (s : List ℕ) (st : Pst) (c : Context) (P : ℕ → Type 0) →
 winner_is s st c P each = winner_of s st c (λ a. P) (λ i k l. each i k)
 
 -- what a lookup gives whose accent and tone are held: the listing of the tone's record and of the rule that was found
-pub look_found : (s : List ℕ) (st : Pst) (c : Context) (i t o : ℕ) (w : Walked) → index_of s st.accents c.accent ≡ Some i → index_of s st.tones c.tone ≡ Some t → o ≡ get_or st.tones t 0 → w ≡ find_rule s st c i → listed s st c o w ≡ look_up s st c
+pub look_found : (s : List ℕ) (st : Pst) (c : Context) (i t o : ℕ) (w : Option Winner) → index_of s st.accents c.accent ≡ Some i → index_of s st.tones c.tone ≡ Some t → o ≡ get_or st.tones t 0 → w ≡ find_rule s st c i → listed s st c o w ≡ look_up s st c
 unfolding look_up
 look_found s st c i t o w a b p q = ap (λ n. listed s st c n w) p ∙ ap (listed s st c (get_or st.tones t 0)) q ∙ sym (ap (λ f. look_at s st c f (index_of s st.tones c.tone)) a ∙ ap (look_at s st c (Some i)) b)

@@ -8,10 +8,10 @@ ghost use Rattle.tonekit_core.specs.declared.layout.TheConstants.{MIXTURE_FORM};
 ghost use Rattle.tonekit_core.specs.Loop.{range};
 ghost use Rattle.spec_arithmetic.specs.Places.{index_of};
 ghost use Rattle.tonekit_pack.specs.Held.{shown};
-ghost use Rattle.spec_lookup.specs.Knots.{knot_before, on_line, point_at, expanded, knots_at, Point, Knots};
+ghost use Rattle.spec_lookup.specs.Knots.{on_line, point_at, expanded, knots_at, Point, Knots};
 ghost use Rattle.spec_pack.specs.Pack.{parts_from};
-ghost use Rattle.spec_lookup.specs.Lookup.{final_of, meets, matches, one_if, specificity, better_of, best_rule, parent_of, find_rule, Placed, rule_listing, citation, listed, look_up, component_of, Listed};
-ghost use Rattle.tonekit_expect.specs.Walking.{best_turn};
+ghost use Rattle.spec_lookup.specs.Lookup.{final_of, meets, matches, one_if, specificity, better_of, best_rule, parent_of, find_rule, rule_listing, citation, listed, look_up, component_of};
+ghost use Rattle.tonekit_expect.specs.Pieces.{best_turn, Placed, Listed, knot_before};
 
 pub use spec_lookup::{Component, Context, Listing, Winner};
 use tonekit_bytes::places::index_of;

@@ -1,11 +1,12 @@
 -- The components of a listing have one owner, form and label, and in a mixture each its place as its part number. Assumes nothing.
+use Rattle.std.specs.Prelude.{Option}
 use Rattle.std.proofs.Common.{ℕ, ◌≤◌, ◌<◌, ◌≡◌, refl, ◌∙◌, cond, List, [], ◌∷◌, arith, eqb, length, get_or}
 use mathlib.Core.Option.{some}
 use Rattle.std.specs.Prelude.{Some, None}
 use lib.ListN.{length-map}
 use Rattle.spec_arithmetic.specs.Files.{loaded}
 use Rattle.spec_pack.specs.Pack.{Pst, read_pack}
-use Rattle.spec_lookup.specs.Lookup.{Look, look_up, component_of}
+use Rattle.spec_lookup.specs.Lookup.{look_up, component_of}
 use Rattle.spec_lookup.specs.Source.{Carried, carried, components, given, source_of_pack}
 use Rattle.spec_lookup.specs.declared.Context.{Context}
 use Rattle.spec_lookup.specs.declared.Listing.{Listing}
@@ -51,7 +52,7 @@ module _ (s : List ℕ) (l : Listing) (d : Carried) (f : Few l) where
 
 -- what a lookup in a pack that loads gives
 module _ (s : List ℕ) (st : Pst) (e : ℕ) (p : read_pack s ≡ loaded st e) (d : Carried) where
-  of_look : (c : Context) (k : Look) → look_up s st c ≡ k → (cs : List Carried) → given s k ≡ some cs → Alike d cs
+  of_look : (c : Context) (k : Option Listing) → look_up s st c ≡ k → (cs : List Carried) → given s k ≡ some cs → Alike d cs
   of_look c (Some l) q cs g =
       let is : components s l l.count ≡ cs = cc in
       rw (← is) (listing_alike s l d (look_few s st e p c l q))

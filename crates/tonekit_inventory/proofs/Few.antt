@@ -12,7 +12,7 @@ use Rattle.std.specs.Prelude.{Option, Some, None}
 use Rattle.spec_lookup.specs.declared.Winner.{Winner}
 use Rattle.spec_lookup.specs.declared.Context.{Context}
 use Rattle.spec_lookup.specs.declared.Listing.{Listing}
-use Rattle.spec_lookup.specs.Lookup.{Found, Look, to_rule, find_rule, rule_listing, citation, listed, look_at, look_up}
+use Rattle.spec_lookup.specs.Lookup.{to_rule, find_rule, rule_listing, citation, listed, look_at, look_up}
 use Rattle.tonekit_expect.proofs.Walk.{index_found, winner_is}
 use Rattle.tonekit_expect.proofs.Curves.{listed_fine, rule_fine}
 use Rattle.tonekit_inventory.specs.OfPack.{pack_in, Short}
@@ -42,7 +42,7 @@ module _ (s : List ℕ) (st : Pst) (e : ℕ) (l : Loads s st e) (c : Context) wh
       let is : citation c.accent o ≡ m = cc in
       subst Few is (record { some = omega arith; few = omega arith }))
 
-  of_places : (m : Listing) (f g : Found) → index_of s st.accents c.accent ≡ f → look_at s st c f g ≡ Some m → Few m
+  of_places : (m : Listing) (f g : Option ℕ) → index_of s st.accents c.accent ≡ f → look_at s st c f g ≡ Some m → Few m
   of_places m (Some i) (Some t) a q = of_winner m i (get_or st.tones t 0) (index_found _ _ _ i a).inside (find_rule s st c i) refl q
   of_places m None g a q = let n : ◌≡◌ {A = ℕ} 0 1 = cc in absurd (omega arith)
   of_places m (Some i) None a q = let n : ◌≡◌ {A = ℕ} 0 1 = cc in absurd (omega arith)
@@ -65,7 +65,7 @@ read_from s p (refused r place) q h = let n : ◌≡◌ {A = ℕ} 0 1 = cc in ab
 abbrev pub Looked : List ℕ → Look → Type 0
 Looked s k = (l : Listing) → k ≡ Some l → Short s l
 
-pub looked : (s : List ℕ) (p : Pack) → pack_in (read_pack s) ≡ Some (shown p) → (c : Context) (k : Look) → k ≡ look_up s (shown p) c → Looked s k
+pub looked : (s : List ℕ) (p : Pack) → pack_in (read_pack s) ≡ Some (shown p) → (c : Context) (k : Option Listing) → k ≡ look_up s (shown p) c → Looked s k
 looked s p h c k e l q =
     let r = read_from s p (read_pack s) refl h in
     let is : look_up s (shown p) c ≡ Some l = sym e ∙ q in

@@ -1,11 +1,11 @@
 -- A component's floats are f32s, so that the bits that it carries stand for them. Assumes nothing.
 use Rattle.std.proofs.Common.{ℕ, zero, suc, ◌+◌, ◌-◌, ◌*◌, ◌≡◌, refl, List, [], ◌∷◌, ◌++◌, map, T, eqb, length, get_or, Float, to_bits}
-use lib.Ieee.{nan, binary32, binary64, add, sub, mul, fits}
+use lib.Ieee.{nan, binary32, binary64, add, sub, mul, fits, of_bits}
 use lib.Ieee.Bits.{of_bits-to_bits, of_bits-fits}
 use lib.Ieee.Fits.{nan-fits, cond-fits}
 use Rattle.tonekit_float.proofs.Narrowing.{narrow_fits}
 use Rattle.spec_arithmetic.specs.Fields.{byte_at, u32_at, f32_at}
-use Rattle.spec_pack.specs.Ranges.{one_f}
+use Rattle.spec_arithmetic.specs.Constants.{one32}
 use Rattle.tonekit_core.proofs.Split.{split}
 use Rattle.spec_lookup.specs.Knots.{segment, fraction, on_line, point_at, first_points, expanded, knots_at}
 use Rattle.spec_lookup.specs.Lookup.{component_of}
@@ -66,8 +66,8 @@ record Held (c : Component) : Type 0 where
   points : Fit c.points
   count : length c.points ≡ 10
 
-one_fits : T (fits binary32 one_f)
-unfolding fits
+one_fits : T (fits binary32 one32)
+unfolding fits of_bits
 one_fits = tt
 
 component_held : (s : List ℕ) (l : Listing) (j : ℕ) → Held (component_of s l j)

@@ -1,4 +1,5 @@
 -- A search by number among a pack's or a sheet's records finds what a station holds under that number. Assumes nothing.
+use Rattle.std.specs.Prelude.{Option}
 use Rattle.std.proofs.Common.{ℕ, zero, suc, ◌+◌, ◌-◌, ◌<◌, ◌≡◌, refl, ◌∙◌, ap, is_some, Bool, true, false, cond, ◌||◌, List, [], ◌∷◌, map, arith, add-one, eqb, length, get_or, drop, drop_of_length-le, drop-cons}
 use Rattle.std.specs.Prelude.{Some, None}
 use mathlib.Core.Option.{none, some}
@@ -10,7 +11,6 @@ use Rattle.tonekit_pack.specs.Held.{shown}
 use Rattle.tonekit_core.proofs.Split.{or_cond}
 use Rattle.tonekit_bytes.proofs.InOrder.{order_length, order_get}
 use Rattle.tonekit_bytes.proofs.Searched.{pick, searched}
-use Rattle.spec_lookup.specs.Lookup.{Found}
 use Rattle.spec_lookup.specs.Source.{Tone, Accent, accent_at, accent_in, tone_in, source_of_pack}
 use Rattle.tonekit_expect.proofs.Walk.{index_found}
 use Rattle.spec_judgement.specs.declared.Tolerance.{Tolerance}
@@ -34,7 +34,7 @@ module _ (s os : List ℕ) (n : ℕ) (tone_of : ℕ → Tone) (number : (o : ℕ
   unfolding tone_in
   tones = searched s n (λ o. true) false (λ l. tone_in (map tone_of l) n) refl (λ o l. rw (number o) (or_cond (eqb (number_at s o) n) (tone_in (map tone_of l) n))) os
 
-  either : (f : Found) → pick (λ o. true) false os f ≡ is_some f
+  either : (f : Option ℕ) → pick (λ o. true) false os f ≡ is_some f
   either None = refl
   either (Some i) = refl
 

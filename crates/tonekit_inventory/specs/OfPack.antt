@@ -6,7 +6,6 @@ use Rattle.spec_pack.specs.Pack.{Pst, load_pack}
 use Rattle.tonekit_pack.specs.Held.{shown}
 use Rattle.tonekit_pack.specs.declared.Pack.{Pack}
 use Rattle.spec_lookup.specs.Lookup as lookup
-use Rattle.spec_lookup.specs.Lookup.{Look}
 use Rattle.spec_lookup.specs.Source.{Source, source_of_pack}
 use Rattle.spec_lookup.specs.declared.Listing.{Listing}
 

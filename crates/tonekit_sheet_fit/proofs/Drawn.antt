@@ -1,4 +1,6 @@
 -- Where a lookup's listing comes from in a pack that loads: a rule, under the accent that it stands behind, or a tone's citation, under a held accent.
+use Rattle.std.specs.Prelude.{Option}
+use Rattle.spec_lookup.specs.declared.Winner.{Winner}
 use Rattle.std.proofs.Common.{ℕ, zero, suc, ◌+◌, ◌≤◌, ◌<◌, ◌≡◌, refl, cond, List, arith, eqb, leb, ltb, length, get_or, eqb-true, ltb-true, lt-ltb, le-leb}
 use borrow.Author.Tests.{eqb-false, lt-leb}
 use Rattle.spec_arithmetic.specs.Fields.{byte_at}
@@ -9,8 +11,8 @@ use Rattle.tonekit_pack.proofs.Loads.{Loads, firsts_ascend, firsts_bound}
 use Rattle.std.specs.Prelude.{Some, None}
 use Rattle.spec_lookup.specs.declared.Context.{Context}
 use Rattle.spec_lookup.specs.declared.Listing.{Listing}
-use Rattle.spec_lookup.specs.Lookup.{Found, Walked, from_rule, to_rule, find_rule, rule_listing, citation, listed, look_at, look_up}
-use Rattle.tonekit_expect.specs.Walking.{won}
+use Rattle.spec_lookup.specs.Lookup.{from_rule, to_rule, find_rule, rule_listing, citation, listed, look_at, look_up}
+use Rattle.tonekit_expect.specs.Pieces.{won}
 use Rattle.spec_lookup.specs.Source.{Carried, components}
 use Rattle.tonekit_expect.proofs.Curves.{rules_in}
 use Rattle.tonekit_expect.proofs.Walk.{index_found, winner_of}
@@ -68,7 +70,7 @@ module _ (s : List ℕ) (st : Pst) (e : ℕ) (l : Loads s st e) where
       rw (lt-leb (from_rule st n) k (later a n k y (omega arith) t)) (accent_is n a k y (omega arith) f t))
 
   module _ (c : Context) (m : Listing) where
-    of_winner : (i t : ℕ) → i < length st.accents → number_at s (get_or st.accents i 0) ≡ c.accent → t < length st.tones → (w : Walked) → find_rule s st c i ≡ w
+    of_winner : (i t : ℕ) → i < length st.accents → number_at s (get_or st.accents i 0) ≡ c.accent → t < length st.tones → (w : Option Winner) → find_rule s st c i ≡ w
         → listed s st c (get_or st.tones t 0) w ≡ Some m → Drawn s st m
     of_winner i t hi n ht (Some w) q g =
         let a = w.accent in
@@ -86,7 +88,7 @@ module _ (s : List ℕ) (st : Pst) (e : ℕ) (l : Loads s st e) where
         let is : citation c.accent o ≡ m = cc in
         cited i t hi ht (eqb-false (byte_at s (o + 6)) 0 z) (rw n is))
 
-    of_places : (f g : Found) → index_of s st.accents c.accent ≡ f → index_of s st.tones c.tone ≡ g → look_at s st c f g ≡ Some m → Drawn s st m
+    of_places : (f g : Option ℕ) → index_of s st.accents c.accent ≡ f → index_of s st.tones c.tone ≡ g → look_at s st c f g ≡ Some m → Drawn s st m
     of_places (Some i) (Some t) a b q =
         let x = index_found _ _ _ i a in
         of_winner i t x.inside x.number (index_found _ _ _ t b).inside (find_rule s st c i) refl q

@@ -1,4 +1,5 @@
 -- Every pack that loads gives a source that fits a sheet (`fit_of_pack`).
+use Rattle.std.specs.Prelude.{Option}
 use Rattle.std.proofs.Common.{ℕ, ◌+◌, ◌*◌, ◌/◌, ◌%◌, ◌≤◌, ◌≡◌, refl, ap, subst, inl, inr, List, [], ◌∷◌, arith, length}
 use mathlib.Core.Option.{some}
 use lib.ListN.{length-map}
@@ -8,7 +9,7 @@ use Rattle.tonekit_pack.proofs.Loads.{Loads, loads, some_tones, some_accents}
 use Rattle.std.specs.Prelude.{Some, None}
 use Rattle.spec_lookup.specs.declared.Context.{Context}
 use Rattle.spec_lookup.specs.declared.Listing.{Listing}
-use Rattle.spec_lookup.specs.Lookup.{Look, look_up}
+use Rattle.spec_lookup.specs.Lookup.{look_up}
 use Rattle.spec_lookup.specs.Source.{Carried, given, tone_at, accent_at, source_of_pack}
 use Rattle.tonekit_expect.proofs.Carried.{components_length}
 use Rattle.spec_sheet.specs.Agree.{Bytes}
@@ -38,7 +39,7 @@ module _ (s : List ℕ) (st : Pst) (e : ℕ) (l : Loads s st e) where
       let r : (8 * i + t) % 8 ≡ t = omega (arith, l.kept.few_tones) in
       inr (8 * i + t, omega (arith, l.kept.few_tones, l.kept.few_accents), rw (d, r) (ap (list_of s) q))
 
-  of_look : (c : Context) (o : Look) (cs : List Carried) → look_up s st c ≡ o → given s o ≡ some cs → Given s st cs
+  of_look : (c : Context) (o : Option Listing) (cs : List Carried) → look_up s st c ≡ o → given s o ≡ some cs → Given s st cs
   of_look c None cs q g = let z : ◌≡◌ {A = ℕ} 0 1 = cc in absurd (omega arith)
   of_look c (Some m) cs q g = let h : list_of s m ≡ cs = cc in subst (Given s st) h (of_drawn m (drawn s st e l c m q))
 

@@ -1,4 +1,5 @@
 -- Every list that a lookup in a pack that loads gives keeps the ranges of a sheet's lists.
+use Rattle.std.specs.Prelude.{Option}
 use Rattle.std.proofs.Common.{ℕ, ◌+◌, ◌*◌, ◌≤◌, ◌<◌, ◌≡◌, refl, sym, ◌∙◌, ap, subst, true, cond, List, map, arith, eqb, length, get_or, ne_eqb}
 use mathlib.Core.Option.{some}
 use Rattle.spec_arithmetic.specs.Fields.{u32_at}
@@ -11,7 +12,7 @@ use Rattle.tonekit_pack.proofs.Loads.{RuleFine, Loads, loads}
 use Rattle.std.specs.Prelude.{Some, None}
 use Rattle.spec_lookup.specs.declared.Context.{Context}
 use Rattle.spec_lookup.specs.declared.Listing.{Listing}
-use Rattle.spec_lookup.specs.Lookup.{Look, rule_listing, citation, look_up, component_of}
+use Rattle.spec_lookup.specs.Lookup.{rule_listing, citation, look_up, component_of}
 use Rattle.spec_lookup.specs.Source.{Accent, Carried, carried, given, accent_at, accent_in, source_of_pack}
 use Rattle.tonekit_expect.proofs.Curves.{points_fine_lem}
 use Rattle.tonekit_expect.proofs.Carried.{named, part_number, citation_weight, components_length, components_at, carried_ten}
@@ -127,7 +128,7 @@ module _ (s : List ℕ) (b : Bytes s) (st : Pst) (e : ℕ) (p : read_pack s ≡ 
           unit = rw (first, z.form) f.unit;
         }
 
-  of_look : (o : Look) (cs : List Carried) → look_up s st c ≡ o → given s o ≡ some cs → ListFit (source_of_pack s st) cs
+  of_look : (o : Option Listing) (cs : List Carried) → look_up s st c ≡ o → given s o ≡ some cs → ListFit (source_of_pack s st) cs
   of_look None cs q g = let z : ◌≡◌ {A = ℕ} 0 1 = cc in absurd (omega arith)
   of_look (Some m) cs q g = let h : list_of s m ≡ cs = cc in subst (ListFit (source_of_pack s st)) h (list_fits m q)
 

@@ -1,11 +1,11 @@
 -- The components of a sheet's list have one owner, form and label, and in a mixture each its place as its part number. Assumes nothing.
+use Rattle.std.specs.Prelude.{Option}
 use Rattle.std.proofs.Common.{ℕ, zero, suc, ◌+◌, ◌≤◌, ◌<◌, ◌≡◌, refl, List, arith, length, get_or}
 use mathlib.Core.Option.{some}
 use Rattle.spec_arithmetic.specs.Fields.{byte_at}
 use Rattle.spec_arithmetic.specs.Places.{index_of}
 use Rattle.spec_lookup.specs.Source.{Carried}
 use Rattle.spec_lookup.specs.declared.Context.{Context}
-use Rattle.spec_lookup.specs.Lookup.{Found}
 use Rattle.std.specs.Prelude.{Some, None}
 use Rattle.tonekit_expect.proofs.Walk.{index_found}
 use Rattle.spec_judgement.specs.Judge.{name_in}
@@ -47,7 +47,7 @@ module _ (s : List ℕ) (st : Sst) (e : ℕ) (p : read_sheet s ≡ loaded st e) 
       let is : carried_from s o (byte_at s (o + 6)) ≡ cs = cc in
       rw (← is) (list_alike s o (byte_at s (o + 6)) (lists_few s st e p i (omega arith)))
 
-  of_places : (c : Context) (a t b : Found) → index_of s st.accents c.accent ≡ a → index_of s st.tones c.tone ≡ t → prev_found s st c.prev ≡ b
+  of_places : (c : Context) (a t b : Option ℕ) → index_of s st.accents c.accent ≡ a → index_of s st.tones c.tone ≡ t → prev_found s st c.prev ≡ b
       → (cs : List Carried) → look_placed s st c a t b ≡ some cs → Alike no_carried cs
   of_places c (Some a) (Some t) (Some b) x y z cs g =
       of_number (byte_at s (row_at st (row_place st a t b) + final_place c))

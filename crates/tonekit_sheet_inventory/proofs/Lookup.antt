@@ -1,11 +1,11 @@
 -- A lookup by position, way by way. Assumes nothing.
+use Rattle.std.specs.Prelude.{Option}
 use Rattle.std.proofs.Common.{ℕ, zero, suc, ◌+◌, ◌-◌, ◌*◌, ◌≤◌, ◌<◌, ◌≡◌, refl, sym, ap, ◌∙◌, List, arith, sub-one, eqb, length, get_or}
 use mathlib.Core.Option.{none}
 use Rattle.spec_arithmetic.specs.Fields.{byte_at}
 use Rattle.tonekit_core.proofs.Split.{split}
 use Rattle.spec_arithmetic.specs.Places.{index_of}
 use Rattle.spec_lookup.specs.declared.Context.{Context}
-use Rattle.spec_lookup.specs.Lookup.{Found}
 use Rattle.std.specs.Prelude.{Some, None}
 use Rattle.tonekit_expect.proofs.Walk.{index_found}
 use Rattle.spec_arithmetic.specs.Files.{Out, loaded, refused}
@@ -27,7 +27,7 @@ module _ (s : List ℕ) (st : Sst) (n : ℕ) where
       (λ z. let f : Some 0 ≡ Some p = rw z at e in let q : 0 ≡ p = cc in omega arith)
       (λ z. by_tone z (index_of s st.tones n) refl)
     where
-      by_tone : eqb n 0 ≡ mathlib.Core.Bool.false → (f : Found) → index_of s st.tones n ≡ f → p ≤ length st.tones
+      by_tone : eqb n 0 ≡ mathlib.Core.Bool.false → (f : Option ℕ) → index_of s st.tones n ≡ f → p ≤ length st.tones
       by_tone z (Some q) i =
           let g : Some (q + 1) ≡ Some p = rw (z, i) at e in
           let w : q + 1 ≡ p = cc in
@@ -101,7 +101,7 @@ module _ (s : List ℕ) (st : Sst) (e : ℕ) (h : read_sheet s ≡ loaded st e) 
       let w : get_or st.lists i 0 ≡ o = cc in
       rw (← w) (record { some = ((reads s st e h).lists i l).some; few = lists_few s st e h i l; near = rw w b })
 
-  pub looked : (c : Context) (n : ℕ) (f : Found) → look_sheet s st c ≡ list_numbered s st n → n ≤ length st.lists → Placed st n f → Looks s st c f
+  pub looked : (c : Context) (n : ℕ) (f : Option ℕ) → look_sheet s st c ≡ list_numbered s st n → n ≤ length st.lists → Placed st n f → Looks s st c f
   looked c n f e l p = record {
     is = e ∙ place_told s st n ∙ ap (told s) (sym p.is);
     list = λ o q. short n o l (sym p.is ∙ q) (p.near o q);

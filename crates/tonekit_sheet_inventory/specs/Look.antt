@@ -7,7 +7,6 @@ use Rattle.tonekit_core.specs.declared.layout.TheConstants.{SHEET_LIST_OWNER, SH
 use Rattle.spec_arithmetic.specs.Fields.{byte_at, u16_at}
 use Rattle.spec_lookup.specs.Source.{Carried, Source}
 use Rattle.spec_lookup.specs.declared.Context.{Context}
-use Rattle.spec_lookup.specs.Lookup.{Found}
 use Rattle.spec_arithmetic.specs.Files.{Out, loaded, refused}
 use Rattle.spec_sheet.specs.Reader.{Sst, load_sheet}
 use Rattle.spec_judgement.specs.declared.ToneListing.{ToneListing}
@@ -33,16 +32,16 @@ sheet_in (loaded st end) = Some st
 sheet_in (refused r place) = None
 
 -- where the list with a number stands: "0 nothing", else the list at that place, from 1
-abbrev pub list_place : Sst → ℕ → Found
+abbrev pub list_place : Sst → ℕ → Option ℕ
 list_place st zero = None
 list_place st (suc i) = Some (get_or st.lists i 0)
 
-pub record Placed (st : Sst) (n : ℕ) (f : Found) : Type 0 where
+pub record Placed (st : Sst) (n : ℕ) (f : Option ℕ) : Type 0 where
   pub is : f ≡ list_place st n
   pub near : (o : ℕ) → f ≡ Some o → o < 65536
 
 -- what the list at an offset gives
-abbrev pub told : List ℕ → Found → math.Option (List Carried)
+abbrev pub told : List ℕ → Option ℕ → math.Option (List Carried)
 told s (Some o) = some (carried_from s o (byte_at s (o + SHEET_LIST_COUNT)))
 told s None = none
 
@@ -53,10 +52,10 @@ pub record ShortList (s : List ℕ) (o : ℕ) : Type 0 where
   pub near : o < 65536
 
 -- a lookup's list, where it found one
-abbrev pub ListThere : List ℕ → Found → Type 0
+abbrev pub ListThere : List ℕ → Option ℕ → Type 0
 ListThere s f = (o : ℕ) → f ≡ Some o → ShortList s o
 
-pub record Looks (s : List ℕ) (st : Sst) (c : Context) (f : Found) : Type 0 where
+pub record Looks (s : List ℕ) (st : Sst) (c : Context) (f : Option ℕ) : Type 0 where
   pub is : look_sheet s st c ≡ told s f
   pub list : ListThere s f
 

@@ -1,4 +1,6 @@
 -- Every listing that a lookup in a pack that loads gives is found again from its owner and its record, and can be read. Assumes nothing.
+use Rattle.std.specs.Prelude.{Option}
+use Rattle.spec_lookup.specs.declared.Winner.{Winner}
 use Rattle.std.proofs.Common.{ℕ, ◌+◌, ◌-◌, ◌≤◌, ◌<◌, ◌≡◌, refl, subst, List, arith, eqb, ltb, length, get_or, eq-eqb, ne_eqb, ltb-true}
 use Rattle.tonekit_core.specs.declared.layout.TheConstants.{TONE_KNOT_COUNT, RULE_KIND, RULE_SIZE, RULE_FORM}
 use Rattle.spec_arithmetic.specs.Fields.{byte_at}
@@ -10,7 +12,7 @@ use Rattle.tonekit_pack.proofs.Loads.{RuleFine, Loads, loads, firsts_bound}
 use Rattle.std.specs.Prelude.{Some, None}
 use Rattle.spec_lookup.specs.declared.Context.{Context}
 use Rattle.spec_lookup.specs.declared.Listing.{Listing}
-use Rattle.spec_lookup.specs.Lookup.{Found, Walked, to_rule, find_rule, rule_listing, citation, listed, look_at, look_up}
+use Rattle.spec_lookup.specs.Lookup.{to_rule, find_rule, rule_listing, citation, listed, look_at, look_up}
 use Rattle.tonekit_expect.proofs.Walk.{index_found, winner_is}
 use Rattle.tonekit_expect.proofs.Curves.{listed_fine, rule_fine}
 use Rattle.tonekit_sheet_plan.specs.Listings.{record_of, listing_from, LookKept}
@@ -52,7 +54,7 @@ module _ (s : List ℕ) (st : Pst) (e : ℕ) (l : Loads s st e) (rules : (k : �
         few = omega arith;
       }
 
-  of_winner : (m : Listing) (i t : ℕ) → i < length st.accents → t < length st.tones → (w : Walked) → find_rule s st c i ≡ w
+  of_winner : (m : Listing) (i t : ℕ) → i < length st.accents → t < length st.tones → (w : Option Winner) → find_rule s st c i ≡ w
       → listed s st c (get_or st.tones t 0) w ≡ Some m → Again s m
   of_winner m i t hi ht (Some w) q g =
       let a = w.accent in
@@ -67,7 +69,7 @@ module _ (s : List ℕ) (st : Pst) (e : ℕ) (l : Loads s st e) (rules : (k : �
       let is : citation c.accent o ≡ m = cc in
       subst (Again s) is (of_citation t ht))
 
-  of_places : (m : Listing) (f g : Found) → index_of s st.accents c.accent ≡ f → index_of s st.tones c.tone ≡ g
+  of_places : (m : Listing) (f g : Option ℕ) → index_of s st.accents c.accent ≡ f → index_of s st.tones c.tone ≡ g
       → look_at s st c f g ≡ Some m → Again s m
   of_places m (Some i) (Some t) a b q = of_winner m i t (index_found _ _ _ i a).inside (index_found _ _ _ t b).inside (find_rule s st c i) refl q
   of_places m None g a b q = let n : ◌≡◌ {A = ℕ} 0 1 = cc in absurd (omega arith)

@@ -1,8 +1,10 @@
 -- The curves of a context, found again from their owner and the record that they stand in.
+use Rattle.std.specs.Prelude.{Option}
 use Rattle.std.specs.Prelude.{ℕ, ◌-◌, ◌≤◌, ◌<◌, ◌≡◌, cond, List, Some, eqb}
 use Rattle.tonekit_core.specs.declared.layout.TheConstants.{CITATION_FORM, RULE_KIND, RULE_SIZE}
 use Rattle.spec_arithmetic.specs.Fields.{byte_at}
-use Rattle.spec_lookup.specs.Lookup.{Look, rule_listing, citation, Listed}
+use Rattle.spec_lookup.specs.Lookup.{rule_listing, citation}
+use Rattle.tonekit_expect.specs.Pieces.{Listed}
 use Rattle.spec_lookup.specs.Source.{Carried, components}
 use Rattle.spec_lookup.specs.declared.Listing.{Listing}
 
@@ -28,5 +30,5 @@ pub record Kept (s : List ℕ) (l : Listing) : Type 0 where
   pub each : (j : ℕ) → j < l.count → Listed s l j
 
 -- what a lookup gives is such a listing, or nothing
-abbrev pub LookKept : List ℕ → Look → Type 0
+abbrev pub LookKept : List ℕ → Option Listing → Type 0
 LookKept s x = (l : Listing) → x ≡ Some l → Kept s l

@@ -1,9 +1,9 @@
 -- What a plan holds, and what it becomes.
+use Rattle.std.specs.Prelude.{Option}
 use Rattle.std.specs.Prelude.{ℕ, ◌≡◌, List, []}
 use Rattle.std.proofs.Math.Option.{some}
 use Rattle.tonekit_pack.specs.Held.{shown}
 use Rattle.tonekit_pack.specs.declared.Pack.{Pack}
-use Rattle.spec_lookup.specs.Lookup.{Look}
 use Rattle.spec_lookup.specs.Source.{Carried, given}
 use Rattle.spec_lookup.specs.declared.Listing.{Listing}
 use Rattle.spec_sheet.specs.Number.{noted}
@@ -31,7 +31,7 @@ pub record PlanOf (its : List (List Carried)) (s : List ℕ) (plan : Plan) : Typ
 abbrev pub with_listing : Plan → Listing → List (List Carried)
 with_listing plan l = noted (planned_by plan) (some (carried_by plan.bytes.now l))
 
-abbrev pub with_look : Plan → Look → List (List Carried)
+abbrev pub with_look : Plan → Option Listing → List (List Carried)
 with_look plan x = noted (planned_by plan) (given plan.bytes.now x)
 
 abbrev pub with_row : Pack → Plan → ℕ → List (List Carried)

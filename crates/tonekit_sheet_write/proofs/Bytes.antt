@@ -1,4 +1,5 @@
 -- The pieces of a pack's sheet: from what each is written, and how long it is. Assumes nothing.
+use Rattle.std.specs.Prelude.{Option}
 use Rattle.std.proofs.Common.{ℕ, zero, suc, ◌+◌, ◌-◌, ◌*◌, ◌≤◌, ◌<◌, ◌≡◌, refl, sym, ◌∙◌, ap, ap₂, subst, true, false, List, [], ◌∷◌, ◌++◌, map, append_assoc, append-nil, arith, add-zero, zero-add, Float, to_bits, length, get_or, take, drop, length-append}
 use Rattle.std.proofs.lemmas.List.{get_or-map}
 use lib.Ieee.{binary32}
@@ -9,7 +10,7 @@ use Rattle.spec_arithmetic.specs.Fields.{le16, f32_bytes, f32s_bytes}
 use Rattle.tonekit_bytes.proofs.Write.{part_put}
 use Rattle.tonekit_pack.specs.Held.{shown}
 use Rattle.tonekit_pack.specs.declared.Pack.{Pack}
-use Rattle.spec_lookup.specs.Lookup.{Look, component_of}
+use Rattle.spec_lookup.specs.Lookup.{component_of}
 use Rattle.spec_lookup.specs.Source.{Tone, Accent, Carried, carried, components, given}
 use Rattle.spec_lookup.specs.declared.Component.{Component}
 use Rattle.spec_lookup.specs.declared.Context.{Context}
@@ -124,7 +125,7 @@ wrote_size {a} {at} {r} {l} {m} w = ap length w.same ∙ length-sets l at a
 
 -- ---- a row
 module _ (s : List ℕ) (p : Pack) (os : List ℕ) (lists : List (List Carried)) (r : ℕ) (o : Ordered s (shown p) os) where
-  pub row_is : {c : Context} {n m : ℕ} (x y : Look) → c ≡ row_context (tones_of s (shown p)) (accents_at s os) r false
+  pub row_is : {c : Context} {n m : ℕ} (x y : Option Listing) → c ≡ row_context (tones_of s (shown p)) (accents_at s os) r false
       → n ≡ number_in lists (given s x) → given s x ≡ (pack_view s (shown p)).row r false
       → m ≡ number_in lists (given s y) → given s y ≡ (pack_view s (shown p)).row r true
       → row_bytes c n m ≡ row_piece (pack_view s (shown p)) lists r

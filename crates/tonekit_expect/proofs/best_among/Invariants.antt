@@ -1,7 +1,7 @@
 use Rattle.std.proofs.Common.{◌≡◌}
 use Rattle.tonekit_core.specs.Loop.{range}
 use Rattle.std.specs.Prelude.{None}
-use Rattle.tonekit_expect.specs.Walking.{best_turn}
+use Rattle.tonekit_expect.specs.Pieces.{best_turn}
 use Rattle.tonekit_expect.proofs.best_among.Given as goal
 
 abbrev pub invariant-loop-k : goal.invariant-loop-k
