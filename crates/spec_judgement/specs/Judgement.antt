@@ -9,7 +9,7 @@ use Rattle.spec_query.specs.Query.{load_query, frames_of}
 use Rattle.spec_query.specs.declared.Query.{Query}
 use Rattle.spec_judgement.specs.Input.{held_of, query_of}
 use Rattle.spec_arithmetic.specs.Files.{Out}
-use Rattle.spec_pack.specs.Pack.{Pst, load_pack}
+use Rattle.spec_pack.specs.Pack.{PackRead, load_pack}
 use Rattle.spec_arithmetic.specs.Files as files
 use Rattle.spec_pack.specs.Pack as pack
 use Rattle.spec_lookup.specs.Source.{Source, source_of_pack}
@@ -76,7 +76,7 @@ unfoldable pub judgement : Source → List ℕ → Outcome
 judgement src s = on_query src s (load_query s)
 
 -- of a pack's bytes: "Pack or sheet comes before query."
-abbrev pub on_pack : List ℕ → List ℕ → Out Pst → Outcome
+abbrev pub on_pack : List ℕ → List ℕ → Out PackRead → Outcome
 on_pack p s (files.refused r place) = refused r place
 on_pack p s (files.loaded st e) = judgement (source_of_pack p st) s
 

@@ -4,7 +4,7 @@ use Rattle.std.specs.Float.Ieee.{lt, le, of_bits}
 use Rattle.tonekit_core.specs.Loop.{range, turns, range_to, turns_to, loop_to, loop_on}
 use Rattle.tonekit_core.specs.declared.Refusal.TheVariants.{Misplaced, Overrun, Crowded, OffScale, Doubled, Loose, Unordered}
 use Rattle.tonekit_core.specs.Calls as calls
-use Rattle.spec_pack.specs.Ranges.{above_zero, a_share, weight_fine, region_fine, tolerances_fine}
+use Rattle.spec_pack.specs.Ranges.{above_zero, probability_fine, weight_fine, region_fine, tolerances_fine}
 use Rattle.spec_pack.specs.Pack.{holds, zero_or_held, settings_verdict}
 use Rattle.spec_arithmetic.specs.Files.{Out, loaded, refused}
 use Rattle.spec_sheet.specs.Reader.{Sst, complete, due_next, size_of, tone_verdict, accent_verdict, row_verdict, list_verdict, point_fine, points_fine, component_verdict, body_verdict, record_verdict, added, loose_row, accent_down, row_due, row_names, row_wrong, named, same_lists, repeated, list_wrong, finished, read_sheet, load_sheet}
@@ -12,7 +12,7 @@ use Rattle.spec_sheet.specs.JudgeSheet.{judge_sheet_outcome, station_sheet_outco
 
 -- what an input is, as a single sheet; opened, it computes
 unfoldable read : List ℕ → Out Sst
-unfolding load_sheet read_sheet finished loose_row accent_down row_due row_names row_wrong named same_lists repeated list_wrong record_verdict complete due_next size_of body_verdict settings_verdict tone_verdict accent_verdict row_verdict list_verdict component_verdict point_fine points_fine holds zero_or_held added above_zero a_share weight_fine region_fine tolerances_fine range turns range_to turns_to loop_to loop_on lt le of_bits
+unfolding load_sheet read_sheet finished loose_row accent_down row_due row_names row_wrong named same_lists repeated list_wrong record_verdict complete due_next size_of body_verdict settings_verdict tone_verdict accent_verdict row_verdict list_verdict component_verdict point_fine points_fine holds zero_or_held added above_zero probability_fine weight_fine region_fine tolerances_fine range turns range_to turns_to loop_to loop_on lt le of_bits
 read s = load_sheet s
 
 abbrev one : List ℕ
@@ -302,5 +302,5 @@ accent_loose = refl
 -- ---- the call `judge_sheet` and the program `station_sheet`, which takes the sheet's length first: the refusal and place of the sheet, whatever the query
 place_told : (judge_sheet_outcome (settings ++ tone 0) [] ≡ calls.refused OffScale 9)
     × (station_sheet_outcome (24 ∷ 0 ∷ (settings ++ tone 0)) ≡ calls.refused OffScale 9)
-unfolding judge_sheet_outcome load_sheet read_sheet record_verdict complete due_next size_of body_verdict settings_verdict tone_verdict holds added above_zero a_share region_fine loop_to loop_on range_to turns_to lt le of_bits
+unfolding judge_sheet_outcome load_sheet read_sheet record_verdict complete due_next size_of body_verdict settings_verdict tone_verdict holds added above_zero probability_fine region_fine loop_to loop_on range_to turns_to lt le of_bits
 place_told = (refl, refl)

@@ -2,7 +2,7 @@
 use Rattle.std.specs.Prelude.{ℕ, ◌≤◌, ◌<◌, ◌≡◌, List, Option, Some, None, Result, Ok, Err}
 use Rattle.tonekit_core.specs.declared.Rejection.{Rejection}
 use Rattle.spec_arithmetic.specs.Files.{Out, loaded, refused}
-use Rattle.spec_pack.specs.Pack.{Pst, load_pack}
+use Rattle.spec_pack.specs.Pack.{PackRead, load_pack}
 use Rattle.tonekit_pack.specs.Held.{shown}
 use Rattle.tonekit_pack.specs.declared.Pack.{Pack}
 use Rattle.spec_lookup.specs.Lookup as lookup
@@ -14,7 +14,7 @@ abbrev pub source_in : List ℕ → Pack → Source
 source_in s p = source_of_pack s (shown p)
 
 -- what the bytes of a pack hold, or why they are none
-abbrev pub source_or : List ℕ → Out Pst → Result Source Rejection
+abbrev pub source_or : List ℕ → Out PackRead → Result Source Rejection
 source_or s (loaded st end) = Ok (source_of_pack s st)
 source_or s (refused r place) = Err (record { why = r; place = place })
 
@@ -22,7 +22,7 @@ abbrev pub load_source : List ℕ → Result Source Rejection
 load_source s = source_or s (load_pack s)
 
 -- the pack that was read, if one was
-abbrev pub pack_in : Out Pst → Option Pst
+abbrev pub pack_in : Out PackRead → Option PackRead
 pack_in (loaded st end) = Some st
 pack_in (refused r place) = None
 

@@ -12,7 +12,7 @@ use Rattle.spec_shape.specs.Extract.{extent_of, list_of, shape_of}
 use Rattle.spec_shape.specs.Record.{fit_bytes, measure_bytes, shape_bytes, shaped_from, shape_outcome}
 use Rattle.spec_shape.specs.declared.Extent.{Extent}
 use Rattle.spec_arithmetic.specs.Files.{Out, loaded, refused}
-use Rattle.spec_pack.specs.Pack.{Pst, load_pack}
+use Rattle.spec_pack.specs.Pack.{PackRead, load_pack}
 use Rattle.tonekit_pack.proofs.Single.{loads_alone}
 use Rattle.tonekit_sheet_fit.proofs.Size.{suffices}
 use Rattle.spec_sheet.specs.Outcome.{sheet_of, sheet_outcome}
@@ -40,7 +40,7 @@ unfolding shape_outcome
 shape_fits s = of_query s (load_query s)
 
 -- ---- the sheet
-of_pack : (s : List ℕ) (o : Out Pst) → load_pack s ≡ o → Fits SHEET_MOST (sheet_of s o)
+of_pack : (s : List ℕ) (o : Out PackRead) → load_pack s ≡ o → Fits SHEET_MOST (sheet_of s o)
 of_pack s (refused r place) e = tt
 of_pack s (loaded st end) e = suffices.enough s st end (loads_alone s st end e).0
 

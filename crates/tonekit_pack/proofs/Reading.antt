@@ -5,7 +5,7 @@ use Rattle.spec_arithmetic.specs.Fields.{byte_at}
 use Rattle.tonekit_pack.specs.declared.Pack.{Pack}
 use Rattle.spec_arithmetic.specs.Files.{Out, loaded, singly, said}
 use Rattle.tonekit_bytes.proofs.Files as files
-use Rattle.spec_pack.specs.Pack.{Pst, size_of, added, record_verdict, start, pack_reader, read_pack, load_pack, check_pack}
+use Rattle.spec_pack.specs.Pack.{PackRead, size_of, added, record_verdict, start, pack_reader, read_pack, load_pack, check_pack}
 use Rattle.tonekit_pack.specs.Held.{shown, answered}
 use Rattle.tonekit_core.proofs.Split.{split}
 use Rattle.tonekit_pack.specs.Going.{Near, Going}
@@ -16,7 +16,7 @@ use Rattle.tonekit_bytes.proofs.InOrder.{order_length}
 use Rattle.tonekit_pack.proofs.Turns.{steady}
 use Rattle.tonekit_pack.proofs.Records.{Due, settings, tone, accent, rule, part, finish, Sound, sound, tone_room, accent_room, rule_room, part_room}
 
-pub near_next : (at : ℕ) (st : Pst) {k : ℕ} → Due st.last k → (k ≡ 6 → ⊥) → Near at st → Near (at + size_of k) (added k at st)
+pub near_next : (at : ℕ) (st : PackRead) {k : ℕ} → Due st.last k → (k ≡ 6 → ⊥) → Near at st → Near (at + size_of k) (added k at st)
 unfolding added size_of
 near_next at st (settings e) n p = record { first = λ q. absurd (omega arith); early = λ q. omega (arith, p.first e); near = omega (arith, p.first e) }
 near_next at st (tone l u) n p = record { first = λ q. absurd (omega arith); early = λ q. simp length-append (omega (arith, p.early u)); near = simp length-append (omega arith) }

@@ -5,12 +5,12 @@ use Rattle.tonekit_pack.specs.declared.Pack.{Pack}
 use Rattle.tonekit_pack.specs.declared.Loaded.{Loaded}
 use Rattle.tonekit_bytes.specs.Places.{in_order}
 use Rattle.tonekit_pack.specs.Kinds.{last_of}
-use Rattle.spec_pack.specs.Pack.{Pst}
+use Rattle.spec_pack.specs.Pack.{PackRead}
 use Rattle.tonekit_pack.specs.Format.{answer}
 use Rattle.spec_arithmetic.specs.Files.{Out}
 
 -- of each array as many entries as were read
-abbrev pub shown : Pack → Pst
+abbrev pub shown : Pack → PackRead
 shown p = record {
   last = last_of p.last;
   tones = in_order p.tones.at p.tones.count;
@@ -22,5 +22,5 @@ shown p = record {
 }
 
 -- what the reader answers
-abbrev pub answered : Result (Loaded Pack) Rejection → Out Pst
+abbrev pub answered : Result (Loaded Pack) Rejection → Out PackRead
 answered = answer shown

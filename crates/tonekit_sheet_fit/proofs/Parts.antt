@@ -5,7 +5,7 @@ use lib.Seq.{get_or-append_seam}
 use Rattle.std.specs.Prelude.{Ok}
 use Rattle.spec_arithmetic.specs.Fields.{byte_at}
 use Rattle.spec_arithmetic.specs.Files.{loaded}
-use Rattle.spec_pack.specs.Pack.{Pst, size_of, body_verdict, added, parts_from, pack_reader, read_pack}
+use Rattle.spec_pack.specs.Pack.{PackRead, size_of, body_verdict, added, parts_from, pack_reader, read_pack}
 use Rattle.tonekit_core.proofs.Split.{split}
 use Rattle.tonekit_pack.proofs.Records.{Due, settings, tone, accent, rule, part, finish, part_room, sound}
 use Rattle.tonekit_pack.proofs.Loads.{loads, parts_miss}
@@ -29,18 +29,18 @@ parts_snoc s rules o =
     rw (n, a, get_or-append_seam rules o [] 0)
 
 -- what every turn keeps: behind a rule or a part the parts that stand here are still to be counted, else all are counted
-record Counted (s : List ℕ) (at : ℕ) (st : Pst) : Type 0 where
+record Counted (s : List ℕ) (at : ℕ) (st : PackRead) : Type 0 where
   open_rule : 4 ≤ st.last → parts_in s st.rules ≡ st.total + parts_from (4 - st.parts) s at
   closed : st.last < 4 → parts_in s st.rules ≡ st.total
 
 -- at a record that is no part all are counted
-all_counted : (s : List ℕ) (at : ℕ) (st : Pst) → (byte_at s at ≡ 5 → ⊥) → Counted s at st → parts_in s st.rules ≡ st.total
+all_counted : (s : List ℕ) (at : ℕ) (st : PackRead) → (byte_at s at ≡ 5 → ⊥) → Counted s at st → parts_in s st.rules ≡ st.total
 all_counted s at st n c =
     split (ltb st.last 4)
     (λ t. c.closed (ltb-true st.last 4 t))
     (λ t. omega (arith, c.open_rule (ltb-false st.last 4 t), parts_miss (4 - st.parts) s at n))
 
-count : (s : List ℕ) (at : ℕ) (st : Pst) {k : ℕ} → Due st.last k → byte_at s at ≡ k → body_verdict k s at st ≡ Ok tt → (k ≡ 6 → ⊥)
+count : (s : List ℕ) (at : ℕ) (st : PackRead) {k : ℕ} → Due st.last k → byte_at s at ≡ k → body_verdict k s at st ≡ Ok tt → (k ≡ 6 → ⊥)
     → Counted s at st → Counted s (at + size_of k) (added k at st)
 unfolding added size_of
 count s at st (settings z) k b n c = record { open_rule = λ h. absurd (omega arith); closed = λ h. all_counted s at st (λ q. omega arith) c }
@@ -54,7 +54,7 @@ count s at st (part l u) k b n c =
     record { open_rule = λ q. omega (arith, c.open_rule l, rw e at h); closed = λ q. absurd (omega arith) }
 count s at st (finish l u) k b n c = absurd (n refl)
 
-pub parts_counted : (s : List ℕ) (st : Pst) (e : ℕ) → read_pack s ≡ loaded st e → parts_in s st.rules ≡ st.total
+pub parts_counted : (s : List ℕ) (st : PackRead) (e : ℕ) → read_pack s ≡ loaded st e → parts_in s st.rules ≡ st.total
 unfolding read_pack sum_to
 parts_counted s st e h =
     read_keeps pack_reader s st e (Counted s)
@@ -62,5 +62,5 @@ parts_counted s st e h =
     (λ at x c v k g. rw (← (same_loaded x st (at + 1) e g).0) (all_counted s at x (λ q. omega arith) c))
     h (record { open_rule = λ q. absurd (omega arith); closed = λ q. refl })
 
-pub few_parts : (s : List ℕ) (st : Pst) (e : ℕ) → read_pack s ≡ loaded st e → parts_in s st.rules ≤ 128
+pub few_parts : (s : List ℕ) (st : PackRead) (e : ℕ) → read_pack s ≡ loaded st e → parts_in s st.rules ≤ 128
 few_parts s st e h = omega (arith, parts_counted s st e h, (loads s st e h).kept.few_in_all)

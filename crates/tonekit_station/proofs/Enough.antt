@@ -11,7 +11,7 @@ use Rattle.spec_query.specs.declared.Query.{Query}
 use Rattle.tonekit_query.proofs.Laws.{load_reads, load_length, read_holds}
 use Rattle.tonekit_query.proofs.Enough.{load_enough}
 use Rattle.spec_arithmetic.specs.Files.{Out}
-use Rattle.spec_pack.specs.Pack.{Pst, load_pack}
+use Rattle.spec_pack.specs.Pack.{PackRead, load_pack}
 use Rattle.spec_arithmetic.specs.Files as files
 use Rattle.spec_pack.specs.Pack as pack
 use Rattle.spec_sheet.specs.Reader.{load_sheet}
@@ -35,7 +35,7 @@ module _ (src : Source) (s : List ℕ) (n : ℕ) (h : 10287 ≤ n) where
 
 -- whatever the pack
 module _ (p s : List ℕ) (n : ℕ) (h : 10287 ≤ n) where
-  each_way : (o : Out Pst) → on_pack p (take n s) o ≡ on_pack p s o
+  each_way : (o : Out PackRead) → on_pack p (take n s) o ≡ on_pack p s o
   each_way (files.refused r place) = refl
   each_way (files.loaded st e) = judgement_enough (source_of_pack p st) s n h
 

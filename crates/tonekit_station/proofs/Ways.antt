@@ -75,7 +75,7 @@ query_bad src s r e = rw e
 
 -- what a pack or a sheet holds is judged as its call says
 module _ (p s : List ℕ) where
-  by_pack : (o : files.Out pack.Pst) → on_held (of-pack.source_or p o) s ≡ on_pack p s o
+  by_pack : (o : files.Out pack.PackRead) → on_held (of-pack.source_or p o) s ≡ on_pack p s o
   by_pack (files.refused r place) = refl
   by_pack (files.loaded st e) = refl
 

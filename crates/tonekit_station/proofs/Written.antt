@@ -8,7 +8,7 @@ use Rattle.tonekit_core.specs.declared.Rejection.{Rejection}
 use Rattle.spec_query.specs.Query.{load_query, frames_of}
 use Rattle.spec_query.specs.declared.Query.{Query}
 use Rattle.spec_arithmetic.specs.Files.{Out}
-use Rattle.spec_pack.specs.Pack.{Pst, load_pack}
+use Rattle.spec_pack.specs.Pack.{PackRead, load_pack}
 use Rattle.spec_arithmetic.specs.Files as files
 use Rattle.spec_pack.specs.Pack as pack
 use Rattle.spec_sheet.specs.Reader.{load_sheet}
@@ -65,7 +65,7 @@ module _ (P : List ℕ → Type 0) (records : Records P) where
   held_writes (Err e) s = tt
   held_writes (Ok src) s = judgement_writes src s
 
-  pack_writes : (p s : List ℕ) (o : Out Pst) → Writes P (on_pack p s o)
+  pack_writes : (p s : List ℕ) (o : Out PackRead) → Writes P (on_pack p s o)
   pack_writes p s (files.refused r place) = tt
   pack_writes p s (files.loaded st e) = judgement_writes (source_of_pack p st) s
 
