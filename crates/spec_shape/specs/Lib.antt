@@ -9,3 +9,4 @@ pub mod FitBench
 pub mod WindowBench
 pub mod TurningBench
 pub mod ShapeBench
+pub mod Anew
