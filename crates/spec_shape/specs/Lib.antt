@@ -9,4 +9,3 @@ pub mod FitBench
 pub mod WindowBench
 pub mod TurningBench
 pub mod ShapeBench
-pub mod Anew
