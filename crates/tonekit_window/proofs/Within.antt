@@ -14,7 +14,7 @@ use Rattle.spec_arithmetic.specs.Constants.{half, whole64}
 use Rattle.spec_arithmetic.specs.Position.{position}
 use Rattle.tonekit_contour.proofs.Places.{position_in, position_fits}
 use Rattle.spec_shape.specs.Window.{edge, half_width, reach, span_at}
-use Rattle.tonekit_window.specs.Held.{Frame}
+use Rattle.tonekit_window.specs.Promises.{Frame}
 
 -- ---- the window
 -- 0.05, and 0.05 n
