@@ -1,5 +1,5 @@
 -- The loop over the sums of powers, which keeps the next power beside them.
-use Rattle.std.proofs.Common.{ℕ, ◌≡◌, refl, ◌∙◌, ap, cond, ltb, List, get_or, set, Float}
+use Rattle.std.proofs.Common.{ℕ, ◌≡◌, ap, cond, ltb, List, get_or, set, Float}
 use lib.Ieee.{nan, binary64, add, mul}
 use Rattle.tonekit_core.specs.Loop.{turns, range}
 use Rattle.spec_arithmetic.specs.Constants.{one64}
