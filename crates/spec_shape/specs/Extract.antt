@@ -2,7 +2,7 @@
 use Rattle.std.specs.Prelude.{ℕ, zero, suc, ◌+◌, ◌-◌, cond, List, [], ◌∷◌, ◌++◌, map, eqb, min, pos, length, get_or, set, Float, option_map}
 use Rattle.std.specs.Option.{option_map_or}
 use Rattle.std.specs.Float.{nan, binary32, binary64}
-use Rattle.std.specs.Float.Ieee.{add, sub, mul, div, of_int, of_bits}
+use Rattle.std.specs.Float.Ieee.{add, sub, mul, div, of_int}
 use Rattle.tonekit_core.specs.Loop.{range}
 use Rattle.spec_arithmetic.specs.Constants.{zero32, zero64, whole64}
 use Rattle.spec_arithmetic.specs.Narrow.{narrowed}
@@ -63,16 +63,13 @@ mean_with l j before =
 abbrev pub smoothed : List Float → List Float
 smoothed l = list_of (λ j. mean_with l j (get_or l (j - 1) nan)) (length l)
 
--- f32: 10, and u32 to f32
-abbrev pub ten32 : Float
-ten32 = of_bits binary32 0x4120_0000
-
+-- u32 to f32
 abbrev pub whole32 : ℕ → Float
 whole32 n = of_int binary32 (pos n)
 
 -- the mean of the contour
 unfoldable pub mean_of : List Float → Float
-mean_of l = div binary32 (range (λ k t. add binary32 t (get_or l k nan)) 0 10 zero32) ten32
+mean_of l = div binary32 (range (λ k t. add binary32 t (get_or l k nan)) 0 10 zero32) (whole32 10)
 
 -- the mean voiced_p of the voiced frames, from the first to the last
 unfoldable pub confidence : List ℕ → Extent → Float
@@ -94,7 +91,7 @@ shape_of frames e start end floor ceil =
       curvature = narrowed (quadratic_coefficient p e.count);
       turning = option_map narrowed (turning_point (smoothed p.chao));
       range = range_in binary32 contour;
-      duration = mul binary32 span ten32;
+      duration = mul binary32 span (whole32 10);
       fraction = div binary32 (whole32 e.count) span;
       confidence = confidence frames e;
       frames = frames_in e;

@@ -1,5 +1,5 @@
 -- fit.rs: least-squares fits over the truly voiced frames of the voiced part. Frame j of the part is frame first + j of the query. Sums begin at +0.
-use Rattle.std.specs.Prelude.{ℕ, ◌+◌, ◌-◌, cond, List, [], ◌∷◌, ltb, length, get_or, set, replicate, Float}
+use Rattle.std.specs.Prelude.{ℕ, zero, suc, ◌+◌, ◌-◌, cond, List, [], ◌∷◌, length, get_or, set, replicate, Float}
 use Rattle.std.specs.Float.{nan, binary64}
 use Rattle.std.specs.Float.Ieee.{add, sub, mul, div, lt, of_bits}
 use Rattle.tonekit_core.specs.Loop.{stop, next, range, range_to}
@@ -35,24 +35,18 @@ line_slope p count =
     let sxy = voiced_sum p (λ j y. mul binary64 (sub binary64 (seconds j) mx) (sub binary64 y my)) in
     cond (lt zero64 sxx) (div binary64 sxy sxx) zero64
 
--- the sums of powers, and the next power of x
-pub record Powers : Type 0 where
-  pub s : List Float
-  pub t : List Float
-  pub pow : Float
+-- x ^ k, one factor after the other
+unfoldable pub power : Float → ℕ → Float
+power x zero = one64
+power x (suc k) = mul binary64 (power x k) x
 
-abbrev pub power_turn : Float → Float → ℕ → Powers → Powers
-power_turn x y k p =
-    record {
-      s = set p.s k (add binary64 (get_or p.s k nan) p.pow);
-      t = cond (ltb k 3) (set p.t k (add binary64 (get_or p.t k nan) (mul binary64 p.pow y))) p.t;
-      pow = mul binary64 p.pow x;
-    }
-
+-- one point more: s_k sums x ^ k, and t_k sums x ^ k · y
 unfoldable pub point_added : Float → Float → Moments → Moments
 point_added x y m =
-    let p = range (power_turn x y) 0 5 (record { s = m.s; t = m.t; pow = one64 }) in
-    record { s = p.s; t = p.t }
+    record {
+      s = range (λ k s. set s k (add binary64 (get_or s k nan) (power x k))) 0 5 m.s;
+      t = range (λ k t. set t k (add binary64 (get_or t k nan) (mul binary64 (power x k) y))) 0 3 m.t;
+    }
 
 -- x is the place in the part as a fraction, whose last frame is given, measured from the mean mx
 unfoldable pub moments_of : Part → Float → Float → Moments

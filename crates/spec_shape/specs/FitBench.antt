@@ -7,7 +7,7 @@ use Rattle.spec_arithmetic.specs.Magnitude.{total_le}
 use Rattle.spec_arithmetic.specs.Log.{log2_of, log_by, parts_of, centred, series, log_horner}
 use Rattle.spec_shape.specs.Chao.{hz_to_st, width_of, st_to_chao}
 use Rattle.spec_query.specs.Frames.{frame_at}
-use Rattle.spec_shape.specs.Fit.{Part, seconds, line_slope, point_added, moments_of, normal_equations, pivot_of, first_unknown, lead_of, quadratic_coefficient}
+use Rattle.spec_shape.specs.Fit.{Part, seconds, line_slope, power, point_added, moments_of, normal_equations, pivot_of, first_unknown, lead_of, quadratic_coefficient}
 
 abbrev num : ℕ → Float
 num n = of_int binary64 (pos n)
@@ -68,5 +68,5 @@ unfolding hole tone rest line_slope range turns frame_at add sub mul div lt of_b
 slope_voiced = refl
 
 curvature_voiced : quadratic_coefficient hole 3 ≡ of_bits binary64 0xc012_0000_0000_0000
-unfolding hole tone rest quadratic_coefficient moments_of point_added normal_equations lead_of first_unknown range turns range_to turns_to frame_at total_le float_with_sign is_nan add sub mul div lt le of_bits of_int round
+unfolding hole tone rest quadratic_coefficient moments_of power point_added normal_equations lead_of first_unknown range turns range_to turns_to frame_at total_le float_with_sign is_nan add sub mul div lt le of_bits of_int round
 curvature_voiced = refl

@@ -1,5 +1,5 @@
 -- The greatest of ten points less the least, in a format.
-use Rattle.std.specs.Prelude.{ℕ, true, false, List, get_or, Float}
+use Rattle.std.specs.Prelude.{true, false, List, get_or, Float}
 use Rattle.std.specs.Float.{Format, nan, inf}
 use Rattle.std.specs.Float.Ieee.{sub}
 use Rattle.tonekit_core.specs.Loop.{range}

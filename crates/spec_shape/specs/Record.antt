@@ -44,9 +44,7 @@ shaped frames q e =
 
 abbrev pub shaped_from : List ℕ → Result Query Rejection → Outcome
 shaped_from s (Err r) = refused r.why r.place
-shaped_from s (Ok q) =
-    let frames = frames_of s q.count in
-    shaped frames q (extent_of frames q.count q.start q.end)
+shaped_from s (Ok q) = shaped (frames_of s q.count) q (extent_of (frames_of s q.count) q.count q.start q.end)
 
 -- the call `write_shape`: what its query's bytes are turned into
 unfoldable pub shape_outcome : List ℕ → Outcome

@@ -17,7 +17,7 @@ use Rattle.spec_arithmetic.specs.Log.{log2_of, log_by, parts_of, centred, series
 use Rattle.spec_query.specs.Frames.{frame_at}
 use Rattle.spec_query.specs.Query.{variant_fine, variants_fine, record_verdict, frame_verdict, fields_of, read_query, load_query}
 use Rattle.spec_shape.specs.Chao.{hz_to_st, width_of, st_to_chao}
-use Rattle.spec_shape.specs.Fit.{line_slope, point_added, moments_of, normal_equations, first_unknown, lead_of, quadratic_coefficient}
+use Rattle.spec_shape.specs.Fit.{line_slope, power, point_added, moments_of, normal_equations, first_unknown, lead_of, quadratic_coefficient}
 use Rattle.spec_shape.specs.Window.{half_width, reach, curve_at, step_of, mean_over, rounded, frames_at}
 use Rattle.spec_shape.specs.Extract.{extent_of, holes_filled, drawn, mean_with, list_of, smoothed, mean_of, confidence, shape_of}
 use Rattle.spec_arithmetic.specs.Fields.{byte_at, u16_at, u32_at, f32s_bytes}
@@ -62,7 +62,7 @@ smoothed_curve = refl
 
 -- "sums here begin at +0": the mean of ten -0 is +0
 mean_of_zeros : mean_of (replicate 10 (fin true 0 (pos 0))) ≡ num 0
-unfolding mean_of range add div of_bits
+unfolding mean_of range add div of_bits of_int
 mean_of_zeros = refl
 
 -- a contour that is all NaN
@@ -98,7 +98,7 @@ level : shape_of (tone ++ (tone ++ tone)) (record { count = 3; first = 0; last =
       confidence = num 1;
       frames = 3;
     }
-unfolding shape_of drawn holes_filled mean_with list_of mean_of range_in confidence half_width reach curve_at step_of mean_over rounded position whole_part round_up narrowed lesser greater float_with_sign total_le range range_to while hz_to_st width_of st_to_chao log2_of line_slope point_added moments_of normal_equations first_unknown lead_of quadratic_coefficient greatest first_near last_near extremum stands chosen turning_point frame_at add sub mul div lt le eq neg of_int of_bits round is_nan log_by parts_of centred series log_horner frames_at
+unfolding shape_of drawn holes_filled mean_with list_of mean_of range_in confidence half_width reach curve_at step_of mean_over rounded position whole_part round_up narrowed lesser greater float_with_sign total_le range range_to while hz_to_st width_of st_to_chao log2_of line_slope point_added moments_of normal_equations first_unknown lead_of quadratic_coefficient greatest first_near last_near extremum stands chosen turning_point frame_at add sub mul div lt le eq neg of_int of_bits round is_nan log_by parts_of centred series log_horner frames_at power
 level = refl
 
 -- "Fewer than 3 voiced frames: 11", at place 0; no bytes at all: 2 at 0

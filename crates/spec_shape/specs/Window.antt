@@ -14,16 +14,13 @@ use Rattle.spec_shape.specs.declared.Sweep.{Sweep}
 use Rattle.spec_shape.specs.declared.Span.{Span}
 use Rattle.spec_shape.specs.declared.FrameRange.{FrameRange}
 
--- WINDOW_FRACTION 0.05; MIN_HALF_WINDOW is one half; EDGE_EPS 1e-9
-abbrev pub share : Float
-share = of_bits binary64 0x3fa9_9999_9999_999a
-
+-- EDGE_EPS 1e-9
 abbrev pub edge : Float
 edge = of_bits binary64 0x3e11_2e0b_e826_d695
 
--- half the window's width in a part of n frames, and as it narrows about point k
+-- half the window's width in a part of n frames, WINDOW_FRACTION 0.05 of them and at least MIN_HALF_WINDOW 0.5; and as it narrows about point k
 unfoldable pub half_width : ℕ → Float
-half_width n = greater (mul binary64 share (whole64 n)) half
+half_width n = greater (mul binary64 (of_bits binary64 0x3fa9_9999_9999_999a) (whole64 n)) half
 
 unfoldable pub reach : ℕ → ℕ → Float
 reach n k = lesser (lesser (half_width n) (position k (n - 1))) (sub binary64 (whole64 (n - 1)) (position k (n - 1)))

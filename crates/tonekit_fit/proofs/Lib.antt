@@ -1,3 +1,4 @@
 mod Literals
 mod Pairs
 mod Turns
+mod Powers

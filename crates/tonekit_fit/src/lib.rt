@@ -195,7 +195,7 @@ impl Part<'_, '_> {
 }
 
 // One point more, x from the mean.
-#[tactic(auto, using(tonekit_core::proofs::LoopLaws::again, tonekit_core::proofs::LoopLaws::ended), unfolding(spec_shape::specs::Fit::point_added))]
+#[tactic(auto, using(tonekit_core::proofs::LoopLaws::again, tonekit_core::proofs::LoopLaws::ended))]
 fn point_added(m: Moments, x: f64, y: f64) -> Moments
     ensures { result ≡ point_added x y m }
 {

@@ -2,7 +2,7 @@
 use Rattle.std.proofs.Common.{ℕ, ◌-◌, ◌≤◌, ◌≡◌, List, arith, length, take, replicate, length-take-le, Float}
 use Rattle.std.specs.Prelude.{Option, option_map}
 use lib.ListN.{length-replicate}
-use lib.Ieee.{binary32, mul, div}
+use lib.Ieee.{binary32, mul, div, of_int, of_bits}
 use Rattle.spec_arithmetic.specs.Narrow.{narrowed}
 use Rattle.spec_shape.specs.Turning.{turning_point}
 use Rattle.spec_shape.specs.Range.{range_in}
@@ -10,7 +10,7 @@ use Rattle.spec_shape.specs.Fit.{line_slope, quadratic_coefficient}
 use Rattle.spec_shape.specs.Window.{contour_at, weight_at}
 use Rattle.spec_shape.specs.declared.Extent.{Extent}
 use Rattle.spec_shape.specs.declared.ToneShape.{ToneShape}
-use Rattle.spec_shape.specs.Extract.{frames_in, list_of, drawn, smoothed, ten32, whole32, mean_of, confidence, shape_of}
+use Rattle.spec_shape.specs.Extract.{frames_in, list_of, drawn, smoothed, whole32, mean_of, confidence, shape_of}
 
 pub built : (frames : List ℕ) (e : Extent) (start end : ℕ) (floor ceil : Float) {chao contour weights : List Float} {mean s slope q curvature range voiced span conf : Float} {turn turning : Option Float}
     → chao ≡ drawn frames e.first (frames_in e) floor ceil
@@ -36,13 +36,13 @@ pub built : (frames : List ℕ) (e : Extent) (start end : ℕ) (floor ceil : Flo
       curvature = curvature;
       turning = turning;
       range = range;
-      duration = mul binary32 span ten32;
+      duration = mul binary32 span (of_bits binary32 0x4120_0000);
       fraction = div binary32 voiced span;
       confidence = conf;
       frames = frames_in e;
     })
     (shape_of frames e start end floor ceil)
-unfolding shape_of
+unfolding shape_of of_int of_bits
 built frames e start end floor ceil chao-is contour-is weights-is mean-is s-is slope-is q-is curvature-is turn_is turning-is range-is span-is voiced-is conf-is =
     rw (slope-is, s-is, curvature-is, q-is, turning-is, turn_is, mean-is, range-is, contour-is, weights-is, conf-is, voiced-is, span-is, chao-is)
 

@@ -4,7 +4,7 @@ use borrow.Author.Tests.{eqb-false}
 use Rattle.spec_shape.specs.Chao.{voiced}
 use Rattle.spec_shape.specs.declared.Extent.{Extent}
 use Rattle.spec_shape.specs.Extract.{frames_in}
-use Rattle.tonekit_shape.specs.Held.{extent_turn}
+use Rattle.tonekit_shape.specs.Promises.{extent_turn}
 
 -- the frames below i are looked at, of count frames
 pub record Found (count i : ℕ) (e : Extent) : Type 0 where

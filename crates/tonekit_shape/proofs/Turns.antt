@@ -3,7 +3,7 @@ use Rattle.std.proofs.Common.{ℕ, ◌+◌, cond, List, get_or, Float}
 use lib.Ieee.{nan, binary32, add}
 use Rattle.spec_shape.specs.Chao.{voiced, st_to_chao}
 use Rattle.spec_shape.specs.Extract.{Filled, gap_filled}
-use Rattle.tonekit_shape.specs.Held.{confidence_added}
+use Rattle.tonekit_shape.specs.Promises.{confidence_added}
 
 abbrev pub hole_turn : List ℕ → ℕ → ℕ → Filled → Filled
 hole_turn frames first j s =

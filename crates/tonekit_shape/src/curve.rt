@@ -3,7 +3,7 @@
 ghost use Rattle.std.specs.Prelude.{◌≡◌, ◌≤◌, ◌<◌, length, map};
 ghost use Rattle.spec_shape.specs.Chao.{width_of, st_to_chao};
 ghost use Rattle.spec_shape.specs.Extract.{list_of, gap_filled, holes_filled, mean_with, smoothed};
-ghost use Rattle.tonekit_shape.specs.Held.{semitone};
+ghost use Rattle.tonekit_shape.specs.Promises.{semitone};
 
 use tonekit_fit::Frames;
 

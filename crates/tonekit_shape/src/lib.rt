@@ -7,7 +7,7 @@ ghost use Rattle.tonekit_core.specs.Calls.{Delivers};
 ghost use Rattle.spec_shape.specs.Record.{united, shaped, shape_outcome};
 ghost use Rattle.spec_shape.specs.Window.{contour_at, weight_at};
 ghost use Rattle.spec_shape.specs.Extract.{extent_of, list_of, mean_of, confidence, whole32, frames_in, drawn, smoothed, shape_of};
-ghost use Rattle.tonekit_shape.specs.Held.{extent_turn, confidence_added, Lists, Extended, Voiced3};
+ghost use Rattle.tonekit_shape.specs.Promises.{extent_turn, confidence_added, Lists, Extended, Voiced3};
 
 mod curve;
 mod record;

@@ -15,7 +15,7 @@ use Rattle.tonekit_float.proofs.Picked.{lesser_finite, le_lesser}
 use Rattle.spec_arithmetic.specs.Constants.{zero64, one64, whole64}
 use Rattle.spec_shape.specs.declared.Sweep.{Sweep}
 use Rattle.spec_shape.specs.Window.{span_at, curve_at, moved_to, step_of, walk_of}
-use Rattle.tonekit_window.specs.Held.{unswept, Swept, Frame}
+use Rattle.tonekit_window.specs.Promises.{unswept, Swept, Frame}
 use Rattle.tonekit_window.proofs.Within.{low_in, high_in, frame}
 
 -- where the walk begins, and the most turns that it takes

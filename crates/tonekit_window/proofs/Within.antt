@@ -13,11 +13,14 @@ use Rattle.tonekit_float.proofs.Picked.{lesser_finite, lesser_le_left, lesser_le
 use Rattle.spec_arithmetic.specs.Constants.{half, whole64}
 use Rattle.spec_arithmetic.specs.Position.{position}
 use Rattle.tonekit_contour.proofs.Places.{position_in, position_fits}
-use Rattle.spec_shape.specs.Window.{share, edge, half_width, reach, span_at}
-use Rattle.tonekit_window.specs.Held.{Frame}
+use Rattle.spec_shape.specs.Window.{edge, half_width, reach, span_at}
+use Rattle.tonekit_window.specs.Promises.{Frame}
 
 -- ---- the window
--- 0.05 n
+-- 0.05, and 0.05 n
+abbrev share : Float
+share = of_bits binary64 0x3fa9_9999_9999_999a
+
 share_in : (n : ℕ) → n ≤ 1024 → In zero_f (fin false 1 (pos 6)) (mul binary64 share (whole64 n))
 unfolding of_int of_bits mul le
 share_in n h =

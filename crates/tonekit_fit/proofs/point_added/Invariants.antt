@@ -1,6 +1,6 @@
 use Rattle.std.proofs.Common.{◌≡◌}
 use Rattle.tonekit_core.specs.Loop.{range}
-use Rattle.spec_shape.specs.Fit.{power_turn}
+use Rattle.tonekit_fit.proofs.Powers.{power_turn}
 use Rattle.tonekit_fit.proofs.point_added.Given as goal
 
 abbrev pub invariant-loop-k : goal.invariant-loop-k

@@ -1,7 +1,7 @@
 use Rattle.std.proofs.Common.{◌≡◌, min}
 use Rattle.tonekit_core.specs.Loop.{range}
 use Rattle.spec_shape.specs.Extract.{extent_of}
-use Rattle.tonekit_shape.specs.Held.{extent_turn}
+use Rattle.tonekit_shape.specs.Promises.{extent_turn}
 use Rattle.tonekit_shape.proofs.Found.{Found}
 use Rattle.tonekit_shape.proofs.voiced_frames.Given as goal
 

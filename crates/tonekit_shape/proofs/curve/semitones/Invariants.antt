@@ -1,4 +1,4 @@
-use Rattle.tonekit_shape.specs.Held.{semitone}
+use Rattle.tonekit_shape.specs.Promises.{semitone}
 use Rattle.tonekit_shape.proofs.Fill.{Listed}
 use Rattle.tonekit_shape.proofs.curve.semitones.Given as goal
 

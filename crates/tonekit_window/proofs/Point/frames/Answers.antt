@@ -6,7 +6,7 @@ use Rattle.spec_arithmetic.specs.Whole.{whole_part, round_up}
 use Rattle.spec_shape.specs.declared.Span.{Span}
 use Rattle.spec_shape.specs.declared.FrameRange.{FrameRange}
 use Rattle.spec_shape.specs.Window.{edge, span_at, rounded, frames_at}
-use Rattle.tonekit_window.specs.Held.{Frame}
+use Rattle.tonekit_window.specs.Promises.{Frame}
 use Rattle.tonekit_window.proofs.Within.{frame, low_lt, high_from, high_lt, position_frame}
 use Rattle.tonekit_window.proofs.Point.frames.Goals as goal
 

@@ -1,4 +1,4 @@
--- What the code's functions hold of extents and lists, beside the definitions.
+-- What the code promises of extents and lists, beside the definitions.
 use Rattle.std.specs.Prelude.{ℕ, ◌+◌, ◌≤◌, ◌<◌, ◌≡◌, cond, List, eqb, Float}
 use Rattle.std.specs.Option.{option_map_or}
 use Rattle.std.specs.Float.{binary32}

@@ -1,4 +1,4 @@
--- What the code's types and functions hold of times, windows and sweeps, beside the definitions.
+-- What the code promises of times, windows and sweeps, beside the definitions.
 use Rattle.std.specs.Prelude.{ℕ, ◌-◌, ◌≤◌, ◌<◌, ◌≡◌, Bool, false, List, pos, Float}
 use Rattle.std.specs.Float.{fin}
 use Rattle.std.specs.Float.Ieee.{lt}
