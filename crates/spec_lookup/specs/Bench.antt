@@ -7,12 +7,12 @@ use Rattle.tonekit_core.specs.Loop.{turns, range, turns_to, range_to, loop_on, l
 use Rattle.spec_arithmetic.specs.Whole.{whole_part}
 use Rattle.spec_arithmetic.specs.Narrow.{narrowed}
 use Rattle.spec_arithmetic.specs.Places.{index_of}
-use Rattle.spec_pack.specs.Ranges.{above_zero, a_share, knot_fine, weight_fine, slot_fine, knots_fine, region_fine, tolerances_fine}
-use Rattle.spec_pack.specs.Pack.{parts_from, Pst, loaded, due_after, size_of, holds, zero_or_held, settings_verdict, tone_verdict, accent_verdict, rule_verdict, part_verdict, body_verdict, record_verdict, added, read_pack}
+use Rattle.spec_pack.specs.Ranges.{above_zero, probability_fine, knot_fine, weight_fine, slot_fine, knots_fine, region_fine, tolerances_fine}
+use Rattle.spec_pack.specs.Pack.{parts_from, PackRead, loaded, due_after, size_of, holds, zero_or_held, settings_verdict, tone_verdict, accent_verdict, rule_verdict, part_verdict, body_verdict, record_verdict, added, read_pack}
 use Rattle.spec_lookup.specs.declared.Context.{Context}
 use Rattle.spec_lookup.specs.declared.Listing.{Listing}
 use Rattle.spec_arithmetic.specs.Position.{position}
-use Rattle.spec_lookup.specs.Knots.{segment, fraction, on_line, point_at, first_points, expanded, knots_at, point_most, point_least}
+use Rattle.spec_lookup.specs.Knots.{segment, past_knot, on_line, point_at, first_points, expanded, knots_at, point_most, point_least}
 use Rattle.spec_lookup.specs.Lookup.{meets, matches, specificity, better_of, best_rule, climb_turn, find_rule, rule_listing, listed, look_up, tone_knots_at, part_knots_at, component_of}
 use Rattle.spec_lookup.specs.Source.{settings_at, tone_at, accent_at}
 
@@ -21,11 +21,11 @@ two = of_bits binary32 0x4000_0000
 
 -- "Knots [2] and [2, 2]: all 2."
 pub one_knot : expanded (two ∷ []) ≡ replicate 10 two
-unfolding first_points point_at on_line fraction segment position add sub mul div of_int of_bits whole_part narrowed
+unfolding first_points point_at on_line past_knot segment position add sub mul div of_int of_bits whole_part narrowed
 one_knot = refl
 
 pub two_knots : expanded (two ∷ two ∷ []) ≡ replicate 10 two
-unfolding first_points point_at on_line fraction segment position add sub mul div of_int of_bits whole_part narrowed
+unfolding first_points point_at on_line past_knot segment position add sub mul div of_int of_bits whole_part narrowed
 two_knots = refl
 
 -- halfway from a third to 1: the knots' difference is an f32, without which the point would be 0x3F2AAAAB
@@ -66,11 +66,11 @@ pack =
     ++ ((4 ∷ 9 ∷ 0 ∷ 1 ∷ 0 ∷ 0 ∷ 2 ∷ []) ++ (part
     ++ (6 ∷ [])))))))))))))))))))))))))
 
-abbrev read : Pst
+abbrev read : PackRead
 read = record { last = 5; tones = 9 ∷ 65 ∷ []; accents = 121 ∷ 246 ∷ []; firsts = 0 ∷ 2 ∷ []; rules = 140 ∷ 193 ∷ 265 ∷ 364 ∷ []; parts = 1; total = 5 }
 
 reads : read_pack pack ≡ loaded read 418
-unfolding read_pack loop_to loop_on record_verdict body_verdict settings_verdict tone_verdict accent_verdict rule_verdict part_verdict due_after size_of holds zero_or_held added above_zero a_share knot_fine weight_fine slot_fine knots_fine region_fine tolerances_fine range turns of_bits le lt
+unfolding read_pack loop_to loop_on record_verdict body_verdict settings_verdict tone_verdict accent_verdict rule_verdict part_verdict due_after size_of holds zero_or_held added above_zero probability_fine knot_fine weight_fine slot_fine knots_fine region_fine tolerances_fine range turns of_bits le lt
 reads = refl
 
 context : ℕ → ℕ → ℕ → Bool → Context

@@ -14,8 +14,8 @@ unfoldable pub segment : ℕ → ℕ → ℕ
 segment i last = min (whole_part (position i last)) (last - 1)
 
 -- how far past that knot the point lies
-unfoldable pub fraction : ℕ → ℕ → Float
-fraction i last = sub binary64 (position i last) (whole64 (segment i last))
+unfoldable pub past_knot : ℕ → ℕ → Float
+past_knot i last = sub binary64 (position i last) (whole64 (segment i last))
 
 -- the point at t of the line from a to b: the knots' difference is an f32, the rest f64, narrowed at the end
 unfoldable pub on_line : Float → Float → Float → Float
@@ -27,7 +27,7 @@ point_at knots i =
     let j = segment i last in
     cond (eqb last 0) (get_or knots 0 nan)
     (cond (eqb (length knots) 10) (get_or knots i nan)
-    (cond (eqb i 9) (get_or knots last nan) (on_line (get_or knots j nan) (get_or knots (j + 1) nan) (fraction i last))))
+    (cond (eqb i 9) (get_or knots last nan) (on_line (get_or knots j nan) (get_or knots (j + 1) nan) (past_knot i last))))
 
 -- the first n points
 unfoldable pub first_points : List Float → ℕ → List Float

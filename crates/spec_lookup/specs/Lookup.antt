@@ -6,7 +6,7 @@ use Rattle.tonekit_core.specs.declared.layout.TheConstants.{TONE_KNOT_COUNT, TON
 use Rattle.spec_arithmetic.specs.Fields.{byte_at, u16_at, f32_at}
 use Rattle.spec_arithmetic.specs.Places.{number_at, index_of}
 use Rattle.spec_arithmetic.specs.Constants.{one32}
-use Rattle.spec_pack.specs.Pack.{Pst, parts_from}
+use Rattle.spec_pack.specs.Pack.{PackRead, parts_from}
 use Rattle.spec_lookup.specs.Knots.{knots_at, expanded}
 use Rattle.spec_lookup.specs.declared.Winner.{Winner}
 use Rattle.spec_lookup.specs.declared.Context.{Context}
@@ -27,12 +27,12 @@ matches s c r =
     && (meets (byte_at s (r + RULE_PREV)) c.prev && meets (byte_at s (r + RULE_FINAL)) (final_of c))
 
 -- `specificity`: "conditions stated"
-abbrev pub one_if : ℕ → ℕ
-one_if c = cond (eqb c 0) 0 1
+abbrev pub stated : ℕ → ℕ
+stated c = cond (eqb c 0) 0 1
 
 unfoldable pub specificity : List ℕ → ℕ → ℕ
 specificity s r =
-    one_if (byte_at s (r + RULE_TONE)) + one_if (byte_at s (r + RULE_PREV)) + one_if (byte_at s (r + RULE_FINAL))
+    stated (byte_at s (r + RULE_TONE)) + stated (byte_at s (r + RULE_PREV)) + stated (byte_at s (r + RULE_FINAL))
 
 -- "its most specific one (conditions stated), the first among equals": a later rule must state more
 abbrev pub more_than : List ℕ → Option ℕ → ℕ → Bool
@@ -43,14 +43,14 @@ unfoldable pub better_of : List ℕ → Context → Option ℕ → ℕ → Optio
 better_of s c best r = cond (matches s c r && more_than s best r) (Some r) best
 
 -- the rules of accent i: from those that stood before it to those before the next accent
-abbrev pub from_rule : Pst → ℕ → ℕ
+abbrev pub from_rule : PackRead → ℕ → ℕ
 from_rule st i = get_or st.firsts i 0
 
-abbrev pub to_rule : Pst → ℕ → ℕ
+abbrev pub to_rule : PackRead → ℕ → ℕ
 to_rule st i = cond (ltb (i + 1) (length st.accents)) (get_or st.firsts (i + 1) 0) (length st.rules)
 
 -- the best of them that match
-unfoldable pub best_rule : List ℕ → Pst → Context → ℕ → Option ℕ
+unfoldable pub best_rule : List ℕ → PackRead → Context → ℕ → Option ℕ
 best_rule s st c i = range (λ k best. better_of s c best (get_or st.rules k 0)) (from_rule st i) (to_rule st i) None
 
 -- "from the graded accent up its parents, the first accent with any matching rule gives its most specific one"
@@ -59,18 +59,18 @@ to_parent None = stop None
 to_parent (Some j) = next j
 
 -- the place of accent i's parent
-abbrev pub parent_of : List ℕ → Pst → ℕ → Option ℕ
+abbrev pub parent_of : List ℕ → PackRead → ℕ → Option ℕ
 parent_of s st i = index_of s st.accents (byte_at s (get_or st.accents i 0 + ACCENT_PARENT))
 
-abbrev pub or_parent : List ℕ → Pst → ℕ → Option ℕ → Turn ℕ (Option Winner)
+abbrev pub or_parent : List ℕ → PackRead → ℕ → Option ℕ → Turn ℕ (Option Winner)
 or_parent s st i (Some r) = stop (Some (record { accent = i; rule = r }))
 or_parent s st i None = to_parent (parent_of s st i)
 
-unfoldable pub climb_turn : List ℕ → Pst → Context → ℕ → Turn ℕ (Option Winner)
+unfoldable pub climb_turn : List ℕ → PackRead → Context → ℕ → Turn ℕ (Option Winner)
 climb_turn s st c i = or_parent s st i (best_rule s st c i)
 
 -- `find_rule`: a walk of at most as many steps as there are accents
-unfoldable pub find_rule : List ℕ → Pst → Context → ℕ → Option Winner
+unfoldable pub find_rule : List ℕ → PackRead → Context → ℕ → Option Winner
 find_rule s st c i = loop_to (climb_turn s st c) None (length st.accents) i
 
 -- the rule at r, under the number of the accent whose it is, with the parts that follow it
@@ -86,17 +86,17 @@ abbrev pub citation : ℕ → ℕ → Listing
 citation owner o = record { name = record { owner = owner; form = CITATION_FORM; label = 0 }; at = o; count = 1 }
 
 -- "If none matches on the chain, the tone's citation; if context only, nothing."
-abbrev pub listed : List ℕ → Pst → Context → ℕ → Option Winner → Option Listing
+abbrev pub listed : List ℕ → PackRead → Context → ℕ → Option Winner → Option Listing
 listed s st c o (Some w) = Some (rule_listing s (number_at s (get_or st.accents w.accent 0)) w.rule)
 listed s st c o None = cond (eqb (byte_at s (o + TONE_KNOT_COUNT)) 0) None (Some (citation c.accent o))
 
 -- the lookup, once accent and tone are found at their places
-abbrev pub look_at : List ℕ → Pst → Context → Option ℕ → Option ℕ → Option Listing
+abbrev pub look_at : List ℕ → PackRead → Context → Option ℕ → Option ℕ → Option Listing
 look_at s st c (Some i) (Some t) = listed s st c (get_or st.tones t 0) (find_rule s st c i)
 look_at s st c None t = None
 look_at s st c (Some i) None = None
 
-unfoldable pub look_up : List ℕ → Pst → Context → Option Listing
+unfoldable pub look_up : List ℕ → PackRead → Context → Option Listing
 look_up s st c = look_at s st c (index_of s st.accents c.accent) (index_of s st.tones c.tone)
 
 -- the knots of the tone's record at o, and of the part's

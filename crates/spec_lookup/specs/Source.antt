@@ -8,7 +8,7 @@ use Rattle.tonekit_core.specs.declared.layout.TheConstants.{SETTINGS_TEMPERATURE
 use Rattle.tonekit_core.specs.declared.layout.TheConstants.{ACCENT_CONTOUR, TOLERANCE_ONSET, TOLERANCE_OFFSET, TOLERANCE_TURNING}
 use Rattle.spec_arithmetic.specs.Fields.{byte_at, u32_at}
 use Rattle.spec_arithmetic.specs.Places.{number_at}
-use Rattle.spec_pack.specs.Pack.{Pst}
+use Rattle.spec_pack.specs.Pack.{PackRead}
 use Rattle.spec_lookup.specs.Lookup.{look_up, component_of}
 use Rattle.spec_lookup.specs.declared.Context.{Context}
 use Rattle.spec_lookup.specs.declared.Listing.{Listing}
@@ -69,9 +69,9 @@ unfoldable pub components : List ℕ → Listing → ℕ → List Carried
 components s l zero = []
 components s l (suc n) = components s l n ++ (carried (component_of s l n) ∷ [])
 
-abbrev pub given : List ℕ → Found Listing → Option (List Carried)
-given s None = none
-given s (Some l) = some (components s l l.count)
+abbrev pub carried_of : List ℕ → Found Listing → Option (List Carried)
+carried_of s None = none
+carried_of s (Some l) = some (components s l l.count)
 
 abbrev pub settings_at : List ℕ → ℕ → Settings
 settings_at s o = record { temperature = u32_at s (o + SETTINGS_TEMPERATURE); threshold = u32_at s (o + SETTINGS_THRESHOLD) }
@@ -96,5 +96,5 @@ accent_at contour s o = record {
 }
 
 -- what a pack that was read holds
-unfoldable pub source_of_pack : List ℕ → Pst → Source
-source_of_pack s st = record { settings = settings_at s 0; tones = map (tone_at TONE_REGION s) st.tones; accents = map (accent_at ACCENT_CONTOUR s) st.accents; look = λ c. given s (look_up s st c) }
+unfoldable pub source_of_pack : List ℕ → PackRead → Source
+source_of_pack s st = record { settings = settings_at s 0; tones = map (tone_at TONE_REGION s) st.tones; accents = map (accent_at ACCENT_CONTOUR s) st.accents; look = λ c. carried_of s (look_up s st c) }

@@ -11,11 +11,11 @@ use Rattle.tonekit_core.specs.declared.Refusal.TheVariants.{Misplaced, CutShort,
 use Rattle.tonekit_core.specs.declared.Rejection.{Rejection}
 use Rattle.spec_arithmetic.specs.Fields.{byte_at, u32_at, f32_at}
 use Rattle.spec_arithmetic.specs.Places.{number_at}
-use Rattle.spec_pack.specs.Ranges.{above_zero, a_share, weight_fine, knots_fine, region_fine, tolerances_fine}
+use Rattle.spec_pack.specs.Ranges.{above_zero, probability_fine, weight_fine, knots_fine, region_fine, tolerances_fine}
 
 -- what has been read: the last kind; the offsets of tones, accents and rules, in order; for each accent how many rules stood before it;
 -- the parts of the last rule, and all parts
-pub record Pst : Type 0 where
+pub record PackRead : Type 0 where
   pub last : ℕ
   pub tones : List ℕ
   pub accents : List ℕ
@@ -26,7 +26,7 @@ pub record Pst : Type 0 where
 
 -- a pack, and where it ends; or the refusal and its place
 pub data Out : Type 0 where
-  loaded : Pst → ℕ → Out
+  loaded : PackRead → ℕ → Out
   refused : Refusal → ℕ → Out
 
 -- "Order: Settings, Tones, then each Accent with its Rules, each Rule with its Parts, End": 1 to 8 tones, 1 to 8 accents, 1 to 4 parts a rule
@@ -67,25 +67,25 @@ in_turn crowded fine new held =
 
 unfoldable pub settings_verdict : List ℕ → ℕ → Result Unit Refusal
 settings_verdict s o =
-    in_turn false (above_zero (f32_at s (o + SETTINGS_TEMPERATURE)) && a_share (f32_at s (o + SETTINGS_THRESHOLD))) true true
+    in_turn false (above_zero (f32_at s (o + SETTINGS_TEMPERATURE)) && probability_fine (f32_at s (o + SETTINGS_THRESHOLD))) true true
 
 -- number, prior, knot count, ten slots, region
-abbrev pub tone_crowded : List ℕ → ℕ → Pst → Bool
+abbrev pub tone_crowded : List ℕ → ℕ → PackRead → Bool
 tone_crowded s o st = leb 8 (length st.tones) || ltb 10 (byte_at s (o + TONE_KNOT_COUNT))
 
 abbrev pub tone_fine : List ℕ → ℕ → Bool
 tone_fine s o =
     not (eqb (number_at s o) 0)
-    && (a_share (f32_at s (o + TONE_PRIOR)) && (knots_fine s (o + TONE_KNOTS) (byte_at s (o + TONE_KNOT_COUNT)) && region_fine s (o + TONE_REGION)))
+    && (probability_fine (f32_at s (o + TONE_PRIOR)) && (knots_fine s (o + TONE_KNOTS) (byte_at s (o + TONE_KNOT_COUNT)) && region_fine s (o + TONE_REGION)))
 
-unfoldable pub tone_verdict : List ℕ → ℕ → Pst → Result Unit Refusal
+unfoldable pub tone_verdict : List ℕ → ℕ → PackRead → Result Unit Refusal
 tone_verdict s o st = in_turn (tone_crowded s o st) (tone_fine s o) (not (holds s st.tones (number_at s o))) true
 
 -- number, parent ("A parent stands earlier in the file"), tolerances
 abbrev pub accent_fine : List ℕ → ℕ → Bool
 accent_fine s o = not (eqb (number_at s o) 0) && tolerances_fine s (o + ACCENT_CONTOUR)
 
-unfoldable pub accent_verdict : List ℕ → ℕ → Pst → Result Unit Refusal
+unfoldable pub accent_verdict : List ℕ → ℕ → PackRead → Result Unit Refusal
 accent_verdict s o st =
     in_turn
     (leb 8 (length st.accents))
@@ -98,23 +98,23 @@ abbrev pub rule_fine : List ℕ → ℕ → Bool
 rule_fine s o =
     leb (byte_at s (o + RULE_FINAL)) 2 && (eqb (byte_at s (o + RULE_FORM)) 2 || eqb (byte_at s (o + RULE_FORM)) 3)
 
-abbrev pub rule_held : List ℕ → ℕ → Pst → Bool
+abbrev pub rule_held : List ℕ → ℕ → PackRead → Bool
 rule_held s o st =
     zero_or_held s st.tones (byte_at s (o + RULE_TONE)) && zero_or_held s st.tones (byte_at s (o + RULE_PREV))
 
-unfoldable pub rule_verdict : List ℕ → ℕ → Pst → Result Unit Refusal
+unfoldable pub rule_verdict : List ℕ → ℕ → PackRead → Result Unit Refusal
 rule_verdict s o st = in_turn (leb 64 (length st.rules)) (rule_fine s o) true (rule_held s o st)
 
 -- the offset of the last rule
-abbrev pub last_rule : Pst → ℕ
+abbrev pub last_rule : PackRead → ℕ
 last_rule st = get_or st.rules (length st.rules - 1) 0
 
 -- "Form 2 is single"
-abbrev pub single : List ℕ → Pst → Bool
+abbrev pub single : List ℕ → PackRead → Bool
 single s st = eqb (byte_at s (last_rule st + RULE_FORM)) 2
 
 -- weight, knot count, ten slots. Of a single rule "its part's weight is 1, else 5; a second part is 4"
-abbrev pub part_crowded : List ℕ → ℕ → Pst → Bool
+abbrev pub part_crowded : List ℕ → ℕ → PackRead → Bool
 part_crowded s o st =
     leb 4 st.parts || (leb 128 st.total || ((single s st && leb 1 st.parts) || ltb 10 (byte_at s (o + PART_KNOT_COUNT))))
 
@@ -124,10 +124,10 @@ part_fine one s o =
     && ((not one || eqb (u32_at s (o + PART_WEIGHT)) 0x3f80_0000)
     && (not (eqb (byte_at s (o + PART_KNOT_COUNT)) 0) && knots_fine s (o + PART_KNOTS) (byte_at s (o + PART_KNOT_COUNT))))
 
-unfoldable pub part_verdict : List ℕ → ℕ → Pst → Result Unit Refusal
+unfoldable pub part_verdict : List ℕ → ℕ → PackRead → Result Unit Refusal
 part_verdict s o st = in_turn (part_crowded s o st) (part_fine (single s st) s o) true true
 
-unfoldable pub body_verdict : ℕ → List ℕ → ℕ → Pst → Result Unit Refusal
+unfoldable pub body_verdict : ℕ → List ℕ → ℕ → PackRead → Result Unit Refusal
 body_verdict k s o st =
     cond (eqb k SETTINGS_KIND) (settings_verdict s o)
     (cond (eqb k TONE_KIND) (tone_verdict s o st)
@@ -136,7 +136,7 @@ body_verdict k s o st =
     (cond (eqb k PART_KIND) (part_verdict s o st) (Ok tt)))))
 
 -- "in each 1, 2, 4, 5, 6, 7"; past the input's end a due record is missing: 2
-unfoldable pub record_verdict : List ℕ → ℕ → Pst → Result Unit Refusal
+unfoldable pub record_verdict : List ℕ → ℕ → PackRead → Result Unit Refusal
 unfolding due_after size_of body_verdict
 record_verdict s o st =
     cond (leb (length s) o) (Err CutShort)
@@ -145,7 +145,7 @@ record_verdict s o st =
     (body_verdict (byte_at s o) s o st)))
 
 -- what has been read once the record of kind k at o is fine
-unfoldable pub added : ℕ → ℕ → Pst → Pst
+unfoldable pub added : ℕ → ℕ → PackRead → PackRead
 added k o st =
     cond (eqb k TONE_KIND)
     (record { last = k; tones = st.tones ++ (o ∷ []); accents = st.accents; firsts = st.firsts; rules = st.rules; parts = st.parts; total = st.total })
@@ -165,7 +165,7 @@ parts_from (suc n) s o = cond (eqb (byte_at s o) PART_KIND) (suc (parts_from n s
 -- a place in the pack: the offset of the record due, and what stood before it
 pub record Here : Type 0 where
   pub at : ℕ
-  pub st : Pst
+  pub st : PackRead
 
 -- a record that is refused ends the reading, and so does End; else the next record is due
 abbrev pub on_verdict : List ℕ → Here → Result Unit Refusal → Turn Here Out

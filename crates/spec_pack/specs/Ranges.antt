@@ -13,8 +13,8 @@ unfoldable pub above_zero : Float → Bool
 above_zero x = lt zero32 x && lt x (inf false)
 
 -- "prior and threshold above 0, at most 1"
-unfoldable pub a_share : Float → Bool
-a_share x = lt zero32 x && le x one32
+unfoldable pub probability_fine : Float → Bool
+probability_fine x = lt zero32 x && le x one32
 
 -- of size at most `most`
 unfoldable pub within : Float → Float → Bool

@@ -3,13 +3,13 @@ use Rattle.std.specs.Prelude.{ℕ, ◌≡◌, refl, List, [], ◌∷◌, ◌++�
 use Rattle.std.specs.Float.Ieee.{lt, le, of_bits}
 use Rattle.tonekit_core.specs.Loop.{range, turns, range_to, turns_to, loop_to, loop_on}
 use Rattle.tonekit_core.specs.declared.Refusal.TheVariants.{Misplaced, Overrun, Crowded, OffScale, Doubled, Loose, Unordered}
-use Rattle.spec_pack.specs.Ranges.{above_zero, a_share, weight_fine, region_fine, tolerances_fine}
+use Rattle.spec_pack.specs.Ranges.{above_zero, probability_fine, weight_fine, region_fine, tolerances_fine}
 use Rattle.spec_pack.specs.Pack.{holds, zero_or_held, settings_verdict}
 use Rattle.spec_sheet.specs.Reader.{Out, Sst, loaded, refused, complete, due_next, size_of, tone_verdict, accent_verdict, row_verdict, list_verdict, point_fine, points_fine, component_verdict, body_verdict, record_verdict, added, loose_row, accent_down, row_due, row_names, row_wrong, named, same_lists, repeated, list_wrong, finished, read_sheet, load_sheet}
 
 -- what an input is, as a single sheet; opened, it computes
 unfoldable read : List ℕ → Out
-unfolding load_sheet read_sheet finished loose_row accent_down row_due row_names row_wrong named same_lists repeated list_wrong record_verdict complete due_next size_of body_verdict settings_verdict tone_verdict accent_verdict row_verdict list_verdict component_verdict point_fine points_fine holds zero_or_held added above_zero a_share weight_fine region_fine tolerances_fine range turns range_to turns_to loop_to loop_on lt le of_bits
+unfolding load_sheet read_sheet finished loose_row accent_down row_due row_names row_wrong named same_lists repeated list_wrong record_verdict complete due_next size_of body_verdict settings_verdict tone_verdict accent_verdict row_verdict list_verdict component_verdict point_fine points_fine holds zero_or_held added above_zero probability_fine weight_fine region_fine tolerances_fine range turns range_to turns_to loop_to loop_on lt le of_bits
 read s = load_sheet s
 
 abbrev one : List ℕ

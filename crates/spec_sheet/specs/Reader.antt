@@ -13,7 +13,7 @@ use Rattle.tonekit_core.specs.declared.Refusal.{Refusal}
 use Rattle.tonekit_core.specs.declared.Refusal.TheVariants.{Misplaced, CutShort, Overrun, Loose, Unordered}
 use Rattle.tonekit_core.specs.declared.Rejection.{Rejection}
 use Rattle.spec_arithmetic.specs.Fields.{byte_at, u16_at, u32_at, f32_at}
-use Rattle.spec_pack.specs.Ranges.{a_share, weight_fine, region_fine, tolerances_fine}
+use Rattle.spec_pack.specs.Ranges.{probability_fine, weight_fine, region_fine, tolerances_fine}
 use Rattle.spec_arithmetic.specs.Places.{number_at}
 use Rattle.spec_pack.specs.Pack.{holds, zero_or_held, in_turn, settings_verdict}
 use Rattle.spec_sheet.specs.Sheet.{row_count, accent_place, tone_place, prev_place}
@@ -65,7 +65,7 @@ size_of k =
 -- "Fields have the pack's ranges": number, prior, region
 abbrev pub tone_fine : List ℕ → ℕ → Bool
 tone_fine s o =
-    not (eqb (number_at s o) 0) && (a_share (f32_at s (o + SHEET_TONE_PRIOR)) && region_fine s (o + SHEET_TONE_REGION))
+    not (eqb (number_at s o) 0) && (probability_fine (f32_at s (o + SHEET_TONE_PRIOR)) && region_fine s (o + SHEET_TONE_REGION))
 
 unfoldable pub tone_verdict : List ℕ → ℕ → Sst → Result (Unit {0}) Refusal
 tone_verdict s o st = in_turn (leb 8 (length st.tones)) (tone_fine s o) (not (holds s st.tones (number_at s o))) true

@@ -5,7 +5,7 @@ use lib.ListN.{get_or-append}
 use Rattle.std.specs.Prelude.{Ok}
 use Rattle.spec_arithmetic.specs.Fields.{byte_at}
 use Rattle.spec_arithmetic.specs.Places.{number_at}
-use Rattle.spec_pack.specs.Pack.{Pst, size_of, rule_fine, part_fine, added, start}
+use Rattle.spec_pack.specs.Pack.{PackRead, size_of, rule_fine, part_fine, added, start}
 use Rattle.tonekit_core.proofs.Split.{split, both, either, neither}
 use Rattle.tonekit_pack.proofs.Records.{passed, size_pos}
 use Rattle.spec_lookup.specs.Lookup.{to_rule}
@@ -21,11 +21,11 @@ use Rattle.tonekit_book.proofs.Lasting.{accent_grew, rule_grew, other_grew, last
 use Rattle.tonekit_book.proofs.OwnRule.{FineParts, rule_own}
 
 -- of all rules, those before the accent at place a; all of them if there is none
-abbrev before : Pst → ℕ → ℕ
+abbrev before : PackRead → ℕ → ℕ
 before fin a = cond (ltb a (length fin.accents)) (get_or fin.firsts a 0) (length fin.rules)
 
 -- what is still to come after a accents and q rules, where fin is the last state: by offsets, and by the records' own bytes, which begin with those parts
-record ToCome (s : List ℕ) (fin : Pst) (a q : ℕ) (g : Groups) (bytes : List ℕ) : Type 0 where
+record ToCome (s : List ℕ) (fin : PackRead) (a q : ℕ) (g : Groups) (bytes : List ℕ) : Type 0 where
   accents : tabulate (pack_accent s fin) (length fin.accents - a) a ≡ map accent_of_group g.accents
   rules : (owner : ℕ) → tabulate (λ k. rule_at s owner (get_or fin.rules k 0)) (before fin a - q) q ≡ map (λ (r : List ℕ). rule_at r owner 0) g.rules
   reach : q ≤ before fin a
@@ -35,7 +35,7 @@ record ToCome (s : List ℕ) (fin : Pst) (a q : ℕ) (g : Groups) (bytes : List 
   over : byte_at rest 0 ≡ 5 → ⊥
 
 -- no record is left
-nothing_left : (s : List ℕ) (st : Pst) (tail : List ℕ) → ToCome s st (length st.accents) (length st.rules) (record { parts = []; rules = []; accents = [] }) (6 ∷ tail)
+nothing_left : (s : List ℕ) (st : PackRead) (tail : List ℕ) → ToCome s st (length st.accents) (length st.rules) (record { parts = []; rules = []; accents = [] }) (6 ∷ tail)
 unfolding records_bytes
 nothing_left s st tail =
     let None-more = le-ltb (length st.accents) (length st.accents) (omega arith) in
@@ -54,7 +54,7 @@ nothing_left s st tail =
 not_first : (r bytes : List ℕ) (k : ℕ) → byte_at r 0 ≡ k → (k ≡ 5 → ⊥) → 0 < length r → byte_at (r ++ bytes) 0 ≡ 5 → ⊥
 not_first r bytes k e n l z = n (sym e ∙ sym (get_or-append r bytes 0 0 l) ∙ z)
 
-module _ (s : List ℕ) (at : ℕ) (fin : Pst) (a q : ℕ) (r : List ℕ) (g : Groups) (bytes : List ℕ) where
+module _ (s : List ℕ) (at : ℕ) (fin : PackRead) (a q : ℕ) (r : List ℕ) (g : Groups) (bytes : List ℕ) where
   -- settings and tones
   other_step : (k : ℕ) → byte_at r 0 ≡ k → (k ≡ 5 → ⊥) → 0 < length r → ToCome s fin a q g bytes
       → ToCome s fin a q (record { parts = []; rules = g.rules; accents = g.accents }) (r ++ bytes)
@@ -149,7 +149,7 @@ part_few r t e k =
 
 -- ---- all records
 -- as many entries in firsts as accents
-paired : (k at : ℕ) (st : Pst) → length st.firsts ≡ length st.accents → length (added k at st).firsts ≡ length (added k at st).accents
+paired : (k at : ℕ) (st : PackRead) → length st.firsts ≡ length st.accents → length (added k at st).firsts ≡ length (added k at st).accents
 paired k at st b =
     split (eqb k 3)
     (λ t. let g = accent_grew k at st (eqb-true k 3 t) in
@@ -159,10 +159,10 @@ paired k at st b =
     (λ u. let g = other_grew k at st t u in ap length g.firsts_are ∙ b ∙ sym (ap length g.accents_are)))
 
 module _ (s tail : List ℕ) where
-  counts : {a b q p : ℕ} (fin : Pst) (g : Groups) (bytes : List ℕ) → a ≡ b → q ≡ p → ToCome s fin a q g bytes → ToCome s fin b p g bytes
+  counts : {a b q p : ℕ} (fin : PackRead) (g : Groups) (bytes : List ℕ) → a ≡ b → q ≡ p → ToCome s fin a q g bytes → ToCome s fin b p g bytes
   counts {a} {b} {q} {p} fin g bytes e f x = subst (λ (n : ℕ). ToCome s fin b n g bytes) f (subst (λ (n : ℕ). ToCome s fin n q g bytes) e x)
 
-  from_records : {t u : Tally} {rs : List (List ℕ)} → ReadsOn t rs u → (at : ℕ) (st : Pst) → length st.firsts ≡ length st.accents
+  from_records : {t u : Tally} {rs : List (List ℕ)} → ReadsOn t rs u → (at : ℕ) (st : PackRead) → length st.firsts ≡ length st.accents
       → drop at s ≡ records_bytes rs ++ (6 ∷ tail) → at ≤ length s
       → ToCome s (added_all st at rs) (length st.accents) (length st.rules) (grouped rs) (records_bytes rs ++ (6 ∷ tail))
   unfolding added_all grouped records_bytes size_of

@@ -1,7 +1,7 @@
 -- The book of a pack is that of its records (`book_of_records_lem`), and so, for every pack that loads, is all that its station holds (`records_source`) and
 -- its sheet (`records_sheet`). Assumes nothing.
 use Rattle.std.proofs.Common.{ℕ, ◌≡◌, refl, sym, ◌∙◌, ap, ap₂, true, List, ◌∷◌, ◌++◌, append_assoc, arith, length, drop}
-use Rattle.spec_pack.specs.Pack.{Pst, due_after, size_of, loaded, start, read_pack}
+use Rattle.spec_pack.specs.Pack.{PackRead, due_after, size_of, loaded, start, read_pack}
 use Rattle.tonekit_core.proofs.Split.{absurd_bool}
 use Rattle.tonekit_pack.proofs.Records.{Due, due_is, settings, tone, accent, rule, part, finish}
 use Rattle.spec_lookup.specs.Source.{settings_at, source_of_pack}
@@ -48,7 +48,7 @@ book_of_records_lem tail x d =
     λ i. record { settings = a i; tones = b i; accents = c i }
 
 -- ---- every pack that loads, and its records
-module _ (s : List ℕ) (st : Pst) (e : ℕ) (h : read_pack s ≡ loaded st e) where
+module _ (s : List ℕ) (st : PackRead) (e : ℕ) (h : read_pack s ≡ loaded st e) where
   abbrev pub pack_records : List (List ℕ)
   pack_records = (load_reads s st e h).records
 

@@ -2,18 +2,18 @@
 use Rattle.std.proofs.Common.{ℕ, ◌+◌, ◌≤◌, ◌<◌, ◌≡◌, refl, ◌∙◌, ap, false, List, [], ◌∷◌, ◌++◌, arith, eqb, length, get_or, length-append}
 use lib.ListN.{get_or-append}
 use lib.Seq.{get_or-append_seam}
-use Rattle.spec_pack.specs.Pack.{Pst, added}
+use Rattle.spec_pack.specs.Pack.{PackRead, added}
 use Rattle.tonekit_core.proofs.Split.{split}
 use Rattle.tonekit_records.specs.Records.{kind, added_all}
 
 -- ---- one record
 -- accents, where their rules begin, and rules, once it is added
-pub record Grew (next : Pst) (accents firsts rules : List ℕ) : Type 0 where
+pub record Grew (next : PackRead) (accents firsts rules : List ℕ) : Type 0 where
   pub accents_are : next.accents ≡ accents
   pub firsts_are : next.firsts ≡ firsts
   pub rules_are : next.rules ≡ rules
 
-module _ (k at : ℕ) (st : Pst) where
+module _ (k at : ℕ) (st : PackRead) where
   pub accent_grew : k ≡ 3 → Grew (added k at st) (st.accents ++ (at ∷ [])) (st.firsts ++ (length st.rules ∷ [])) st.rules
   unfolding added
   accent_grew e = record { accents_are = rw e; firsts_are = rw e; rules_are = rw e }
@@ -55,13 +55,13 @@ begins_then : (l m n : List ℕ) → Begins l m → Begins m n → Begins l n
 begins_then l m n a b = record { same = λ i h. b.same i (omega (arith, a.long)) ∙ a.same i h; long = omega (arith, a.long, b.long) }
 
 -- the lists of one state, and those of a later one
-pub record Lasts (st fin : Pst) : Type 0 where
+pub record Lasts (st fin : PackRead) : Type 0 where
   pub tones : Begins st.tones fin.tones
   pub accents : Begins st.accents fin.accents
   pub firsts : Begins st.firsts fin.firsts
   pub rules : Begins st.rules fin.rules
 
-one_lasts : (k at : ℕ) (st : Pst) → Lasts st (added k at st)
+one_lasts : (k at : ℕ) (st : PackRead) → Lasts st (added k at st)
 unfolding added
 one_lasts k at st =
     let t = begins_itself st.tones in
@@ -73,7 +73,7 @@ one_lasts k at st =
     (λ y. split (eqb k 4) (λ z. rw (x, y, z) (record { tones = t; accents = a; firsts = f; rules = begins_more st.rules at }))
     (λ z. split (eqb k 5) (λ w. rw (x, y, z, w) (record { tones = t; accents = a; firsts = f; rules = r })) (λ w. rw (x, y, z, w) (record { tones = t; accents = a; firsts = f; rules = r })))))
 
-pub lasts : (rs : List (List ℕ)) (at : ℕ) (st : Pst) → Lasts st (added_all st at rs)
+pub lasts : (rs : List (List ℕ)) (at : ℕ) (st : PackRead) → Lasts st (added_all st at rs)
 unfolding added_all
 lasts [] at st = record { tones = begins_itself st.tones; accents = begins_itself st.accents; firsts = begins_itself st.firsts; rules = begins_itself st.rules }
 lasts (r ∷ rs) at st =

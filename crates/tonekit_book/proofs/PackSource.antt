@@ -6,12 +6,12 @@ use mathlib.Core.Option.{Option, none, some}
 use Rattle.tonekit_core.specs.Loop.{Turn, next, stop, fold, turns, range, turns_to, range_to, loop_on, loop_to}
 use Rattle.spec_arithmetic.specs.Fields.{byte_at}
 use Rattle.spec_arithmetic.specs.Places.{index_of, index_turn, number_at}
-use Rattle.spec_pack.specs.Pack.{Pst, parts_from}
+use Rattle.spec_pack.specs.Pack.{PackRead, parts_from}
 use Rattle.tonekit_core.proofs.Split.{split}
 use Rattle.spec_lookup.specs.declared.Context.{Context}
 use Rattle.std.specs.Prelude.{Some, None}
 use Rattle.spec_lookup.specs.Lookup.{matches, specificity, more_than, better_of, from_rule, to_rule, best_rule, parent_of, or_parent, climb_turn, find_rule, rule_listing, listed, look_at, look_up}
-use Rattle.spec_lookup.specs.Source.{Carried, components, given, settings_at, tone_at, accent_at, source_of_pack}
+use Rattle.spec_lookup.specs.Source.{Carried, components, carried_of, settings_at, tone_at, accent_at, source_of_pack}
 use Rattle.tonekit_book.specs.Book.{Rule, BookAccent, BookTone, first_with, book_accent_in, rule_matches, conditions, better_rule, best_of, given_or, from_parent, climb, or_citation, look_with, look_in, source_of, tabulate, book_tone_at, rule_at, pack_tone, pack_accent, book_of}
 use Rattle.tonekit_book.proofs.Tabulate.{tabulate_length, map_tabulate, tabulate_all}
 
@@ -61,7 +61,7 @@ module _ (s : List ℕ) (owner : ℕ) (rules : List ℕ) (c : Context) where
   best_from zero i f = refl
   best_from (suc k) i f = best_from k (i + 1) (best_turn i f) ∙ ap (λ o. fold (better_rule c) o (tabulate (λ k. rule (get_or rules k 0)) k (i + 1))) (better_same f (get_or rules i 0))
 
-pub best_same : (s : List ℕ) (st : Pst) (c : Context) (i owner : ℕ)
+pub best_same : (s : List ℕ) (st : PackRead) (c : Context) (i owner : ℕ)
     → at_found (rule_at s owner) (best_rule s st c i) ≡ best_of c (tabulate (λ k. rule_at s owner (get_or st.rules k 0)) (to_rule st i - from_rule st i) (from_rule st i))
 unfolding best_rule range best_of
 best_same s st c i owner = best_from s owner st.rules c (to_rule st i - from_rule st i) (from_rule st i) None
@@ -72,7 +72,7 @@ unfolding loop_on
 stops f d zero r = refl
 stops f d (suc n) r = refl
 
-module _ (s : List ℕ) (st : Pst) (c : Context) where
+module _ (s : List ℕ) (st : PackRead) (c : Context) where
   abbrev accents : List BookAccent
   accents = tabulate (pack_accent s st) (length st.accents) 0
 
@@ -104,13 +104,13 @@ module _ (s : List ℕ) (st : Pst) (c : Context) where
       ∙ ap₂ (λ r a. given_or r (from_parent (climb accents c n) a)) (best_same s st c i (number_at s (get_or st.accents i 0))) (parent_same i)
 
 -- ---- the lookup
-module _ (s : List ℕ) (st : Pst) (c : Context) where
+module _ (s : List ℕ) (st : PackRead) (c : Context) where
   -- the rule's components, or the citation of the tone at o
-  given_same : (o : ℕ) (w : Found Winner) → given s (listed s st c o w) ≡ or_citation c.accent (book_tone_at s o) (its_list s st c w)
+  given_same : (o : ℕ) (w : Found Winner) → carried_of s (listed s st c o w) ≡ or_citation c.accent (book_tone_at s o) (its_list s st c w)
   given_same o (Some w) = refl
   given_same o None = split (eqb (byte_at s (o + 6)) 0) (λ t. rw t) (λ t. rw t)
 
-  at_same : (a t : Found ℕ) → given s (look_at s st c a t) ≡ look_with (accents s st c) c (at_found (pack_accent s st) a) (at_found (pack_tone s st) t)
+  at_same : (a t : Found ℕ) → carried_of s (look_at s st c a t) ≡ look_with (accents s st c) c (at_found (pack_accent s st) a) (at_found (pack_tone s st) t)
   unfolding find_rule
   at_same None t = refl
   at_same (Some i) None = refl
@@ -127,7 +127,7 @@ module _ (s : List ℕ) (st : Pst) (c : Context) where
       (index_same (λ (t : BookTone). t.tone.number) s st.tones c.tone (pack_tone s st) (λ i. refl))
 
 -- ---- all that is held
-pub pack_source : (s : List ℕ) (st : Pst) → source_of_pack s st ≡ source_of (book_of s st)
+pub pack_source : (s : List ℕ) (st : PackRead) → source_of_pack s st ≡ source_of (book_of s st)
 unfolding source_of_pack source_of book_of
 pack_source s st =
     let t = tabulate_all (tone_at 47 s) st.tones ∙ sym (map_tabulate (λ (t : BookTone). t.tone) (pack_tone s st) (length st.tones) 0) in

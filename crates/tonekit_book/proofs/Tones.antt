@@ -5,7 +5,7 @@ use Rattle.std.specs.Prelude.{Ok}
 use Rattle.spec_arithmetic.specs.Fields.{byte_at}
 use Rattle.spec_arithmetic.specs.Places.{number_at}
 use Rattle.spec_arithmetic.specs.Constants.{one32}
-use Rattle.spec_pack.specs.Pack.{Pst, size_of, tone_fine, added, start}
+use Rattle.spec_pack.specs.Pack.{PackRead, size_of, tone_fine, added, start}
 use Rattle.tonekit_core.proofs.Split.{split, neither}
 use Rattle.tonekit_pack.proofs.Records.{passed}
 use Rattle.spec_lookup.specs.Knots.{knots_at, expanded}
@@ -52,7 +52,7 @@ module _ (s : List ℕ) (at : ℕ) (r : List ℕ) (n : length r ≡ 56) (few : b
 
 -- ---- all tones
 module _ (s tail : List ℕ) where
-  from_records : {t u : Tally} {rs : List (List ℕ)} → ReadsOn t rs u → (at : ℕ) (st : Pst) → drop at s ≡ records_bytes rs ++ (6 ∷ tail) → at ≤ length s
+  from_records : {t u : Tally} {rs : List (List ℕ)} → ReadsOn t rs u → (at : ℕ) (st : PackRead) → drop at s ≡ records_bytes rs ++ (6 ∷ tail) → at ≤ length s
       → tabulate (pack_tone s (added_all st at rs)) (length (added_all st at rs).tones - length st.tones) (length st.tones) ≡ map tone_of_record (tone_records rs)
   unfolding added_all tone_records records_bytes size_of
   from_records no_more at st c l = tabulate_none _ _ _ (omega arith)

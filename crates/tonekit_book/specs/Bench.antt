@@ -6,10 +6,10 @@ use Rattle.tonekit_core.specs.Loop.{fold, range, turns, loop_to, loop_on}
 use Rattle.spec_arithmetic.specs.Whole.{whole_part}
 use Rattle.spec_arithmetic.specs.Narrow.{narrowed}
 use Rattle.spec_arithmetic.specs.Position.{position}
-use Rattle.spec_pack.specs.Ranges.{above_zero, a_share, knot_fine, weight_fine, slot_fine, knots_fine, region_fine, tolerances_fine}
-use Rattle.spec_pack.specs.Pack.{Pst, loaded, due_after, size_of, holds, zero_or_held, settings_verdict, tone_verdict, accent_verdict, rule_verdict, part_verdict, body_verdict, record_verdict, added, parts_from, read_pack}
+use Rattle.spec_pack.specs.Ranges.{above_zero, probability_fine, knot_fine, weight_fine, slot_fine, knots_fine, region_fine, tolerances_fine}
+use Rattle.spec_pack.specs.Pack.{PackRead, loaded, due_after, size_of, holds, zero_or_held, settings_verdict, tone_verdict, accent_verdict, rule_verdict, part_verdict, body_verdict, record_verdict, added, parts_from, read_pack}
 use Rattle.spec_lookup.specs.declared.Context.{Context}
-use Rattle.spec_lookup.specs.Knots.{segment, fraction, on_line, point_at, first_points, knots_at}
+use Rattle.spec_lookup.specs.Knots.{segment, past_knot, on_line, point_at, first_points, knots_at}
 use Rattle.spec_lookup.specs.Lookup.{meets, component_of}
 use Rattle.spec_lookup.specs.Source.{Accent, Carried, carried, components}
 use Rattle.tonekit_records.specs.Records.{records_bytes}
@@ -33,11 +33,11 @@ abbrev pack : List ℕ
 pack = records_bytes records ++ (6 ∷ [])
 
 -- what the reader keeps of it
-abbrev kept : Pst
+abbrev kept : PackRead
 kept = record { last = 5; tones = 9 ∷ []; accents = 65 ∷ 236 ∷ []; firsts = 0 ∷ 2 ∷ []; rules = 84 ∷ 183 ∷ 255 ∷ []; parts = 1; total = 4 }
 
 reads : read_pack pack ≡ loaded kept 309
-unfolding records_bytes read_pack record_verdict due_after size_of body_verdict settings_verdict tone_verdict accent_verdict rule_verdict part_verdict holds zero_or_held added above_zero a_share knot_fine weight_fine slot_fine knots_fine region_fine tolerances_fine range turns loop_to loop_on lt le of_bits
+unfolding records_bytes read_pack record_verdict due_after size_of body_verdict settings_verdict tone_verdict accent_verdict rule_verdict part_verdict holds zero_or_held added above_zero probability_fine knot_fine weight_fine slot_fine knots_fine region_fine tolerances_fine range turns loop_to loop_on lt le of_bits
 reads = refl
 
 -- ---- its book
@@ -79,11 +79,11 @@ book = record {
 }
 
 by_bytes : book_of pack kept ≡ book
-unfolding book_of tabulate records_bytes components component_of carried parts_from knots_at first_points point_at on_line fraction segment position add sub mul div of_int of_bits to_bits whole_part narrowed
+unfolding book_of tabulate records_bytes components component_of carried parts_from knots_at first_points point_at on_line past_knot segment position add sub mul div of_int of_bits to_bits whole_part narrowed
 by_bytes = refl
 
 by_records : book_of_records records ≡ book
-unfolding book_of_records grouped tone_records records_bytes components component_of carried parts_from knots_at first_points point_at on_line fraction segment position add sub mul div of_int of_bits to_bits whole_part narrowed
+unfolding book_of_records grouped tone_records records_bytes components component_of carried parts_from knots_at first_points point_at on_line past_knot segment position add sub mul div of_int of_bits to_bits whole_part narrowed
 by_records = refl
 
 -- ---- lookups

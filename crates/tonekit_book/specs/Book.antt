@@ -7,9 +7,9 @@ use Rattle.tonekit_core.specs.declared.layout.TheConstants.{TONE_KNOT_COUNT, ACC
 use Rattle.tonekit_core.specs.Loop.{fold}
 use Rattle.spec_arithmetic.specs.Fields.{byte_at}
 use Rattle.spec_arithmetic.specs.Places.{number_at}
-use Rattle.spec_pack.specs.Pack.{Pst, parts_from}
+use Rattle.spec_pack.specs.Pack.{PackRead, parts_from}
 use Rattle.spec_lookup.specs.declared.Context.{Context}
-use Rattle.spec_lookup.specs.Lookup.{final_of, meets, one_if, from_rule, to_rule, rule_listing, citation}
+use Rattle.spec_lookup.specs.Lookup.{final_of, meets, stated, from_rule, to_rule, rule_listing, citation}
 use Rattle.spec_lookup.specs.Source.{Settings, Tone, Accent, Carried, Source, components, settings_at, tone_at, accent_at}
 
 -- what a rule asks for, and the components that it gives: its parts, under the number of the accent whose rule it is
@@ -52,7 +52,7 @@ unfoldable pub rule_matches : Context → Rule → Bool
 rule_matches c r = meets r.tone c.tone && (meets r.prev c.prev && meets r.final (final_of c))
 
 unfoldable pub conditions : Rule → ℕ
-conditions r = one_if r.tone + one_if r.prev + one_if r.final
+conditions r = stated r.tone + stated r.prev + stated r.final
 
 -- "its most specific one (conditions stated), the first among equals"
 abbrev pub states_more : Option Rule → Rule → Bool
@@ -116,15 +116,15 @@ abbrev pub rule_at : List ℕ → ℕ → ℕ → Rule
 rule_at s owner o = record { tone = byte_at s (o + RULE_TONE); prev = byte_at s (o + RULE_PREV); final = byte_at s (o + RULE_FINAL); gives = components s (rule_listing s owner o) (parts_from 4 s (o + RULE_SIZE)) }
 
 -- tone i and accent i of the pack
-abbrev pub pack_tone : List ℕ → Pst → ℕ → BookTone
+abbrev pub pack_tone : List ℕ → PackRead → ℕ → BookTone
 pack_tone s st i = book_tone_at s (get_or st.tones i 0)
 
-abbrev pub pack_accent : List ℕ → Pst → ℕ → BookAccent
+abbrev pub pack_accent : List ℕ → PackRead → ℕ → BookAccent
 pack_accent s st i =
     let o = get_or st.accents i 0 in
     record { accent = accent_at ACCENT_CONTOUR s o; parent = byte_at s (o + ACCENT_PARENT); rules = tabulate (λ k. rule_at s (number_at s o) (get_or st.rules k 0)) (to_rule st i - from_rule st i) (from_rule st i) }
 
-unfoldable pub book_of : List ℕ → Pst → Book
+unfoldable pub book_of : List ℕ → PackRead → Book
 unfolding tabulate
 book_of s st = record {
   settings = settings_at s 0;

@@ -93,7 +93,7 @@ module _ (src : Source) (few : length src.tones ≤ 8) (alike : (c : Context) (c
       )
 
 -- a pack that loads, and a sheet
-pack_few : (p : List ℕ) (st : pack.Pst) (e : ℕ) → pack.read_pack p ≡ pack.loaded st e → length (source_of_pack p st).tones ≤ 8
+pack_few : (p : List ℕ) (st : pack.PackRead) (e : ℕ) → pack.read_pack p ≡ pack.loaded st e → length (source_of_pack p st).tones ≤ 8
 unfolding source_of_pack
 pack_few p st e r = omega (arith, length-map st.tones (source.tone_at 47 p), (loads p st e r).kept.few_tones)
 

@@ -3,7 +3,7 @@
 -- proofs/Demand3.antt proves them.
 use Rattle.std.specs.Prelude.{ℕ, ◌≡◌, ◌↔◌, List, length}
 use Rattle.tonekit_core.specs.Calls.{written, answer_in, buffer_after}
-use Rattle.spec_pack.specs.Pack.{Pst, loaded, load_pack}
+use Rattle.spec_pack.specs.Pack.{PackRead, loaded, load_pack}
 use Rattle.spec_lookup.specs.Source.{Source, source_of_pack}
 use Rattle.spec_sheet.specs.Agree.{Bytes, Agree}
 use Rattle.spec_sheet.specs.Outcome.{sheet_outcome}
@@ -12,7 +12,7 @@ use Rattle.spec_sheet.specs.JudgeSheet.{judge_sheet_outcome}
 
 -- "a pack or sheet loads if its own bytes call for no refusal"
 pub record Loads (p : List ℕ) : Type 0 where
-  pub held : Pst
+  pub held : PackRead
   pub end : ℕ
   pub loads : load_pack p ≡ loaded held end
 

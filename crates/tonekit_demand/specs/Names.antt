@@ -56,7 +56,7 @@ NamesWinner src =
     → (won : Carried) × Carries src c slot won × Names won (judgement_of x settings t (listings src c) g issues)
 
 abbrev pub PacksName : Type 0
-PacksName = (p : List ℕ) (st : pack.Pst) (e : ℕ) → pack.load_pack p ≡ pack.loaded st e → NamesWinner (source_of_pack p st)
+PacksName = (p : List ℕ) (st : pack.PackRead) (e : ℕ) → pack.load_pack p ≡ pack.loaded st e → NamesWinner (source_of_pack p st)
 
 abbrev pub SheetsName : Type 0
 SheetsName = (p : List ℕ) (st : sheet.Sst) (e : ℕ) → sheet.load_sheet p ≡ sheet.loaded st e → NamesWinner (source_of_sheet p st)

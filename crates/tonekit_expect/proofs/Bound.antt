@@ -10,7 +10,7 @@ use lib.Ieee.Scale.{finite}
 use Rattle.tonekit_float.proofs.Order.{yes, no}
 use Rattle.spec_arithmetic.specs.Narrow.{narrowed}
 use Rattle.spec_arithmetic.specs.Position.{position}
-use Rattle.spec_lookup.specs.Knots.{segment, fraction, on_line, point_at, first_points, expanded, knots_at, point_least, point_most, Knot, Point, Knots}
+use Rattle.spec_lookup.specs.Knots.{segment, past_knot, on_line, point_at, first_points, expanded, knots_at, point_least, point_most, Knot, Point, Knots}
 use Rattle.spec_arithmetic.specs.Bounds.{In}
 use Rattle.tonekit_float.proofs.Monotone.{zero_f}
 use Rattle.tonekit_float.proofs.Bounds.{finite4, about0, in_wider, in_cut, in_add, in_sub, in_scale, in_narrow}
@@ -67,18 +67,18 @@ all_at p zero i t h = absurd (lt_irrefl 0 (omega arith))
 all_at p (suc n) i t h = ⊎_elim (λ e. subst (λ (k : ℕ). T (p k)) (sym e) (and_l (p n) (all p n) t)) (λ k. all_at p n i (and_r (p n) (all p n) t) k) (eq-or-lt_of_le (le_of_suc-le-suc h))
 
 fair : ℕ → ℕ → Bool
-fair i k = le zero_f (fraction i (k + 1)) && le (fraction i (k + 1)) one_f
+fair i k = le zero_f (past_knot i (k + 1)) && le (past_knot i (k + 1)) one_f
 
 all_fair : T (all (λ i. all (fair i) 8) 9)
-unfolding fair fraction position segment add sub mul div neg of_int of_bits whole_part le lt eq round
+unfolding fair past_knot position segment add sub mul div neg of_int of_bits whole_part le lt eq round
 all_fair = tt
 
-fraction_in : (i last : ℕ) → i < 9 → 1 ≤ last → last ≤ 8 → In zero_f one_f (fraction i last)
+fraction_in : (i last : ℕ) → i < 9 → 1 ≤ last → last ≤ 8 → In zero_f one_f (past_knot i last)
 unfolding fair
 fraction_in i last h l k =
     let e : last - 1 + 1 ≡ last = omega arith in
-    let t = subst (λ (n : ℕ). T (le zero_f (fraction i n) && le (fraction i n) one_f)) e (all_at (fair i) 8 (last - 1) (all_at (λ i. all (fair i) 8) 9 i all_fair h) (omega arith)) in
-    record { low = and_l (le zero_f (fraction i last)) (le (fraction i last) one_f) t; high = and_r (le zero_f (fraction i last)) (le (fraction i last) one_f) t }
+    let t = subst (λ (n : ℕ). T (le zero_f (past_knot i n) && le (past_knot i n) one_f)) e (all_at (fair i) 8 (last - 1) (all_at (λ i. all (fair i) 8) 9 i all_fair h) (omega arith)) in
+    record { low = and_l (le zero_f (past_knot i last)) (le (past_knot i last) one_f) t; high = and_r (le zero_f (past_knot i last)) (le (past_knot i last) one_f) t }
 
 pub segment_lt : (i last : ℕ) → 1 ≤ last → segment i last + 1 ≤ last
 unfolding segment
@@ -112,7 +112,7 @@ bounded knots K i h =
     let nine = eqb_false i 9 m in
     let s : 1 ≤ n - 1 = not_zero (n - 1) one in
     let j-lt = segment_lt i (n - 1) s in
-    line (get_or knots j nan) (get_or knots (j + 1) nan) (fraction i (n - 1)) (all (j + 1) (omega arith))
+    line (get_or knots j nan) (get_or knots (j + 1) nan) (past_knot i (n - 1)) (all (j + 1) (omega arith))
     (fraction_in i (n - 1) (below i 9 (omega arith) nine) s (at_most_lem n 10 hi ten)) (all j (omega arith)))))
   where
     not_zero : (a : ℕ) → (a ≡ 0 → ⊥) → 1 ≤ a

@@ -14,7 +14,7 @@ use Rattle.spec_arithmetic.specs.Fields.{byte_at, f32_at}
 use Rattle.spec_arithmetic.specs.Places.{index_of, number_at}
 use Rattle.spec_pack.specs.Ranges.{knot_fine, slot_fine, knots_fine}
 use Rattle.tonekit_pack.proofs.SlotTurn.{slot_turn}
-use Rattle.spec_pack.specs.Pack.{Pst, loaded, read_pack, parts_from}
+use Rattle.spec_pack.specs.Pack.{PackRead, loaded, read_pack, parts_from}
 use Rattle.std.specs.Prelude.{Some, None}
 use Rattle.spec_lookup.specs.declared.Context.{Context}
 use Rattle.spec_lookup.specs.declared.Listing.{Listing}
@@ -66,7 +66,7 @@ slots_knots s o n some few fine =
     }
 
 -- ---- what a lookup lists
-module _ (s : List ℕ) (st : Pst) (e : ℕ) (l : Loads s st e) (c : Context) where
+module _ (s : List ℕ) (st : PackRead) (e : ℕ) (l : Loads s st e) (c : Context) where
   -- one of the pack's rules
   abbrev Own : ℕ → Type 0
   Own r = RuleFine s st.tones r
@@ -117,7 +117,7 @@ module _ (s : List ℕ) (st : Pst) (e : ℕ) (l : Loads s st e) (c : Context) wh
   of_places m j (Some i) None a b q h = let n : ◌≡◌ {A = ℕ} 0 1 = cc in absurd (omega arith)
 
 -- `component_at` takes every component of a lookup in a pack that loads
-pub listed_fine : (s : List ℕ) (st : Pst) (e : ℕ) → read_pack s ≡ loaded st e → (c : Context) (l : Listing) (j : ℕ) → look_up s st c ≡ Some l → j < l.count → Listed s l j
+pub listed_fine : (s : List ℕ) (st : PackRead) (e : ℕ) → read_pack s ≡ loaded st e → (c : Context) (l : Listing) (j : ℕ) → look_up s st c ≡ Some l → j < l.count → Listed s l j
 unfolding look_up
 listed_fine s st e p c l j q h = of_places s st e (loads s st e p) c l j (index_of s st.accents c.accent) (index_of s st.tones c.tone) refl refl q h
 
@@ -128,6 +128,6 @@ listed_points s l j L k h =
     let b = points_bounded (knots_of s l j) L.curve k h in
     split (eqb l.name.form 1) (λ t. rw t (rw t at b)) (λ t. rw t (rw t at b))
 
-pub points_fine_lem : (s : List ℕ) (st : Pst) (e : ℕ) → read_pack s ≡ loaded st e → (c : Context) (l : Listing) (j : ℕ) → look_up s st c ≡ Some l → j < l.count
+pub points_fine_lem : (s : List ℕ) (st : PackRead) (e : ℕ) → read_pack s ≡ loaded st e → (c : Context) (l : Listing) (j : ℕ) → look_up s st c ≡ Some l → j < l.count
     → (k : ℕ) → k < 10 → Point (get_or (component_of s l j).points k nan)
 points_fine_lem s st e p c l j q h = listed_points s l j (listed_fine s st e p c l j q h)

@@ -7,7 +7,7 @@ use borrow.Author.Tests.{eqb-false}
 use Rattle.tonekit_core.specs.Loop.{range_to, to_again, to_stop, loop_to, loop_again, loop_stop}
 use Rattle.spec_arithmetic.specs.Fields.{byte_at}
 use Rattle.spec_arithmetic.specs.Places.{index_turn, index_of, number_at}
-use Rattle.spec_pack.specs.Pack.{Pst, loaded, read_pack}
+use Rattle.spec_pack.specs.Pack.{PackRead, loaded, read_pack}
 use Rattle.std.specs.Prelude.{Some, None}
 use Rattle.spec_lookup.specs.declared.Context.{Context}
 use Rattle.spec_lookup.specs.Lookup.{best_rule, parent_of, climb_turn, find_rule}
@@ -17,7 +17,7 @@ use Rattle.tonekit_pack.proofs.Loads.{loads, parent_before}
 use Rattle.tonekit_expect.proofs.Walk.{index_found, climb_hit, climb_top, climb_on}
 
 -- ---- a limit past the chain's end changes nothing
-module _ (s : List ℕ) (st : Pst) (c : Context) where
+module _ (s : List ℕ) (st : PackRead) (c : Context) where
   abbrev walk : ℕ → ℕ → Option Winner
   walk n i = loop_to (climb_turn s st c) None n i
 
@@ -52,7 +52,7 @@ module _ (s os : List ℕ) (n : ℕ) where
   none h None e = e
   none h (Some i) e = let x = index_found s os n i e in absurd (h i x.inside x.number)
 
-module _ (s : List ℕ) (st : Pst) (E : Earlier s st.accents) where
+module _ (s : List ℕ) (st : PackRead) (E : Earlier s st.accents) where
   within : (k i : ℕ) → i < k → i < length st.accents → Ends s st k i
   within zero i h l = absurd (omega arith)
   within (suc k) i h l =
@@ -66,11 +66,11 @@ module _ (s : List ℕ) (st : Pst) (E : Earlier s st.accents) where
   earlier_ends i h = within (length st.accents) i h h
 
 -- ---- a chain that ends has no more accents than there are: its accents differ, as each has its own distance from the end
-pub data Exact (s : List ℕ) (st : Pst) : ℕ → ℕ → Type 0 where
+pub data Exact (s : List ℕ) (st : PackRead) : ℕ → ℕ → Type 0 where
   last : {i : ℕ} → parent_of s st i ≡ None → Exact s st 1 i
   more : {n i j : ℕ} → parent_of s st i ≡ Some j → Exact s st n j → Exact s st (suc n) i
 
-module _ (s : List ℕ) (st : Pst) where
+module _ (s : List ℕ) (st : PackRead) where
   exactly : {n i : ℕ} → Ends s st n i → (k : ℕ) × (k ≤ n) × Exact s st k i
   exactly (top p) = (1, omega arith, last p)
   exactly (up p x) = let y = exactly x in (suc y.0, omega (arith, y.1), more p y.2)
@@ -141,7 +141,7 @@ pigeon (suc n) (suc m) f low inj = let r = pigeon n m g g_low g_inj in omega ari
         (λ u. inj i j (omega arith) (omega arith) (rw (t, u) at e)))
 
 -- ---- together
-module _ (s : List ℕ) (st : Pst) where
+module _ (s : List ℕ) (st : PackRead) where
   pub ends_within : {n i : ℕ} → i < length st.accents → Ends s st n i → Ends s st (length st.accents) i
   ends_within {i = i} h x =
       let y = exactly s st x in
@@ -157,12 +157,12 @@ module _ (s : List ℕ) (st : Pst) where
   limit_idle c {i = i} m h x l = same s st c (ends_within h x) m l (best_rule s st c i) refl
 
 -- ---- a pack that loads
-pub loads_earlier : (s : List ℕ) (st : Pst) (e : ℕ) → read_pack s ≡ loaded st e → Earlier s st.accents
+pub loads_earlier : (s : List ℕ) (st : PackRead) (e : ℕ) → read_pack s ≡ loaded st e → Earlier s st.accents
 loads_earlier s st e p =
     let l = loads s st e p in
     record { named = λ i h z. omega (arith, (l.kept.accents i h).number, z); parent = parent_before s st e l }
 
 -- in a pack that loads a walk with any greater limit ends as `find_rule` does
-pub loads_idle : (s : List ℕ) (st : Pst) (e : ℕ) → read_pack s ≡ loaded st e → (c : Context) (m i : ℕ) → i < length st.accents → length st.accents ≤ m
+pub loads_idle : (s : List ℕ) (st : PackRead) (e : ℕ) → read_pack s ≡ loaded st e → (c : Context) (m i : ℕ) → i < length st.accents → length st.accents ≤ m
     → loop_to (climb_turn s st c) None m i ≡ find_rule s st c i
 loads_idle s st e p c m i h l = limit_idle s st c m h (earlier_ends s st (loads_earlier s st e p) i h) l

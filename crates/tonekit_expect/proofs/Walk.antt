@@ -3,7 +3,7 @@ use Rattle.std.specs.Prelude.{Option}
 use Rattle.std.proofs.Common.{ℕ, zero, suc, ◌+◌, ◌-◌, ◌≤◌, ◌<◌, ◌≡◌, refl, sym, ◌∙◌, ap, subst, ◌&&◌, List, arith, eqb, length, get_or, eqb-true}
 use Rattle.tonekit_core.specs.Loop.{Turn, next, stop, turns, range, turns_to, range_to, loop_on, loop_to}
 use Rattle.spec_arithmetic.specs.Places.{index_turn, index_of, number_at}
-use Rattle.spec_pack.specs.Pack.{Pst}
+use Rattle.spec_pack.specs.Pack.{PackRead}
 use Rattle.tonekit_core.proofs.Split.{split}
 use Rattle.std.specs.Prelude.{Some, None}
 use Rattle.spec_lookup.specs.declared.Winner.{Winner}
@@ -37,7 +37,7 @@ module _ (s os : List ℕ) (n : ℕ) where
   index_found i e = from (length os - 0) 0 i (next 0) (omega arith) (λ r q. let z : ◌≡◌ {A = ℕ} 0 1 = cc in absurd (omega arith)) e
 
 -- ---- a step
-module _ (s : List ℕ) (st : Pst) (c : Context) (i : ℕ) where
+module _ (s : List ℕ) (st : PackRead) (c : Context) (i : ℕ) where
   pub climb_hit : (r : ℕ) → best_rule s st c i ≡ Some r → climb_turn s st c i ≡ stop (Some (won i r))
   unfolding climb_turn
   climb_hit r e = ap (or_parent s st i) e
@@ -57,7 +57,7 @@ loop_out f d zero s z r h = r
 loop_out f d (suc n) s z r h = absurd (omega arith)
 
 -- ---- what a walk ends with: a rule of one of the accents, of which P holds if it holds of every accent's own rules
-module _ (s : List ℕ) (st : Pst) (c : Context) (P : ℕ → ℕ → Type 0) (each : (i k : ℕ) → from_rule st i ≤ k → k < to_rule st i → P i (get_or st.rules k 0)) where
+module _ (s : List ℕ) (st : PackRead) (c : Context) (P : ℕ → ℕ → Type 0) (each : (i k : ℕ) → from_rule st i ≤ k → k < to_rule st i → P i (get_or st.rules k 0)) where
   Best : ℕ → Option ℕ → Type 0
   Best i f = (r : ℕ) → f ≡ Some r → P i r
 
@@ -123,10 +123,10 @@ module _ (s : List ℕ) (st : Pst) (c : Context) (P : ℕ → ℕ → Type 0) (e
   winner_of i a r h e = found_is (length st.accents) i a r h e
 
 -- the same of what holds of every rule, whichever accent's
-pub winner_is : (s : List ℕ) (st : Pst) (c : Context) (P : ℕ → Type 0) → ((i k : ℕ) → k < to_rule st i → P (get_or st.rules k 0)) → (i a r : ℕ) → i < length st.accents → find_rule s st c i ≡ Some (won a r) → (a < length st.accents) × P r
+pub winner_is : (s : List ℕ) (st : PackRead) (c : Context) (P : ℕ → Type 0) → ((i k : ℕ) → k < to_rule st i → P (get_or st.rules k 0)) → (i a r : ℕ) → i < length st.accents → find_rule s st c i ≡ Some (won a r) → (a < length st.accents) × P r
 winner_is s st c P each = winner_of s st c (λ a. P) (λ i k l. each i k)
 
 -- what a lookup gives whose accent and tone are held: the listing of the tone's record and of the rule that was found
-pub look_found : (s : List ℕ) (st : Pst) (c : Context) (i t o : ℕ) (w : Option Winner) → index_of s st.accents c.accent ≡ Some i → index_of s st.tones c.tone ≡ Some t → o ≡ get_or st.tones t 0 → w ≡ find_rule s st c i → listed s st c o w ≡ look_up s st c
+pub look_found : (s : List ℕ) (st : PackRead) (c : Context) (i t o : ℕ) (w : Option Winner) → index_of s st.accents c.accent ≡ Some i → index_of s st.tones c.tone ≡ Some t → o ≡ get_or st.tones t 0 → w ≡ find_rule s st c i → listed s st c o w ≡ look_up s st c
 unfolding look_up
 look_found s st c i t o w a b p q = ap (λ n. listed s st c n w) p ∙ ap (listed s st c (get_or st.tones t 0)) q ∙ sym (ap (λ f. look_at s st c f (index_of s st.tones c.tone)) a ∙ ap (look_at s st c (Some i)) b)

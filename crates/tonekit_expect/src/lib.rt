@@ -10,7 +10,7 @@ ghost use Rattle.spec_arithmetic.specs.Places.{index_of};
 ghost use Rattle.tonekit_pack.specs.Held.{shown};
 ghost use Rattle.spec_lookup.specs.Knots.{on_line, point_at, expanded, knots_at, Point, Knots};
 ghost use Rattle.spec_pack.specs.Pack.{parts_from};
-ghost use Rattle.spec_lookup.specs.Lookup.{final_of, meets, matches, one_if, specificity, better_of, best_rule, parent_of, find_rule, rule_listing, citation, listed, look_up, component_of};
+ghost use Rattle.spec_lookup.specs.Lookup.{final_of, meets, matches, stated, specificity, better_of, best_rule, parent_of, find_rule, rule_listing, citation, listed, look_up, component_of};
 ghost use Rattle.tonekit_expect.specs.Pieces.{best_turn, Placed, Listed, knot_before};
 
 pub use spec_lookup::{Component, Context, Listing, Winner};
@@ -63,8 +63,8 @@ fn matches(s: &[u8], c: Context, r: usize) -> bool
 }
 
 // 1 for a condition that is stated.
-fn one_if(c: u8) -> usize
-    ensures { (result ≡ one_if c) × (result ≤ 1) }
+fn stated(c: u8) -> usize
+    ensures { (result ≡ stated c) × (result ≤ 1) }
 {
     usize::from(c != 0)
 }
@@ -74,9 +74,9 @@ fn one_if(c: u8) -> usize
 fn specificity(s: &[u8], r: usize) -> usize
     ensures { result ≡ specificity s.now r }
 {
-    one_if(byte_at(s, r, layout::RULE_TONE))
-        + one_if(byte_at(s, r, layout::RULE_PREV))
-        + one_if(byte_at(s, r, layout::RULE_FINAL))
+    stated(byte_at(s, r, layout::RULE_TONE))
+        + stated(byte_at(s, r, layout::RULE_PREV))
+        + stated(byte_at(s, r, layout::RULE_FINAL))
 }
 
 // The rule at r where it matches and states more than the best so far, else that one.

@@ -4,9 +4,9 @@ use Rattle.std.proofs.Common.{ℕ, ◌≤◌, ◌<◌, ◌≡◌, refl, ◌∙�
 use mathlib.Core.Option.{some}
 use Rattle.std.specs.Prelude.{Some, None}
 use lib.ListN.{length-map}
-use Rattle.spec_pack.specs.Pack.{Pst, loaded, read_pack}
+use Rattle.spec_pack.specs.Pack.{PackRead, loaded, read_pack}
 use Rattle.spec_lookup.specs.Lookup.{look_up, component_of}
-use Rattle.spec_lookup.specs.Source.{Carried, carried, components, given, source_of_pack}
+use Rattle.spec_lookup.specs.Source.{Carried, carried, components, carried_of, source_of_pack}
 use Rattle.spec_lookup.specs.declared.Context.{Context}
 use Rattle.spec_lookup.specs.declared.Listing.{Listing}
 use Rattle.tonekit_expect.proofs.Carried.{named, part_number, components_length, components_at}
@@ -55,8 +55,8 @@ module _ (s : List ℕ) (l : Listing) (d : Carried) (f : Few l) where
   }
 
 -- what a lookup in a pack that loads gives
-module _ (s : List ℕ) (st : Pst) (e : ℕ) (p : read_pack s ≡ loaded st e) (d : Carried) where
-  of_look : (c : Context) (k : Option Listing) → look_up s st c ≡ k → (cs : List Carried) → given s k ≡ some cs → Alike d cs
+module _ (s : List ℕ) (st : PackRead) (e : ℕ) (p : read_pack s ≡ loaded st e) (d : Carried) where
+  of_look : (c : Context) (k : Option Listing) → look_up s st c ≡ k → (cs : List Carried) → carried_of s k ≡ some cs → Alike d cs
   of_look c (Some l) q cs g =
       let is : components s l l.count ≡ cs = cc in
       rw (← is) (listing_alike s l d (look_few s st e p c l q))

@@ -1,7 +1,7 @@
 -- What a lookup in a pack that loads lists: one to four components that can be read. Assumes nothing.
 use Rattle.std.proofs.Common.{ℕ, ◌+◌, ◌≤◌, ◌<◌, ◌≡◌, refl, sym, ap, ◌∙◌, subst, List, arith, eqb, ltb, length, get_or, ltb-true}
 use Rattle.spec_arithmetic.specs.Fields.{byte_at}
-use Rattle.spec_pack.specs.Pack.{Pst, Out, loaded, refused, read_pack, parts_from}
+use Rattle.spec_pack.specs.Pack.{PackRead, Out, loaded, refused, read_pack, parts_from}
 use Rattle.spec_arithmetic.specs.Places.{number_at, index_of}
 use Rattle.tonekit_pack.specs.declared.Pack.{Pack}
 use Rattle.tonekit_pack.specs.Held.{shown, ReadFrom}
@@ -20,7 +20,7 @@ pub record Few (l : Listing) : Type 0 where
   pub some : 1 ≤ l.count
   pub few : l.count ≤ 4
 
-module _ (s : List ℕ) (st : Pst) (e : ℕ) (l : Loads s st e) (c : Context) where
+module _ (s : List ℕ) (st : PackRead) (e : ℕ) (l : Loads s st e) (c : Context) where
   -- a rule with a part
   abbrev Parted : ℕ → Type 0
   Parted r = 1 ≤ parts_from 4 s (r + 7)
@@ -50,13 +50,13 @@ module _ (s : List ℕ) (st : Pst) (e : ℕ) (l : Loads s st e) (c : Context) wh
   of_places m None g a q = let n : ◌≡◌ {A = ℕ} 0 1 = cc in absurd (omega arith)
   of_places m (Some i) None a q = let n : ◌≡◌ {A = ℕ} 0 1 = cc in absurd (omega arith)
 
-pub look_few : (s : List ℕ) (st : Pst) (e : ℕ) → read_pack s ≡ loaded st e → (c : Context) (l : Listing) → look_up s st c ≡ Some l → Few l
+pub look_few : (s : List ℕ) (st : PackRead) (e : ℕ) → read_pack s ≡ loaded st e → (c : Context) (l : Listing) → look_up s st c ≡ Some l → Few l
 unfolding look_up
 look_few s st e p c l q = of_places s st e (loads s st e p) c l (index_of s st.accents c.accent) (index_of s st.tones c.tone) refl q
 
 -- a pack that is held was read from its bytes
 read_from : (s : List ℕ) (p : Pack) (o : Out) → read_pack s ≡ o → pack_in o ≡ Some (shown p) → ReadFrom s p
-read_from s p (loaded st e) q h = let is : st ≡ shown p = cc in record { end = e; reads = q ∙ ap (λ (x : Pst). loaded x e) is }
+read_from s p (loaded st e) q h = let is : st ≡ shown p = cc in record { end = e; reads = q ∙ ap (λ (x : PackRead). loaded x e) is }
 read_from s p (refused r place) q h = let n : ◌≡◌ {A = ℕ} 0 1 = cc in absurd (omega arith)
 
 pub looked : (s : List ℕ) (p : Pack) → pack_in (read_pack s) ≡ Some (shown p) → (c : Context) (k : Option Listing) → k ≡ look_up s (shown p) c → Looked s k

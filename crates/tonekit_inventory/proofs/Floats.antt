@@ -7,7 +7,7 @@ use Rattle.tonekit_float.proofs.Narrowing.{narrow_fits}
 use Rattle.spec_arithmetic.specs.Fields.{byte_at, u32_at, f32_at}
 use Rattle.spec_arithmetic.specs.Constants.{one32}
 use Rattle.tonekit_core.proofs.Split.{split}
-use Rattle.spec_lookup.specs.Knots.{segment, fraction, on_line, point_at, first_points, expanded, knots_at}
+use Rattle.spec_lookup.specs.Knots.{segment, past_knot, on_line, point_at, first_points, expanded, knots_at}
 use Rattle.spec_lookup.specs.Lookup.{component_of}
 use Rattle.spec_lookup.specs.Source.{carried}
 use Rattle.spec_lookup.specs.declared.Listing.{Listing}
@@ -49,7 +49,7 @@ point_fits knots i f =
     let j = segment i last in
     cond-fits binary32 (eqb last 0) _ _ (fit_at knots f 0)
     (cond-fits binary32 (eqb (length knots) 10) _ _ (fit_at knots f i)
-    (cond-fits binary32 (eqb i 9) _ _ (fit_at knots f last) (line_fits (get_or knots j nan) (get_or knots (j + 1) nan) (fraction i last))))
+    (cond-fits binary32 (eqb i 9) _ _ (fit_at knots f last) (line_fits (get_or knots j nan) (get_or knots (j + 1) nan) (past_knot i last))))
 
 first_fit : (knots : List Float) (n : ℕ) → Fit knots → Fit (first_points knots n)
 unfolding first_points

@@ -1,7 +1,7 @@
 -- A pack, as what a station holds: the source that it stands for, and what a lookup in it lists.
 use Rattle.std.specs.Prelude.{ℕ, ◌≤◌, ◌<◌, ◌≡◌, List, Option, Some, None, Result, Ok, Err}
 use Rattle.tonekit_core.specs.declared.Rejection.{Rejection}
-use Rattle.spec_pack.specs.Pack.{Pst, Out, loaded, refused, load_pack}
+use Rattle.spec_pack.specs.Pack.{PackRead, Out, loaded, refused, load_pack}
 use Rattle.tonekit_pack.specs.Held.{shown}
 use Rattle.tonekit_pack.specs.declared.Pack.{Pack}
 use Rattle.spec_lookup.specs.Lookup as lookup
@@ -21,7 +21,7 @@ abbrev pub load_source : List ℕ → Result Source Rejection
 load_source s = source_or s (load_pack s)
 
 -- the pack that was read, if one was
-abbrev pub pack_in : Out → Option Pst
+abbrev pub pack_in : Out → Option PackRead
 pack_in (loaded st end) = Some st
 pack_in (refused r place) = None
 

@@ -11,7 +11,7 @@ use Rattle.tonekit_bytes.proofs.Agreeing.{Agree, taken_agrees, four, float}
 use Rattle.spec_pack.specs.Ranges.{slot_fine, knots_fine, region_fine, tolerances_fine}
 use Rattle.tonekit_pack.proofs.SlotTurn.{slot_turn}
 use Rattle.spec_arithmetic.specs.Places.{number_at}
-use Rattle.spec_pack.specs.Pack.{Pst, Out, loaded, refused, size_of, holds, zero_or_held, last_rule, settings_verdict, tone_verdict, accent_verdict, rule_verdict, part_verdict, body_verdict, due_after, record_verdict, added, start, read_pack, singly, load_pack}
+use Rattle.spec_pack.specs.Pack.{PackRead, Out, loaded, refused, size_of, holds, zero_or_held, last_rule, settings_verdict, tone_verdict, accent_verdict, rule_verdict, part_verdict, body_verdict, due_after, record_verdict, added, start, read_pack, singly, load_pack}
 use Rattle.tonekit_core.proofs.Split.{split}
 use Rattle.tonekit_pack.proofs.Each.{each_snoc}
 use Rattle.tonekit_pack.proofs.Records.{Due, due_is, settings, tone, accent, rule, part, finish, sound, tone_room, accent_room, rule_room, part_room}
@@ -48,7 +48,7 @@ module _ (n : ℕ) (t s : List ℕ) (a : Agree n t s) where
   zero_or_same os x h = rw (holds_same os x h)
 
 -- a place, with what stood before it, that a pack can have
-record Low (at : ℕ) (st : Pst) : Type 0 where
+record Low (at : ℕ) (st : PackRead) : Type 0 where
   near : Near at st
   few_tones : length st.tones ≤ 8
   few_accents : length st.accents ≤ 8
@@ -64,7 +64,7 @@ Before at os o = o + 7 ≤ at
 passed_on : (at m : ℕ) (os : List ℕ) → at ≤ m → ((i : ℕ) → i < length os → get_or os i 0 + 7 ≤ at) → (i : ℕ) → i < length os → get_or os i 0 + 7 ≤ m
 passed_on at m os h l i b = omega (arith, l i b)
 
-low_next : (s : List ℕ) (at : ℕ) (st : Pst) {k : ℕ} → Due st.last k → (k ≡ 6 → ⊥) → body_verdict k s at st ≡ Ok tt → Low at st → Low (at + size_of k) (added k at st)
+low_next : (s : List ℕ) (at : ℕ) (st : PackRead) {k : ℕ} → Due st.last k → (k ≡ 6 → ⊥) → body_verdict k s at st ≡ Ok tt → Low at st → Low (at + size_of k) (added k at st)
 unfolding added size_of
 low_next s at st (settings e) n b p =
     record { near = near_next at st (settings e) n p.near; few_tones = p.few_tones; few_accents = p.few_accents; few_rules = p.few_rules; few_in_all = p.few_in_all; tones = passed_on at (at + 9) st.tones (omega arith) p.tones; accents = passed_on at (at + 9) st.accents (omega arith) p.accents; rules = passed_on at (at + 9) st.rules (omega arith) p.rules }
@@ -78,7 +78,7 @@ low_next s at st (part l u) n b p =
     record { near = near_next at st (part l u) n p.near; few_tones = p.few_tones; few_accents = p.few_accents; few_rules = p.few_rules; few_in_all = omega (arith, (part_room s at st b).in_all); tones = passed_on at (at + 46) st.tones (omega arith) p.tones; accents = passed_on at (at + 46) st.accents (omega arith) p.accents; rules = passed_on at (at + 46) st.rules (omega arith) p.rules }
 low_next s at st (finish l u) n b p = absurd (n refl)
 
-module _ (n : ℕ) (t s : List ℕ) (a : Agree n t s) (at : ℕ) (st : Pst) (p : Low at st) (room : 6991 ≤ n) where
+module _ (n : ℕ) (t s : List ℕ) (a : Agree n t s) (at : ℕ) (st : PackRead) (p : Low at st) (room : 6991 ≤ n) where
   seen : (os : List ℕ) → ((i : ℕ) → i < length os → get_or os i 0 + 7 ≤ at) → (i : ℕ) → i < length os → get_or os i 0 + 7 ≤ n
   seen os h i l = omega (arith, h i l)
 
@@ -121,11 +121,11 @@ module _ (n : ℕ) (t s : List ℕ) (a : Agree n t s) (at : ℕ) (st : Pst) (p :
       rw (a.ends at (omega arith), a.bytes at (omega arith), a.cuts (at + size_of (byte_at s at)) (room_for q), body_same q))
       (λ d. rw (a.ends at (omega arith), a.bytes at (omega arith), d))
 
-no_turn : (s : List ℕ) (d : Out) (at : ℕ) (st : Pst) → run s d 0 at st ≡ d
+no_turn : (s : List ℕ) (d : Out) (at : ℕ) (st : PackRead) → run s d 0 at st ≡ d
 unfolding loop_to loop_on
 no_turn s d at st = refl
 
-run_same : (f n : ℕ) (t s : List ℕ) (a : Agree n t s) (d : Out) (at : ℕ) (st : Pst) → Low at st → 6991 ≤ n → run t d f at st ≡ run s d f at st
+run_same : (f n : ℕ) (t s : List ℕ) (a : Agree n t s) (d : Out) (at : ℕ) (st : PackRead) → Low at st → 6991 ≤ n → run t d f at st ≡ run s d f at st
 run_same zero n t s a d at st p l = no_turn t d at st ∙ sym (no_turn s d at st)
 run_same (suc f) n t s a d at st p l =
     let same = verdict_same n t s a at st p l in
@@ -158,7 +158,7 @@ read_agrees n t s a l =
     let m = length t + length s + 1 in
     sym (limit_idle t d m (omega arith)) ∙ run_same m n t s a d 0 start.st low_start l ∙ limit_idle s d m (omega arith)
 
-single_agrees : (n : ℕ) (t s : List ℕ) (a : Agree n t s) (o : Out) → ((st : Pst) (e : ℕ) → o ≡ loaded st e → e < n) → singly t o ≡ singly s o
+single_agrees : (n : ℕ) (t s : List ℕ) (a : Agree n t s) (o : Out) → ((st : PackRead) (e : ℕ) → o ≡ loaded st e → e < n) → singly t o ≡ singly s o
 single_agrees n t s a (loaded st e) h = rw (a.goes e (h st e refl))
 single_agrees n t s a (refused r place) h = refl
 

@@ -5,9 +5,9 @@ use borrow.Author.Tests.{eqb-false, not-true}
 use Rattle.tonekit_core.specs.declared.Refusal.TheVariants.{CutShort}
 use Rattle.std.specs.Prelude.{Ok}
 use Rattle.spec_arithmetic.specs.Fields.{byte_at, u32_at, f32_at}
-use Rattle.spec_pack.specs.Ranges.{above_zero, a_share, weight_fine, knots_fine, region_fine, tolerances_fine}
+use Rattle.spec_pack.specs.Ranges.{above_zero, probability_fine, weight_fine, knots_fine, region_fine, tolerances_fine}
 use Rattle.spec_arithmetic.specs.Places.{number_at}
-use Rattle.spec_pack.specs.Pack.{Pst, Out, loaded, refused, size_of, holds, zero_or_held, single, settings_verdict, body_verdict, added, start, parts_from, read_pack}
+use Rattle.spec_pack.specs.Pack.{PackRead, Out, loaded, refused, size_of, holds, zero_or_held, single, settings_verdict, body_verdict, added, start, parts_from, read_pack}
 use Rattle.tonekit_core.proofs.Split.{split, either, neither, both}
 use Rattle.tonekit_pack.proofs.Numbers.{zero_or_before, none_before}
 use Rattle.tonekit_pack.proofs.Each.{Each, each_snoc}
@@ -24,7 +24,7 @@ pub record ToneFine (s before : List ℕ) (o : ℕ) : Type 0 where
   pub whole : o + 56 ≤ length s
   pub number : 1 ≤ number_at s o
   pub once : holds s before (number_at s o) ≡ false
-  pub prior : a_share (f32_at s (o + 2)) ≡ true
+  pub prior : probability_fine (f32_at s (o + 2)) ≡ true
   pub few : byte_at s (o + 6) ≤ 10
   pub knots : knots_fine s (o + 7) (byte_at s (o + 6)) ≡ true
   pub region : region_fine s (o + 47) ≡ true
@@ -64,12 +64,12 @@ pub record RuleFine (s tones : List ℕ) (o : ℕ) : Type 0 where
 not_zero : (n : ℕ) → not (eqb n 0) ≡ true → 1 ≤ n
 not_zero n h = omega (arith, eqb-false n 0 (not-true (eqb n 0) h))
 
-module _ (s : List ℕ) (at : ℕ) (st : Pst) where
+module _ (s : List ℕ) (at : ℕ) (st : PackRead) where
   tone_is : byte_at s at ≡ 2 → at + 56 ≤ length s → body_verdict 2 s at st ≡ Ok tt → ToneFine s st.tones at
   tone_is k w b =
       let p = tone_passed s at st b in
       let f = both (not (eqb (number_at s at) 0)) _ p.ranges in
-      let g = both (a_share (f32_at s (at + 2))) _ f.1 in
+      let g = both (probability_fine (f32_at s (at + 2))) _ f.1 in
       let h = both (knots_fine s (at + 7) (byte_at s (at + 6))) (region_fine s (at + 47)) g.1 in
       record {
         kind = k;
@@ -118,7 +118,7 @@ module _ (s : List ℕ) (at : ℕ) (st : Pst) where
 -- ---- the parts behind a rule
 
 -- the rest of the reading, from a place on
-abbrev reads : List ℕ → ℕ → ℕ → Pst → Out
+abbrev reads : List ℕ → ℕ → ℕ → PackRead → Out
 reads s f at st = run s (refused CutShort (length s)) f at st
 
 -- n parts from o on, after p of the same rule
@@ -164,19 +164,19 @@ unfolding size_of
 part_whole s at k e h = rw e at h
 
 -- a part that passes: the reading goes on behind it, with one part more of the same rule
-record Onward (s : List ℕ) (f at : ℕ) (st fin : Pst) (e : ℕ) : Type 0 where
-  next : Pst
+record Onward (s : List ℕ) (f at : ℕ) (st fin : PackRead) (e : ℕ) : Type 0 where
+  next : PackRead
   goes : reads s f (at + 46) next ≡ loaded fin e
   same : single s next ≡ single s st
   last : next.last ≡ 5
   parts : next.parts ≡ st.parts + 1
 
-onward : (s : List ℕ) (f at : ℕ) (st fin : Pst) (e k : ℕ) → k ≡ 5 → reads s f (at + size_of k) (added k at st) ≡ loaded fin e → Onward s f at st fin e
+onward : (s : List ℕ) (f at : ℕ) (st fin : PackRead) (e k : ℕ) → k ≡ 5 → reads s f (at + size_of k) (added k at st) ≡ loaded fin e → Onward s f at st fin e
 unfolding added size_of
 onward s f at st fin e k q h = record { next = added 5 at st; goes = rw q at h; same = refl; last = refl; parts = refl }
 
 -- the parts that stand from here on are fine, since the reading goes on past them
-parts_fine : (n f : ℕ) (one : Bool) (s : List ℕ) (at : ℕ) (st fin : Pst) (e : ℕ)
+parts_fine : (n f : ℕ) (one : Bool) (s : List ℕ) (at : ℕ) (st fin : PackRead) (e : ℕ)
     → single s st ≡ one → 4 ≤ st.last → st.last ≤ 5 → (st.last ≡ 5 → 1 ≤ st.parts) → (one ≡ true → st.parts ≤ 1) → n + st.parts ≡ 4
     → reads s f at st ≡ loaded fin e → PartsFine one s at (parts_from n s at) st.parts
 parts_fine n zero one s at st fin e i l u g h q r = no_turns s at st fin CutShort (length s) e r
@@ -215,13 +215,13 @@ last_snoc os o =
     let q : length (os ++ (o ∷ [])) - 1 ≡ length os = simp length-append (omega arith) in
     rw q (get_or-append_seam os o [] 0)
 
-behind : (f : ℕ) (s : List ℕ) (at : ℕ) (st fin : Pst) (e : ℕ) → reads s f (at + size_of 4) (added 4 at st) ≡ loaded fin e
+behind : (f : ℕ) (s : List ℕ) (at : ℕ) (st fin : PackRead) (e : ℕ) → reads s f (at + size_of 4) (added 4 at st) ≡ loaded fin e
     → PartsFine (eqb (byte_at s (at + 6)) 2) s (at + 7) (parts_from 4 s (at + 7)) 0
 unfolding added size_of
 behind f s at st fin e h =
     parts_fine 4 f (eqb (byte_at s (at + 6)) 2) s (at + 7) (added 4 at st) fin e (rw (last_snoc st.rules at)) (omega arith) (omega arith) (λ q. absurd (omega arith)) (λ q. omega arith) refl h
 
-rule_is : (f : ℕ) (s : List ℕ) (at : ℕ) (st fin : Pst) (e : ℕ) → byte_at s at ≡ 4 → at + 7 ≤ length s → body_verdict 4 s at st ≡ Ok tt
+rule_is : (f : ℕ) (s : List ℕ) (at : ℕ) (st fin : PackRead) (e : ℕ) → byte_at s at ≡ 4 → at + 7 ≤ length s → body_verdict 4 s at st ≡ Ok tt
     → reads s f (at + size_of 4) (added 4 at st) ≡ loaded fin e → RuleFine s st.tones at
 rule_is f s at st fin e k w b g =
     let p = rule_passed s at st b in
@@ -256,9 +256,9 @@ AtMost n before x = x ≤ n
 abbrev pub AnyRule : List ℕ → List ℕ → List ℕ → ℕ → Type 0
 AnyRule s tones before o = RuleFine s tones o
 
-pub record Kept (s : List ℕ) (at : ℕ) (st : Pst) : Type 0 where
+pub record Kept (s : List ℕ) (at : ℕ) (st : PackRead) : Type 0 where
   pub near : Near at st
-  pub begun : 1 ≤ st.last → (byte_at s 0 ≡ 1) × (above_zero (f32_at s 1) ≡ true) × (a_share (f32_at s 5) ≡ true) × (9 ≤ at)
+  pub begun : 1 ≤ st.last → (byte_at s 0 ≡ 1) × (above_zero (f32_at s 1) ≡ true) × (probability_fine (f32_at s 5) ≡ true) × (9 ≤ at)
   pub few_tones : length st.tones ≤ 8
   pub some_tone : 2 ≤ st.last → 1 ≤ length st.tones
   pub tones : Each (ToneFine s) st.tones
@@ -273,9 +273,9 @@ pub record Kept (s : List ℕ) (at : ℕ) (st : Pst) : Type 0 where
   pub bounded : Each (AtMost (length st.rules)) st.firsts
   pub few_in_all : st.total ≤ 128
 
-settings_is : (s : List ℕ) (at : ℕ) (st : Pst) → body_verdict 1 s at st ≡ Ok tt → (above_zero (f32_at s (at + 1)) ≡ true) × (a_share (f32_at s (at + 5)) ≡ true)
+settings_is : (s : List ℕ) (at : ℕ) (st : PackRead) → body_verdict 1 s at st ≡ Ok tt → (above_zero (f32_at s (at + 1)) ≡ true) × (probability_fine (f32_at s (at + 5)) ≡ true)
 unfolding body_verdict settings_verdict
-settings_is s at st b = both (above_zero (f32_at s (at + 1))) (a_share (f32_at s (at + 5))) (passed false (above_zero (f32_at s (at + 1)) && a_share (f32_at s (at + 5))) true true b).ranges
+settings_is s at st b = both (above_zero (f32_at s (at + 1))) (probability_fine (f32_at s (at + 5))) (passed false (above_zero (f32_at s (at + 1)) && probability_fine (f32_at s (at + 5))) true true b).ranges
 
 no_rules : (P : List ℕ → ℕ → Type 0) (os : List ℕ) → os ≡ [] → Each P os
 no_rules P os e i l = absurd (omega (arith, ap length e))
@@ -283,7 +283,7 @@ no_rules P os e i l = absurd (omega (arith, ap length e))
 each_more : (n m : ℕ) (xs : List ℕ) → n ≤ m → Each (AtMost n) xs → Each (AtMost m) xs
 each_more n m xs l h i b = omega (arith, h i b)
 
-module _ (f : ℕ) (s : List ℕ) (at : ℕ) (st fin : Pst) (e : ℕ) (p : Kept s at st) where
+module _ (f : ℕ) (s : List ℕ) (at : ℕ) (st fin : PackRead) (e : ℕ) (p : Kept s at st) where
   after_settings : Due st.last 1 → st.last ≡ 0 → byte_at s at ≡ 1 → body_verdict 1 s at st ≡ Ok tt → Kept s (at + size_of 1) (added 1 at st)
   unfolding added size_of
   after_settings d z k b =
@@ -405,7 +405,7 @@ module _ (f : ℕ) (s : List ℕ) (at : ℕ) (st fin : Pst) (e : ℕ) (p : Kept 
 -- ---- what a pack that loads has
 
 -- with the place of its End
-pub record Loads (s : List ℕ) (st : Pst) (e : ℕ) : Type 0 where
+pub record Loads (s : List ℕ) (st : PackRead) (e : ℕ) : Type 0 where
   pub place : ℕ
   pub closing : byte_at s place ≡ 6
   pub ends : place + 1 ≡ e
@@ -421,7 +421,7 @@ closes last q (rule l u) = absurd (omega arith)
 closes last q (part l u) = absurd (omega arith)
 closes last q (finish l u) = l
 
-keeps : (f : ℕ) (s : List ℕ) (at : ℕ) (st fin : Pst) (e : ℕ) → reads s f at st ≡ loaded fin e → Kept s at st → Loads s fin e
+keeps : (f : ℕ) (s : List ℕ) (at : ℕ) (st fin : PackRead) (e : ℕ) → reads s f at st ≡ loaded fin e → Kept s at st → Loads s fin e
 keeps zero s at st fin e h p = no_turns s at st fin CutShort (length s) e h
 keeps (suc f) s at st fin e h p =
     let a = accepted s (refused CutShort (length s)) f at st fin e h in
@@ -433,7 +433,7 @@ keeps (suc f) s at st fin e h p =
     keeps f s (at + size_of (byte_at s at)) (added (byte_at s at) at st) fin e (a.goes n)
     (keep f s at st fin e p a.passes.due refl a.passes.whole a.passes.body n (a.goes n)))
 
-pub loads : (s : List ℕ) (st : Pst) (e : ℕ) → read_pack s ≡ loaded st e → Loads s st e
+pub loads : (s : List ℕ) (st : PackRead) (e : ℕ) → read_pack s ≡ loaded st e → Loads s st e
 unfolding read_pack
 loads s st e h =
     keeps (length s + 1) s 0 start.st st e h
@@ -456,7 +456,7 @@ loads s st e h =
     })
 
 -- the same, by places: at least one tone and one accent, where it ends at the latest, no number twice, each parent at a lower place
-module _ (s : List ℕ) (st : Pst) (e : ℕ) (l : Loads s st e) where
+module _ (s : List ℕ) (st : PackRead) (e : ℕ) (l : Loads s st e) where
   pub some_tones : 1 ≤ length st.tones
   some_tones = l.kept.some_tone (omega arith)
 

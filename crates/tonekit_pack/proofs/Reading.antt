@@ -5,7 +5,7 @@ use Rattle.tonekit_core.specs.declared.Refusal.TheVariants.{CutShort}
 use Rattle.std.specs.Prelude.{Result, Ok, Err}
 use Rattle.spec_arithmetic.specs.Fields.{byte_at}
 use Rattle.tonekit_pack.specs.declared.Pack.{Pack}
-use Rattle.spec_pack.specs.Pack.{Pst, loaded, refused, size_of, added, record_verdict, record_turn, start, read_pack, load_pack, check_pack}
+use Rattle.spec_pack.specs.Pack.{PackRead, loaded, refused, size_of, added, record_verdict, record_turn, start, read_pack, load_pack, check_pack}
 use Rattle.tonekit_pack.specs.Held.{shown, answered}
 use Rattle.tonekit_core.proofs.Split.{split}
 use Rattle.tonekit_pack.specs.Going.{Near, Going}
@@ -15,7 +15,7 @@ use Rattle.tonekit_core.specs.declared.Rejection.{Rejection}
 use Rattle.tonekit_bytes.proofs.InOrder.{order_length}
 use Rattle.tonekit_pack.proofs.Records.{Due, settings, tone, accent, rule, part, finish, Sound, sound, size_pos, tone_room, accent_room, rule_room, part_room}
 
-pub near_next : (at : ℕ) (st : Pst) {k : ℕ} → Due st.last k → (k ≡ 6 → ⊥) → Near at st → Near (at + size_of k) (added k at st)
+pub near_next : (at : ℕ) (st : PackRead) {k : ℕ} → Due st.last k → (k ≡ 6 → ⊥) → Near at st → Near (at + size_of k) (added k at st)
 unfolding added size_of
 near_next at st (settings e) n p = record { first = λ q. absurd (omega arith); early = λ q. omega (arith, p.first e); near = omega (arith, p.first e) }
 near_next at st (tone l u) n p = record { first = λ q. absurd (omega arith); early = λ q. simp length-append (omega (arith, p.early u)); near = simp length-append (omega arith) }

@@ -5,7 +5,7 @@ use Rattle.tonekit_core.specs.declared.Refusal.TheVariants.{Misplaced, CutShort,
 use Rattle.std.specs.Prelude.{Result, Ok, Err}
 use Rattle.spec_arithmetic.specs.Fields.{byte_at}
 use Rattle.spec_arithmetic.specs.Places.{number_at}
-use Rattle.spec_pack.specs.Pack.{Pst, due_after, size_of, holds, zero_or_held, in_turn, tone_crowded, tone_fine, tone_verdict, accent_fine, accent_verdict, rule_fine, rule_held, rule_verdict, single, part_crowded, part_fine, part_verdict, body_verdict, record_verdict}
+use Rattle.spec_pack.specs.Pack.{PackRead, due_after, size_of, holds, zero_or_held, in_turn, tone_crowded, tone_fine, tone_verdict, accent_fine, accent_verdict, rule_fine, rule_held, rule_verdict, single, part_crowded, part_fine, part_verdict, body_verdict, record_verdict}
 use Rattle.tonekit_core.proofs.Split.{split, absurd_bool, either, neither}
 
 -- which kind is due
@@ -64,7 +64,7 @@ passed false true false d h = not_fine Doubled h
 passed false true true false h = not_fine Loose h
 passed false true true true h = record { room = refl; ranges = refl; once = refl; there = refl }
 
-module _ (s : List ℕ) (at : ℕ) (st : Pst) where
+module _ (s : List ℕ) (at : ℕ) (st : PackRead) where
   pub record Sound : Type 0 where
     pub inside : at < length s
     pub whole : at + size_of (byte_at s at) ≤ length s

@@ -6,7 +6,7 @@ use Rattle.tonekit_core.specs.declared.Refusal.{Refusal}
 use Rattle.tonekit_core.specs.declared.Refusal.TheVariants.{CutShort}
 use Rattle.std.specs.Prelude.{Result, Ok, Err}
 use Rattle.spec_arithmetic.specs.Fields.{byte_at}
-use Rattle.spec_pack.specs.Pack.{Pst, Out, loaded, refused, size_of, added, record_verdict, record_turn, start, read_pack}
+use Rattle.spec_pack.specs.Pack.{PackRead, Out, loaded, refused, size_of, added, record_verdict, record_turn, start, read_pack}
 use Rattle.tonekit_core.proofs.Split.{split}
 use Rattle.tonekit_pack.proofs.Records.{Sound, sound, size_pos}
 
@@ -15,11 +15,11 @@ by_verdict (Ok u) f g = f refl
 by_verdict (Err r) f g = g r refl
 
 -- the rest of the reading, from a place on
-abbrev pub run : List ℕ → Out → ℕ → ℕ → Pst → Out
+abbrev pub run : List ℕ → Out → ℕ → ℕ → PackRead → Out
 run s d n at st = loop_to (record_turn s) d n (record { at = at; st = st })
 
 -- what one turn of a reading is
-module _ (s : List ℕ) (d : Out) (n at : ℕ) (st : Pst) (some : 0 < n) where
+module _ (s : List ℕ) (d : Out) (n at : ℕ) (st : PackRead) (some : 0 < n) where
   pub run_refused : (r : Refusal) → record_verdict s at st ≡ Err r → run s d n at st ≡ refused r at
   run_refused r v = sym (loop_stop (record_turn s) d refl some (rw v))
 
@@ -31,7 +31,7 @@ module _ (s : List ℕ) (d : Out) (n at : ℕ) (st : Pst) (some : 0 < n) where
   run_on v e = sym (loop_again (record_turn s) d refl some (rw (v, ne_eqb (byte_at s at) 6 e)))
 
 -- two readings from one place, each with turns enough, are one
-pub limits_agree : (n m : ℕ) (s : List ℕ) (d c : Out) (at : ℕ) (st : Pst) → at ≤ length s → length s < n + at → length s < m + at
+pub limits_agree : (n m : ℕ) (s : List ℕ) (d c : Out) (at : ℕ) (st : PackRead) → at ≤ length s → length s < n + at → length s < m + at
     → run s d n at st ≡ run s c m at st
 limits_agree zero m s d c at st l h k = absurd (omega arith)
 limits_agree (suc n) zero s d c at st l h k = absurd (omega arith)
@@ -51,18 +51,18 @@ unfolding read_pack
 limit_idle s d n h = limits_agree n (length s + 1) s d (refused CutShort (length s)) 0 start.st (omega arith) (omega arith) (omega arith)
 
 -- where the reading goes on to a pack's end, the record here passes
-pub record Accepted (s : List ℕ) (d : Out) (f at : ℕ) (st fin : Pst) (e : ℕ) : Type 0 where
+pub record Accepted (s : List ℕ) (d : Out) (f at : ℕ) (st fin : PackRead) (e : ℕ) : Type 0 where
   pub passes : Sound s at st
   pub ended : byte_at s at ≡ 6 → (st ≡ fin) × (at + 1 ≡ e)
   pub goes : (byte_at s at ≡ 6 → ⊥) → run s d f (at + size_of (byte_at s at)) (added (byte_at s at) at st) ≡ loaded fin e
 
-pub not_loaded : {P : Type 0} (r : Refusal) (place e : ℕ) (st : Pst) → refused r place ≡ loaded st e → P
+pub not_loaded : {P : Type 0} (r : Refusal) (place e : ℕ) (st : PackRead) → refused r place ≡ loaded st e → P
 not_loaded r place e st h = let z : ◌≡◌ {A = ℕ} 0 1 = cc in absurd (omega arith)
 
-same_loaded : (a b : Pst) (d e : ℕ) → loaded a d ≡ loaded b e → (a ≡ b) × (d ≡ e)
+same_loaded : (a b : PackRead) (d e : ℕ) → loaded a d ≡ loaded b e → (a ≡ b) × (d ≡ e)
 same_loaded a b d e h = (cc, cc)
 
-pub accepted : (s : List ℕ) (d : Out) (f at : ℕ) (st fin : Pst) (e : ℕ) → run s d (suc f) at st ≡ loaded fin e → Accepted s d f at st fin e
+pub accepted : (s : List ℕ) (d : Out) (f at : ℕ) (st fin : PackRead) (e : ℕ) → run s d (suc f) at st ≡ loaded fin e → Accepted s d f at st fin e
 accepted s d f at st fin e h =
     by_verdict (record_verdict s at st)
     (λ v. record {
@@ -72,6 +72,6 @@ accepted s d f at st fin e h =
     })
     (λ r v. not_loaded r at e fin (sym (run_refused s d (suc f) at st (omega arith) r v) ∙ h))
 
-pub no_turns : {P : Type 0} (s : List ℕ) (at : ℕ) (st fin : Pst) (r : Refusal) (place e : ℕ) → run s (refused r place) 0 at st ≡ loaded fin e → P
+pub no_turns : {P : Type 0} (s : List ℕ) (at : ℕ) (st fin : PackRead) (r : Refusal) (place e : ℕ) → run s (refused r place) 0 at st ≡ loaded fin e → P
 unfolding loop_to Rattle.tonekit_core.specs.Loop.loop_on
 no_turns s at st fin r place e h = not_loaded r place e fin h

@@ -5,12 +5,12 @@ use Rattle.tonekit_core.specs.Loop.{loop_to, loop_stop}
 use Rattle.tonekit_core.specs.declared.Refusal.{Refusal}
 use Rattle.tonekit_core.specs.declared.Refusal.TheVariants.{CutShort}
 use Rattle.tonekit_pack.specs.declared.Pack.{Pack}
-use Rattle.spec_pack.specs.Pack.{Pst, refused, due_after, size_of, body_verdict, record_verdict, record_turn, read_pack}
+use Rattle.spec_pack.specs.Pack.{PackRead, refused, due_after, size_of, body_verdict, record_verdict, record_turn, read_pack}
 use Rattle.tonekit_pack.specs.Held.{shown}
 use Rattle.tonekit_pack.specs.Format.{judged}
 
 -- a place is behind one settings record and the records counted; before the first accent, behind tones alone
-pub record Near (at : ℕ) (st : Pst) : Type 0 where
+pub record Near (at : ℕ) (st : PackRead) : Type 0 where
   pub first : st.last ≡ 0 → at ≡ 0
   pub early : st.last ≤ 2 → at ≤ 9 + 56 * length st.tones
   pub near : at ≤ 9 + 56 * length st.tones + 19 * length st.accents + 7 * length st.rules + 46 * st.total
@@ -24,7 +24,7 @@ pub record Going (s : List ℕ) (st : Pack) (at : ℕ) : Type 0 where
   pub same : loop_to (record_turn s) (refused CutShort (length s)) fuel (record { at = at; st = shown st }) ≡ read_pack s
 
 -- the verdict of a record is its tests in their order
-pub judges : (s : List ℕ) (o : ℕ) (st : Pst) → record_verdict s o st ≡ judged (due_after st.last) size_of (λ k. body_verdict k s o st) s o
+pub judges : (s : List ℕ) (o : ℕ) (st : PackRead) → record_verdict s o st ≡ judged (due_after st.last) size_of (λ k. body_verdict k s o st) s o
 unfolding record_verdict
 judges s o st = refl
 

@@ -5,10 +5,10 @@ use Rattle.tonekit_pack.specs.declared.Pack.{Pack}
 use Rattle.tonekit_pack.specs.declared.Loaded.{Loaded}
 use Rattle.spec_arithmetic.specs.Places.{in_order}
 use Rattle.tonekit_pack.specs.Kinds.{last_of}
-use Rattle.spec_pack.specs.Pack.{Pst, Out, loaded, refused, read_pack}
+use Rattle.spec_pack.specs.Pack.{PackRead, Out, loaded, refused, read_pack}
 
 -- of each array as many entries as were read
-abbrev pub shown : Pack → Pst
+abbrev pub shown : Pack → PackRead
 shown p = record {
   last = last_of p.last;
   tones = in_order p.tones.at p.tones.count;

@@ -1,6 +1,6 @@
 // Tests of the ranges of document 01's fields, on a record's bytes.
 ghost use Rattle.std.specs.Prelude.{◌≡◌, ◌<◌};
-ghost use Rattle.spec_pack.specs.Ranges.{above_zero, a_share, within, weight_fine, slot_fine, knots_fine, region_fine, tolerances_fine};
+ghost use Rattle.spec_pack.specs.Ranges.{above_zero, probability_fine, within, weight_fine, slot_fine, knots_fine, region_fine, tolerances_fine};
 
 use tonekit_bytes::{byte_at, f32_at, u32_at};
 use tonekit_core::layout;
@@ -15,9 +15,9 @@ pub fn above_zero(x: f32) -> bool
 }
 
 // Above 0, at most 1.
-#[tactic(auto, unfolding(spec_pack::specs::Ranges::a_share))]
-pub fn a_share(x: f32) -> bool
-    ensures { result ≡ a_share x }
+#[tactic(auto, unfolding(spec_pack::specs::Ranges::probability_fine))]
+pub fn probability_fine(x: f32) -> bool
+    ensures { result ≡ probability_fine x }
 {
     (x > 0.0) & (x <= 1.0)
 }

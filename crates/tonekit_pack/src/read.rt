@@ -8,7 +8,9 @@ ghost use Rattle.tonekit_pack.specs.Held.{shown, answered};
 ghost use Rattle.tonekit_pack.specs.Going.{Going, judges, refuses};
 
 use crate::format::Format;
-use crate::ranges::{a_share, above_zero, knots_fine, region_fine, tolerances_fine, weight_fine};
+use crate::ranges::{
+    above_zero, knots_fine, probability_fine, region_fine, tolerances_fine, weight_fine,
+};
 use crate::{Kind, Loaded, Pack};
 use tonekit_bytes::places::{Offsets, index_of};
 use tonekit_bytes::{byte_at, f32_at, u32_at};
@@ -56,7 +58,7 @@ pub fn settings_verdict(s: &[u8], o: usize) -> Result<(), Refusal>
     ensures { result ≡ settings_verdict s.now o }
 {
     let fine = above_zero(f32_at(s, o, layout::SETTINGS_TEMPERATURE))
-        & a_share(f32_at(s, o, layout::SETTINGS_THRESHOLD));
+        & probability_fine(f32_at(s, o, layout::SETTINGS_THRESHOLD));
     in_turn(false, fine, true, true)
 }
 
@@ -88,7 +90,7 @@ impl Pack {
         ensures { result ≡ tone_verdict s.now o (shown self.now) }
     {
         let number = byte_at(s, o, layout::OWN_NUMBER);
-        let share = a_share(f32_at(s, o, layout::TONE_PRIOR));
+        let share = probability_fine(f32_at(s, o, layout::TONE_PRIOR));
         let knots = byte_at(s, o, layout::TONE_KNOT_COUNT);
         let curve = knots_fine(s, o + layout::TONE_KNOTS, knots);
         let region = region_fine(s, o + layout::TONE_REGION);

@@ -7,7 +7,7 @@ use Rattle.tonekit_core.specs.declared.Refusal.{Refusal}
 use Rattle.tonekit_core.specs.declared.Refusal.TheVariants.{Misplaced, CutShort}
 use Rattle.std.specs.Prelude.{Ok}
 use Rattle.spec_arithmetic.specs.Fields.{byte_at}
-use Rattle.spec_pack.specs.Pack.{Pst, Out, loaded, refused, due_after, size_of, record_verdict, added, start, read_pack}
+use Rattle.spec_pack.specs.Pack.{PackRead, Out, loaded, refused, due_after, size_of, record_verdict, added, start, read_pack}
 use Rattle.tonekit_core.proofs.Split.{split}
 use Rattle.tonekit_pack.proofs.Records.{sound, size_pos, not_fine}
 use Rattle.tonekit_pack.proofs.Turns.{by_verdict, run, run_refused, run_end, run_on, limit_idle, not_loaded, no_turns}
@@ -37,7 +37,7 @@ drop_behind s at r tail e = sym (drop-drop (length r) at s) ∙ ap (drop (length
 
 -- ---- from records to the reader's answer
 module _ (s : List ℕ) (d : Out) (tail : List ℕ) where
-  run_reads : {t u : Tally} {rs : List (List ℕ)} → ReadsOn t rs u → (f at : ℕ) (st : Pst) → TallyOf s st t
+  run_reads : {t u : Tally} {rs : List (List ℕ)} → ReadsOn t rs u → (f at : ℕ) (st : PackRead) → TallyOf s st t
       → drop at s ≡ records_bytes rs ++ (6 ∷ tail) → at ≤ length s → length rs < f → due_after u.last 6 ≡ true
       → run s d f at st ≡ loaded (added_all st at rs) (at + length (records_bytes rs) + 1)
   unfolding records_bytes added_all size_of
@@ -72,7 +72,7 @@ reads_load {u} {rs} tail x due =
 
 -- ---- and back
 -- from an offset on, and from the state and the tally there, s is records that read, and End, which ends at e; then the reader has read what fin says
-pub record AsRecords (s : List ℕ) (at : ℕ) (st : Pst) (t : Tally) (fin : Pst) (e : ℕ) : Type 0 where
+pub record AsRecords (s : List ℕ) (at : ℕ) (st : PackRead) (t : Tally) (fin : PackRead) (e : ℕ) : Type 0 where
   pub records : List (List ℕ)
   pub tally : Tally
   pub reads : ReadsOn t records tally
@@ -99,7 +99,7 @@ module _ (s : List ℕ) (at : ℕ) (inside : at < length s) (whole : at + size_o
   cut_here = sym (take-append-drop (size_of (byte_at s at)) (drop at s)) ∙ ap (λ x. here ++ x) (drop-drop (size_of (byte_at s at)) at s)
 
 -- at End, and at a record before it
-ended : (s : List ℕ) (at : ℕ) (st : Pst) (t : Tally) (fin : Pst) (e : ℕ) → at < length s → byte_at s at ≡ 6 → due_after t.last 6 ≡ true
+ended : (s : List ℕ) (at : ℕ) (st : PackRead) (t : Tally) (fin : PackRead) (e : ℕ) → at < length s → byte_at s at ≡ 6 → due_after t.last 6 ≡ true
     → loaded st (at + 1) ≡ loaded fin e → AsRecords s at st t fin e
 unfolding records_bytes added_all
 ended s at st t fin e l k due h =
@@ -108,7 +108,7 @@ ended s at st t fin e l k due h =
     let b : at + 0 + 1 ≡ e = omega arith in
     record { records = []; tally = t; reads = none; due = due; bytes = drop-cons s at 0 l ∙ ap₂ (λ x y. x ∷ drop y s) k z; end = b; held = cc }
 
-onward : (s : List ℕ) (at : ℕ) (st : Pst) (t : Tally) (fin : Pst) (e : ℕ) (r : List ℕ) → length r ≡ size_of (kind r) → (kind r ≡ 6 → ⊥) → record_verdict_of r t ≡ Ok tt
+onward : (s : List ℕ) (at : ℕ) (st : PackRead) (t : Tally) (fin : PackRead) (e : ℕ) (r : List ℕ) → length r ≡ size_of (kind r) → (kind r ≡ 6 → ⊥) → record_verdict_of r t ≡ Ok tt
     → drop at s ≡ r ++ drop (at + length r) s → AsRecords s (at + length r) (added (kind r) at st) (tallied r t) fin e → AsRecords s at st t fin e
 unfolding records_bytes added_all
 onward s at st t fin e r w n fine c x =
@@ -124,7 +124,7 @@ onward s at st t fin e r w n fine c x =
     }
 
 -- f turns from an offset on that end with a pack
-load_from : (f : ℕ) (s : List ℕ) (r : Refusal) (place at : ℕ) (st : Pst) (t : Tally) (fin : Pst) (e : ℕ) → TallyOf s st t → at ≤ length s
+load_from : (f : ℕ) (s : List ℕ) (r : Refusal) (place at : ℕ) (st : PackRead) (t : Tally) (fin : PackRead) (e : ℕ) → TallyOf s st t → at ≤ length s
     → run s (refused r place) f at st ≡ loaded fin e → AsRecords s at st t fin e
 load_from zero s r place at st t fin e o l h = no_turns s at st fin r place e h
 load_from (suc f) s r place at st t fin e o l h =
@@ -153,12 +153,12 @@ load_from (suc f) s r place at st t fin e o l h =
     (load_from f s r place (at + length rec) (added (kind rec) at st) (tallied rec t) fin e (tally_next s at st rec t g w o was-due no) g.fits goes)))
     (λ q v. not_loaded q at e fin (sym (run_refused s (refused r place) (suc f) at st (omega arith) q v) ∙ h))
 
-pub load_reads : (s : List ℕ) (st : Pst) (e : ℕ) → read_pack s ≡ loaded st e → AsRecords s 0 start.st no_tally st e
+pub load_reads : (s : List ℕ) (st : PackRead) (e : ℕ) → read_pack s ≡ loaded st e → AsRecords s 0 start.st no_tally st e
 unfolding read_pack
 load_reads s st e h = load_from (length s + 1) s CutShort (length s) 0 start.st no_tally st e (tally_start s) (omega arith) h
 
 -- ---- both
-pub loads_exactly : (s : List ℕ) (st : Pst) (e : ℕ) → (read_pack s ≡ loaded st e) ↔ AsRecords s 0 start.st no_tally st e
+pub loads_exactly : (s : List ℕ) (st : PackRead) (e : ℕ) → (read_pack s ≡ loaded st e) ↔ AsRecords s 0 start.st no_tally st e
 loads_exactly s st e = (
   load_reads s st e,
   λ x. let z : length (records_bytes x.records) + 1 ≡ e = omega (arith, x.end) in

@@ -7,7 +7,7 @@ use lib.ListN.{length-map}
 use lib.Seq.{get_or_at}
 use Rattle.spec_arithmetic.specs.Fields.{byte_at}
 use Rattle.spec_arithmetic.specs.Places.{number_at}
-use Rattle.spec_pack.specs.Pack.{Pst, in_turn, due_after, size_of, holds, zero_or_held, last_rule, tone_verdict, accent_verdict, rule_verdict, part_verdict, body_verdict, record_verdict, part_fine, added, start}
+use Rattle.spec_pack.specs.Pack.{PackRead, in_turn, due_after, size_of, holds, zero_or_held, last_rule, tone_verdict, accent_verdict, rule_verdict, part_verdict, body_verdict, record_verdict, part_fine, added, start}
 use Rattle.tonekit_core.proofs.Split.{split}
 use Rattle.tonekit_pack.proofs.Records.{Due, due_is, settings, tone, accent, rule, part, finish}
 use Rattle.tonekit_records.specs.Records.{Tally, no_tally, among, zero_or_among, kind, tone_verdict_of, accent_verdict_of, rule_verdict_of, last_single, part_verdict_of, body_verdict_of, record_verdict_of, tallied}
@@ -15,7 +15,7 @@ use Rattle.tonekit_bytes.proofs.Stands.{Stands}
 use Rattle.tonekit_records.proofs.OwnBytes.{byte_same, settings_same, tone_same, accent_same, rule_same, part_same}
 
 -- t is the tally of what the reader has read
-pub record TallyOf (s : List ℕ) (st : Pst) (t : Tally) : Type 0 where
+pub record TallyOf (s : List ℕ) (st : PackRead) (t : Tally) : Type 0 where
   pub last : st.last ≡ t.last
   pub tones : map (number_at s) st.tones ≡ t.tones
   pub accents : map (number_at s) st.accents ≡ t.accents
@@ -51,7 +51,7 @@ module _ (r : List ℕ) (whole : length r ≡ size_of (kind r)) where
   size_at k e = whole ∙ ap size_of (sym e)
 
 -- the record r at an offset, behind what the tally t counts
-module _ (s : List ℕ) (at : ℕ) (st : Pst) (r : List ℕ) (t : Tally) (h : Stands s at r) (whole : length r ≡ size_of (kind r)) (f : TallyOf s st t) where
+module _ (s : List ℕ) (at : ℕ) (st : PackRead) (r : List ℕ) (t : Tally) (h : Stands s at r) (whole : length r ≡ size_of (kind r)) (f : TallyOf s st t) where
   -- as many offsets as numbers
   count : (os ns : List ℕ) → map (number_at s) os ≡ ns → length os ≡ length ns
   count os ns e = sym (length-map os (number_at s)) ∙ ap length e
@@ -107,7 +107,7 @@ module _ (s : List ℕ) (at : ℕ) (st : Pst) (r : List ℕ) (t : Tally) (h : St
       (λ d. rw d))
 
 -- ---- the tally once the record is fine
-module _ (s : List ℕ) (at : ℕ) (st : Pst) (r : List ℕ) (t : Tally) (h : Stands s at r) (whole : length r ≡ size_of (kind r)) (f : TallyOf s st t) where
+module _ (s : List ℕ) (at : ℕ) (st : PackRead) (r : List ℕ) (t : Tally) (h : Stands s at r) (whole : length r ≡ size_of (kind r)) (f : TallyOf s st t) where
   number_here : 2 ≤ length r → number_at s at ≡ number_at r 0
   number_here l = byte_same s at r h (at + 1) 1 refl (omega arith)
 

@@ -5,8 +5,8 @@ use Rattle.std.specs.Float.Ieee.{lt, le, of_bits}
 use Rattle.tonekit_core.specs.Loop.{range, turns, loop_to, loop_on}
 use Rattle.tonekit_core.specs.declared.Refusal.TheVariants.{Misplaced, Crowded, OffScale, Doubled, Loose}
 use Rattle.tonekit_core.specs.declared.Refusal.{Refusal}
-use Rattle.spec_pack.specs.Ranges.{above_zero, a_share, knot_fine, weight_fine, slot_fine, knots_fine, region_fine, tolerances_fine}
-use Rattle.spec_pack.specs.Pack.{Pst, loaded, due_after, size_of, holds, zero_or_held, settings_verdict, tone_verdict, accent_verdict, rule_verdict, part_verdict, body_verdict, record_verdict, added, start, read_pack}
+use Rattle.spec_pack.specs.Ranges.{above_zero, probability_fine, knot_fine, weight_fine, slot_fine, knots_fine, region_fine, tolerances_fine}
+use Rattle.spec_pack.specs.Pack.{PackRead, loaded, due_after, size_of, holds, zero_or_held, settings_verdict, tone_verdict, accent_verdict, rule_verdict, part_verdict, body_verdict, record_verdict, added, start, read_pack}
 use Rattle.tonekit_records.specs.Records.{Tally, no_tally, among, zero_or_among, body_verdict_of, record_verdict_of, tallied, ReadsOn, none, more, records_bytes, added_all}
 
 -- ---- the records of a small pack
@@ -83,7 +83,7 @@ after_second_rule = refl
 
 -- each is fine after those before it
 pub reads : ReadsOn no_tally records whole
-unfolding record_verdict_of body_verdict_of tallied among zero_or_among due_after size_of settings_verdict above_zero a_share knot_fine weight_fine slot_fine knots_fine region_fine tolerances_fine range turns lt le of_bits
+unfolding record_verdict_of body_verdict_of tallied among zero_or_among due_after size_of settings_verdict above_zero probability_fine knot_fine weight_fine slot_fine knots_fine region_fine tolerances_fine range turns lt le of_bits
 reads =
     more {r = settings} refl (λ e. omega arith) refl
     (more {r = tone} refl (λ e. omega arith) refl
@@ -93,7 +93,7 @@ reads =
     (more {r = second_part} refl (λ e. omega arith) refl none)))))
 
 -- where they stand, which is what the reader keeps of their bytes
-abbrev kept : Pst
+abbrev kept : PackRead
 kept = record { last = 5; tones = 9 ∷ []; accents = 65 ∷ []; firsts = 0 ∷ []; rules = 84 ∷ []; parts = 2; total = 2 }
 
 offsets : added_all start.st 0 records ≡ kept
@@ -101,13 +101,13 @@ unfolding added_all added
 offsets = refl
 
 pack : read_pack (records_bytes records ++ (6 ∷ [])) ≡ loaded kept 184
-unfolding records_bytes read_pack record_verdict due_after size_of body_verdict settings_verdict tone_verdict accent_verdict rule_verdict part_verdict holds zero_or_held added above_zero a_share knot_fine weight_fine slot_fine knots_fine region_fine tolerances_fine range turns loop_to loop_on lt le of_bits
+unfolding records_bytes read_pack record_verdict due_after size_of body_verdict settings_verdict tone_verdict accent_verdict rule_verdict part_verdict holds zero_or_held added above_zero probability_fine knot_fine weight_fine slot_fine knots_fine region_fine tolerances_fine range turns loop_to loop_on lt le of_bits
 pack = refl
 
 -- ---- verdicts that turn on the tally
 -- what a record is after a tally; opened, it computes
 unfoldable after : Tally → List ℕ → Result Unit Refusal
-unfolding record_verdict_of body_verdict_of among zero_or_among due_after settings_verdict above_zero a_share knot_fine weight_fine slot_fine knots_fine region_fine tolerances_fine range turns lt le of_bits
+unfolding record_verdict_of body_verdict_of among zero_or_among due_after settings_verdict above_zero probability_fine knot_fine weight_fine slot_fine knots_fine region_fine tolerances_fine range turns lt le of_bits
 after t r = record_verdict_of r t
 
 -- a tone after an accent

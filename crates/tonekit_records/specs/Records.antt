@@ -7,7 +7,7 @@ use Rattle.tonekit_core.specs.declared.Refusal.TheVariants.{Misplaced}
 use Rattle.tonekit_core.specs.declared.Refusal.{Refusal}
 use Rattle.spec_arithmetic.specs.Fields.{byte_at}
 use Rattle.spec_arithmetic.specs.Places.{number_at}
-use Rattle.spec_pack.specs.Pack.{Pst, in_turn, due_after, size_of, settings_verdict, tone_fine, accent_fine, rule_fine, part_fine, added}
+use Rattle.spec_pack.specs.Pack.{PackRead, in_turn, due_after, size_of, settings_verdict, tone_fine, accent_fine, rule_fine, part_fine, added}
 
 -- all that the reader asks of the records before: the last kind; the numbers of tones and accents, in order; how many rules, the form of the last one and
 -- how many parts it has; all parts
@@ -92,6 +92,6 @@ records_bytes [] = []
 records_bytes (r ∷ rs) = r ++ records_bytes rs
 
 -- what the reader has read once they are fine, the first of them at an offset
-unfoldable pub added_all : Pst → ℕ → List (List ℕ) → Pst
+unfoldable pub added_all : PackRead → ℕ → List (List ℕ) → PackRead
 added_all st at [] = st
 added_all st at (r ∷ rs) = added_all (added (kind r) at st) (at + length r) rs

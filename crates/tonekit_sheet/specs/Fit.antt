@@ -4,7 +4,7 @@ use Rattle.std.proofs.Math.Option.{some}
 use Rattle.std.specs.Float.{binary32}
 use Rattle.std.specs.Float.Ieee.{of_bits, le}
 use Rattle.std.specs.Float.Ieee.Scale.{finite}
-use Rattle.spec_pack.specs.Ranges.{above_zero, a_share, weight_fine}
+use Rattle.spec_pack.specs.Ranges.{above_zero, probability_fine, weight_fine}
 use Rattle.spec_lookup.specs.Source.{Settings, Tone, Accent, Carried, Source, accent_in}
 use Rattle.spec_lookup.specs.declared.Context.{Context}
 use Rattle.spec_sheet.specs.Agree.{Held}
@@ -21,7 +21,7 @@ pub record SettingsFit (x : Settings) : Type 0 where
   pub temperature_bits : Bits x.temperature
   pub threshold_bits : Bits x.threshold
   pub temperature : above_zero (f32 x.temperature) ≡ true
-  pub threshold : a_share (f32 x.threshold) ≡ true
+  pub threshold : probability_fine (f32 x.threshold) ≡ true
 
 -- "flag 0 or 1; regions finite, from ≤ to", zero where the flag is
 abbrev pub region_fits : Tone → Bool
@@ -33,7 +33,7 @@ pub record ToneFit (t : Tone) : Type 0 where
   pub least : 1 ≤ t.number
   pub byte : t.number < 256
   pub prior_bits : Bits t.prior
-  pub prior : a_share (f32 t.prior) ≡ true
+  pub prior : probability_fine (f32 t.prior) ≡ true
   pub from_bits : Bits t.from
   pub to_bits : Bits t.to
   pub region : region_fits t ≡ true

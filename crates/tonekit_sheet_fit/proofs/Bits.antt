@@ -9,7 +9,7 @@ use Rattle.tonekit_float.proofs.Narrowing.{narrow_fits}
 use Rattle.spec_pack.specs.Ranges.{weight_fine}
 use Rattle.tonekit_core.proofs.Split.{split}
 use Rattle.spec_lookup.specs.declared.Listing.{Listing}
-use Rattle.spec_lookup.specs.Knots.{Point, knots_at, on_line, segment, fraction, point_at, first_points}
+use Rattle.spec_lookup.specs.Knots.{Point, knots_at, on_line, segment, past_knot, point_at, first_points}
 use Rattle.spec_lookup.specs.Lookup.{component_of}
 use Rattle.spec_lookup.specs.Source.{carried}
 use Rattle.spec_sheet.specs.Reader.{point_fine}
@@ -56,7 +56,7 @@ point_held knots h i =
     let j = segment i last in
     cond-fits binary32 (eqb last 0) _ _ (h 0)
     (cond-fits binary32 (eqb (length knots) 10) _ _ (h i)
-    (cond-fits binary32 (eqb i 9) _ _ (h last) (line_held (get_or knots j nan) (get_or knots (j + 1) nan) (fraction i last))))
+    (cond-fits binary32 (eqb i 9) _ _ (h last) (line_held (get_or knots j nan) (get_or knots (j + 1) nan) (past_knot i last))))
 
 points_held : (knots : List Float) → AllHeld knots → (n : ℕ) → AllHeld (first_points knots n)
 unfolding first_points

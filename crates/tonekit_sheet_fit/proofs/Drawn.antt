@@ -5,7 +5,7 @@ use Rattle.std.proofs.Common.{ℕ, zero, suc, ◌+◌, ◌≤◌, ◌<◌, ◌�
 use borrow.Author.Tests.{eqb-false, lt-leb}
 use Rattle.spec_arithmetic.specs.Fields.{byte_at}
 use Rattle.spec_arithmetic.specs.Places.{index_of, number_at}
-use Rattle.spec_pack.specs.Pack.{Pst}
+use Rattle.spec_pack.specs.Pack.{PackRead}
 use Rattle.tonekit_core.proofs.Split.{split}
 use Rattle.tonekit_pack.proofs.Loads.{Loads, firsts_ascend, firsts_bound}
 use Rattle.std.specs.Prelude.{Some, None}
@@ -17,7 +17,7 @@ use Rattle.spec_lookup.specs.Source.{Carried, components}
 use Rattle.tonekit_expect.proofs.Walk.{index_found, winner_of}
 
 -- ---- the rule that a walk ends with is one of the accent's that it names
-module _ (s : List ℕ) (st : Pst) (c : Context) where
+module _ (s : List ℕ) (st : PackRead) (c : Context) where
   -- rule k, at r, stands behind accent a
   pub record Behind (a r : ℕ) : Type 0 where
     pub place : ℕ
@@ -30,15 +30,15 @@ module _ (s : List ℕ) (st : Pst) (c : Context) where
 
 -- ---- a rule stands behind one accent
 -- the last of the first n accents before which no more rules stood than k
-unfoldable pub accent_of : Pst → ℕ → ℕ → ℕ
+unfoldable pub accent_of : PackRead → ℕ → ℕ → ℕ
 accent_of st zero k = 0
 accent_of st (suc n) k = cond (leb (from_rule st n) k) n (accent_of st n k)
 
 -- the listing of rule k, and that of accent i's citation of tone t
-abbrev pub rule_of : List ℕ → Pst → ℕ → Listing
+abbrev pub rule_of : List ℕ → PackRead → ℕ → Listing
 rule_of s st k = rule_listing s (number_at s (get_or st.accents (accent_of st (length st.accents) k) 0)) (get_or st.rules k 0)
 
-abbrev pub citation_of : List ℕ → Pst → ℕ → ℕ → Listing
+abbrev pub citation_of : List ℕ → PackRead → ℕ → ℕ → Listing
 citation_of s st i t = citation (number_at s (get_or st.accents i 0)) (get_or st.tones t 0)
 
 -- the list of a listing
@@ -46,11 +46,11 @@ abbrev pub list_of : List ℕ → Listing → List Carried
 list_of s m = components s m m.count
 
 -- what a lookup gives is one or the other
-pub data Drawn (s : List ℕ) (st : Pst) (m : Listing) : Type 0 where
+pub data Drawn (s : List ℕ) (st : PackRead) (m : Listing) : Type 0 where
   ruled : (k : ℕ) → k < length st.rules → accent_of st (length st.accents) k < length st.accents → rule_of s st k ≡ m → Drawn s st m
   cited : (i t : ℕ) → i < length st.accents → t < length st.tones → (byte_at s (get_or st.tones t 0 + 6) ≡ 0 → ⊥) → citation_of s st i t ≡ m → Drawn s st m
 
-module _ (s : List ℕ) (st : Pst) (e : ℕ) (l : Loads s st e) where
+module _ (s : List ℕ) (st : PackRead) (e : ℕ) (l : Loads s st e) where
   rules_in : (a : ℕ) → to_rule st a ≤ length st.rules
   rules_in a =
       split (ltb (a + 1) (length st.accents))

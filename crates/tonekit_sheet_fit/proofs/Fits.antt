@@ -3,13 +3,13 @@ use Rattle.std.specs.Prelude.{Option}
 use Rattle.std.proofs.Common.{ℕ, ◌+◌, ◌*◌, ◌/◌, ◌%◌, ◌≤◌, ◌≡◌, refl, ap, subst, inl, inr, List, [], ◌∷◌, arith, length}
 use mathlib.Core.Option.{some}
 use lib.ListN.{length-map}
-use Rattle.spec_pack.specs.Pack.{Pst, loaded, read_pack}
+use Rattle.spec_pack.specs.Pack.{PackRead, loaded, read_pack}
 use Rattle.tonekit_pack.proofs.Loads.{Loads, loads, some_tones, some_accents}
 use Rattle.std.specs.Prelude.{Some, None}
 use Rattle.spec_lookup.specs.declared.Context.{Context}
 use Rattle.spec_lookup.specs.declared.Listing.{Listing}
 use Rattle.spec_lookup.specs.Lookup.{look_up}
-use Rattle.spec_lookup.specs.Source.{Carried, given, tone_at, accent_at, source_of_pack}
+use Rattle.spec_lookup.specs.Source.{Carried, carried_of, tone_at, accent_at, source_of_pack}
 use Rattle.tonekit_expect.proofs.Carried.{components_length}
 use Rattle.spec_sheet.specs.Agree.{Bytes}
 use Rattle.spec_sheet.specs.Sheet.{view_of, lists_of}
@@ -21,16 +21,16 @@ use Rattle.tonekit_sheet_fit.proofs.Held.{settings_fit, tones_fit, tones_apart, 
 use Rattle.tonekit_sheet_fit.proofs.Lists.{lists_fit}
 
 -- ---- the lists that a lookup can give: one for each rule, and one for each accent and tone
-abbrev pub rule_list : List ℕ → Pst → ℕ → List Carried
+abbrev pub rule_list : List ℕ → PackRead → ℕ → List Carried
 rule_list s st k = list_of s (rule_of s st k)
 
-abbrev pub citation_list : List ℕ → Pst → ℕ → List Carried
+abbrev pub citation_list : List ℕ → PackRead → ℕ → List Carried
 citation_list s st i = list_of s (citation_of s st (i / 8) (i % 8))
 
-abbrev pub Given : List ℕ → Pst → List Carried → Type 0
+abbrev pub Given : List ℕ → PackRead → List Carried → Type 0
 Given s st = Pooled (rule_list s st) (length st.rules) (citation_list s st) 64
 
-module _ (s : List ℕ) (st : Pst) (e : ℕ) (l : Loads s st e) where
+module _ (s : List ℕ) (st : PackRead) (e : ℕ) (l : Loads s st e) where
   of_drawn : (m : Listing) → Drawn s st m → Given s st (list_of s m)
   of_drawn m (ruled k h a q) = inl (k, h, ap (list_of s) q)
   of_drawn m (cited i t h g n q) =
@@ -38,7 +38,7 @@ module _ (s : List ℕ) (st : Pst) (e : ℕ) (l : Loads s st e) where
       let r : (8 * i + t) % 8 ≡ t = omega (arith, l.kept.few_tones) in
       inr (8 * i + t, omega (arith, l.kept.few_tones, l.kept.few_accents), rw (d, r) (ap (list_of s) q))
 
-  of_look : (c : Context) (o : Option Listing) (cs : List Carried) → look_up s st c ≡ o → given s o ≡ some cs → Given s st cs
+  of_look : (c : Context) (o : Option Listing) (cs : List Carried) → look_up s st c ≡ o → carried_of s o ≡ some cs → Given s st cs
   of_look c None cs q g = let z : ◌≡◌ {A = ℕ} 0 1 = cc in absurd (omega arith)
   of_look c (Some m) cs q g = let h : list_of s m ≡ cs = cc in subst (Given s st) h (of_drawn m (drawn s st e l c m q))
 
@@ -62,7 +62,7 @@ unfolding weigh components_in
 components_are [] = refl
 components_are (x ∷ xs) = ap (λ (n : ℕ). length x + n) (components_are xs)
 
-module _ (s : List ℕ) (st : Pst) (e : ℕ) (p : read_pack s ≡ loaded st e) where
+module _ (s : List ℕ) (st : PackRead) (e : ℕ) (p : read_pack s ≡ loaded st e) where
   pub few_lists : length (lists_of (view_of (source_of_pack s st))) ≤ 128
   few_lists =
       let l = loads s st e p in
@@ -88,7 +88,7 @@ module _ (s : List ℕ) (st : Pst) (e : ℕ) (p : read_pack s ≡ loaded st e) w
       )
 
 -- ---- together
-pub fit_of_pack : (s : List ℕ) → Bytes s → (st : Pst) (e : ℕ) → read_pack s ≡ loaded st e → Fit (source_of_pack s st)
+pub fit_of_pack : (s : List ℕ) → Bytes s → (st : PackRead) (e : ℕ) → read_pack s ≡ loaded st e → Fit (source_of_pack s st)
 unfolding source_of_pack
 fit_of_pack s b st e p =
     let l = loads s st e p in

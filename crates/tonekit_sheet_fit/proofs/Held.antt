@@ -6,7 +6,7 @@ use Rattle.spec_arithmetic.specs.Fields.{f32_at}
 use Rattle.tonekit_bytes.proofs.Fields.{u32_below}
 use Rattle.spec_arithmetic.specs.Places.{number_at}
 use Rattle.spec_pack.specs.Ranges.{above_zero, region_fine, tolerances_fine}
-use Rattle.spec_pack.specs.Pack.{Pst}
+use Rattle.spec_pack.specs.Pack.{PackRead}
 use Rattle.tonekit_core.proofs.Split.{split, both}
 use Rattle.tonekit_pack.proofs.Loads.{ToneFine, AccentFine, Loads, tones_once, accents_once}
 use Rattle.spec_lookup.specs.Source.{Tone, Accent, settings_at, tone_at, accent_at, accent_in}
@@ -56,7 +56,7 @@ module _ (s : List ℕ) (b : Bytes s) where
         turning = rw r at v.1;
       }
 
-  module _ (st : Pst) (e : ℕ) (l : Loads s st e) where
+  module _ (st : PackRead) (e : ℕ) (l : Loads s st e) where
     pub settings_fit : SettingsFit (settings_at s 0)
     settings_fit =
         let t = l.kept.begun (omega arith) in
@@ -79,7 +79,7 @@ apart n f h i j a b e =
     (λ t. absurd (h i j (ltb-true i j t) b e))
     (λ t. split (ltb j i) (λ u. absurd (h j i (ltb-true j i u) a (sym e))) (λ u. omega (arith, ltb-false i j t, ltb-false j i u)))
 
-module _ (s : List ℕ) (st : Pst) (e : ℕ) (l : Loads s st e) where
+module _ (s : List ℕ) (st : PackRead) (e : ℕ) (l : Loads s st e) where
   pub tones_apart : (i j : ℕ) → i < length (map (tone_at 47 s) st.tones) → j < length (map (tone_at 47 s) st.tones)
       → (get_or (map (tone_at 47 s) st.tones) i no_tone).number ≡ (get_or (map (tone_at 47 s) st.tones) j no_tone).number → i ≡ j
   tones_apart i j h k q =

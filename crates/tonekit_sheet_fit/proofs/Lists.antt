@@ -6,13 +6,13 @@ use Rattle.spec_arithmetic.specs.Fields.{u32_at}
 use Rattle.tonekit_bytes.proofs.Fields.{u16_below}
 use Rattle.spec_arithmetic.specs.Places.{number_at}
 use Rattle.spec_pack.specs.Ranges.{weight_fine}
-use Rattle.spec_pack.specs.Pack.{Pst, loaded, read_pack}
+use Rattle.spec_pack.specs.Pack.{PackRead, loaded, read_pack}
 use Rattle.tonekit_pack.proofs.Loads.{RuleFine, Loads, loads}
 use Rattle.std.specs.Prelude.{Some, None}
 use Rattle.spec_lookup.specs.declared.Context.{Context}
 use Rattle.spec_lookup.specs.declared.Listing.{Listing}
 use Rattle.spec_lookup.specs.Lookup.{rule_listing, citation, look_up, component_of}
-use Rattle.spec_lookup.specs.Source.{Accent, Carried, carried, given, accent_at, accent_in, source_of_pack}
+use Rattle.spec_lookup.specs.Source.{Accent, Carried, carried, carried_of, accent_at, accent_in, source_of_pack}
 use Rattle.tonekit_expect.proofs.Curves.{points_fine_lem}
 use Rattle.tonekit_expect.proofs.Carried.{named, part_number, citation_weight, components_length, components_at}
 use Rattle.spec_sheet.specs.Agree.{Bytes}
@@ -79,12 +79,12 @@ citation_fine s accents i o h =
       unit = λ n. citation_weight s m 0 refl;
     }
 
-drawn_fine : (s : List ℕ) (b : Bytes s) (st : Pst) (e : ℕ) → Loads s st e → (m : Listing) → Drawn s st m → Fine s st.accents m
+drawn_fine : (s : List ℕ) (b : Bytes s) (st : PackRead) (e : ℕ) → Loads s st e → (m : Listing) → Drawn s st m → Fine s st.accents m
 drawn_fine s b st e l m (ruled k h a q) = subst (Fine s st.accents) q (rule_fine_lem s b st.tones st.accents (accent_of st (length st.accents) k) (get_or st.rules k 0) a (l.kept.rules k h))
 drawn_fine s b st e l m (cited i t h g n q) = subst (Fine s st.accents) q (citation_fine s st.accents i (get_or st.tones t 0) h)
 
 -- ---- the list of a listing
-module _ (s : List ℕ) (b : Bytes s) (st : Pst) (e : ℕ) (p : read_pack s ≡ loaded st e) (c : Context) where
+module _ (s : List ℕ) (b : Bytes s) (st : PackRead) (e : ℕ) (p : read_pack s ≡ loaded st e) (c : Context) where
   module _ (m : Listing) (q : look_up s st c ≡ Some m) where
     fine : Fine s st.accents m
     fine = drawn_fine s b st e (loads s st e p) m (drawn s st e (loads s st e p) c m q)
@@ -127,7 +127,7 @@ module _ (s : List ℕ) (b : Bytes s) (st : Pst) (e : ℕ) (p : read_pack s ≡ 
           unit = rw (first, z.form) f.unit;
         }
 
-  of_look : (o : Option Listing) (cs : List Carried) → look_up s st c ≡ o → given s o ≡ some cs → ListFit (source_of_pack s st) cs
+  of_look : (o : Option Listing) (cs : List Carried) → look_up s st c ≡ o → carried_of s o ≡ some cs → ListFit (source_of_pack s st) cs
   of_look None cs q g = let z : ◌≡◌ {A = ℕ} 0 1 = cc in absurd (omega arith)
   of_look (Some m) cs q g = let h : list_of s m ≡ cs = cc in subst (ListFit (source_of_pack s st)) h (list_fits m q)
 

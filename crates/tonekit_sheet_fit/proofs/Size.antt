@@ -3,7 +3,7 @@ use Rattle.std.proofs.Common.{ℕ, zero, suc, ◌+◌, ◌-◌, ◌*◌, ◌/◌
 use mathlib.Core.Option.{Option, none, some}
 use lib.ListN.{length-map}
 use Rattle.tonekit_core.specs.declared.layout.TheConstants.{SHEET_MOST}
-use Rattle.spec_pack.specs.Pack.{Pst, loaded, read_pack}
+use Rattle.spec_pack.specs.Pack.{PackRead, loaded, read_pack}
 use Rattle.tonekit_core.proofs.Split.{split}
 use Rattle.tonekit_pack.proofs.Loads.{loads}
 use Rattle.spec_lookup.specs.declared.Listing.{Listing}
@@ -116,7 +116,7 @@ module _ (v : View) (lists : List (List Carried)) (few_tones : length v.tones �
       )
 
 -- ---- the sheet of a pack
-module _ (s : List ℕ) (st : Pst) (e : ℕ) (p : read_pack s ≡ loaded st e) where
+module _ (s : List ℕ) (st : PackRead) (e : ℕ) (p : read_pack s ≡ loaded st e) where
   lists_most : weigh list_size (lists_of (view_of (source_of_pack s st))) ≤ 9536
   lists_most =
       let l = loads s st e p in

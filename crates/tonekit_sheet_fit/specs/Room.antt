@@ -1,6 +1,6 @@
 -- "13,266 bytes always suffice."
 use Rattle.std.specs.Prelude.{ℕ, ◌≤◌, ◌≡◌, List, length}
-use Rattle.spec_pack.specs.Pack.{Pst, loaded, read_pack}
+use Rattle.spec_pack.specs.Pack.{PackRead, loaded, read_pack}
 use Rattle.spec_lookup.specs.Source.{source_of_pack}
 use Rattle.spec_sheet.specs.Sheet.{sheet}
 
@@ -8,4 +8,4 @@ use Rattle.spec_sheet.specs.Sheet.{sheet}
 pub record Suffices (n : ℕ) : Type 0 where
   -- written out, so that the layout's name is held to it
   pub number : n ≡ 13266
-  pub enough : (s : List ℕ) (st : Pst) (e : ℕ) → read_pack s ≡ loaded st e → length (sheet (source_of_pack s st)) ≤ n
+  pub enough : (s : List ℕ) (st : PackRead) (e : ℕ) → read_pack s ≡ loaded st e → length (sheet (source_of_pack s st)) ≤ n

@@ -4,7 +4,7 @@ use mathlib.Core.Option.{some}
 use lib.ListN.{get_or-replicate}
 use lib.Ieee.{of_bits, lt, le}
 use Rattle.tonekit_core.specs.Loop.{range, turns}
-use Rattle.spec_pack.specs.Ranges.{above_zero, a_share, weight_fine}
+use Rattle.spec_pack.specs.Ranges.{above_zero, probability_fine, weight_fine}
 use Rattle.spec_lookup.specs.Source.{Carried, Source, accent_in}
 use Rattle.spec_sheet.specs.Number.{same_numbers, same_carried, same, seen_in, place_in, noted, number_in}
 use Rattle.spec_sheet.specs.Pieces.{pieces, gather}
@@ -80,7 +80,7 @@ flat_list = record {
 }
 
 tone_fits : (i : ℕ) → i < 1 → ToneFit (get_or small.tones i no_tone)
-unfolding a_share of_bits lt le
+unfolding probability_fine of_bits lt le
 tone_fits zero h = record { least = omega arith; byte = omega arith; prior_bits = omega arith; prior = refl; from_bits = omega arith; to_bits = omega arith; region = refl }
 tone_fits (suc i) h = absurd (omega arith)
 
@@ -101,7 +101,7 @@ accent_fits zero h = record {
 accent_fits (suc i) h = absurd (omega arith)
 
 settings_fit : SettingsFit small.settings
-unfolding above_zero a_share of_bits lt le
+unfolding above_zero probability_fine of_bits lt le
 settings_fit = record { temperature_bits = omega arith; threshold_bits = omega arith; temperature = refl; threshold = refl }
 
 small_lists : lists_of (view_of small) ≡ (flat ∷ []) ∷ []

@@ -5,7 +5,7 @@ use Rattle.std.proofs.Common.{ℕ, ◌+◌, ◌-◌, ◌≤◌, ◌<◌, ◌≡�
 use Rattle.tonekit_core.specs.declared.layout.TheConstants.{TONE_KNOT_COUNT, RULE_KIND, RULE_SIZE, RULE_FORM}
 use Rattle.spec_arithmetic.specs.Fields.{byte_at}
 use Rattle.spec_arithmetic.specs.Places.{index_of, number_at}
-use Rattle.spec_pack.specs.Pack.{Pst, loaded, read_pack}
+use Rattle.spec_pack.specs.Pack.{PackRead, loaded, read_pack}
 use Rattle.tonekit_core.proofs.Split.{split}
 use Rattle.tonekit_pack.proofs.Loads.{RuleFine, Loads, loads, firsts_bound}
 use Rattle.std.specs.Prelude.{Some, None}
@@ -24,7 +24,7 @@ record Again (s : List ℕ) (l : Listing) : Type 0 where
   some : 1 ≤ l.count
   few : l.count ≤ 4
 
-module _ (s : List ℕ) (st : Pst) (e : ℕ) (l : Loads s st e) (rules : (k : ℕ) → get_or st.rules k 0 < 65536) (tones : (k : ℕ) → get_or st.tones k 0 < 65536) (c : Context) where
+module _ (s : List ℕ) (st : PackRead) (e : ℕ) (l : Loads s st e) (rules : (k : ℕ) → get_or st.rules k 0 < 65536) (tones : (k : ℕ) → get_or st.tones k 0 < 65536) (c : Context) where
   -- one of the pack's rules, at an offset as offsets are held
   abbrev Own : ℕ → Type 0
   Own r = RuleFine s st.tones r × (r < 65536)
@@ -87,7 +87,7 @@ module _ (s : List ℕ) (st : Pst) (e : ℕ) (l : Loads s st e) (rules : (k : �
   unfolding look_up
   again m q = of_places m (index_of s st.accents c.accent) (index_of s st.tones c.tone) refl refl q
 
-pub look_kept : (s : List ℕ) (st : Pst) (e : ℕ) → read_pack s ≡ loaded st e → ((k : ℕ) → get_or st.rules k 0 < 65536) → ((k : ℕ) → get_or st.tones k 0 < 65536)
+pub look_kept : (s : List ℕ) (st : PackRead) (e : ℕ) → read_pack s ≡ loaded st e → ((k : ℕ) → get_or st.rules k 0 < 65536) → ((k : ℕ) → get_or st.tones k 0 < 65536)
     → (c : Context) → LookKept s (look_up s st c)
 look_kept s st e p rules tones c m q =
     let g = again s st e (loads s st e p) rules tones c m q in

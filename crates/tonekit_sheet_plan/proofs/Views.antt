@@ -3,20 +3,20 @@ use Rattle.std.proofs.Common.{ℕ, zero, suc, ◌+◌, ◌-◌, ◌≤◌, ◌<�
 use mathlib.Core.Option.{Option, none, some}
 use lib.ListN.{length-map}
 use Rattle.tonekit_core.specs.Loop.{turns, range, range_step}
-use Rattle.spec_pack.specs.Pack.{Pst, read_pack}
+use Rattle.spec_pack.specs.Pack.{PackRead, read_pack}
 use Rattle.tonekit_pack.specs.Held.{shown}
 use Rattle.tonekit_pack.specs.declared.Pack.{Pack}
 use Rattle.tonekit_core.proofs.Split.{split}
 use Rattle.tonekit_bytes.proofs.InOrder.{order_length}
 use Rattle.tonekit_pack.proofs.Loads.{loads, some_tones}
 use Rattle.spec_lookup.specs.Lookup.{look_up}
-use Rattle.spec_lookup.specs.Source.{Carried, given, accent_at, tone_at, source_of_pack}
+use Rattle.spec_lookup.specs.Source.{Carried, carried_of, accent_at, tone_at, source_of_pack}
 use Rattle.spec_sheet.specs.Number.{seen_in, noted}
 use Rattle.spec_sheet.specs.Sheet.{View, view_of, ascending, row_context, row_count, rows_of, note_turn, lists_of}
 use Rattle.tonekit_sheet_plan.specs.Rows.{pack_view, tones_of, accents_at, Ordered, end_of, Reads}
 
 -- ---- the parts of a pack's view
-module _ (s : List ℕ) (st : Pst) where
+module _ (s : List ℕ) (st : PackRead) where
   pub view_tones : (pack_view s st).tones ≡ tones_of s st
   unfolding view_of source_of_pack
   view_tones = refl
@@ -25,7 +25,7 @@ module _ (s : List ℕ) (st : Pst) where
   unfolding view_of source_of_pack
   view_accents = refl
 
-  view_look : (r : ℕ) (last : Bool) → (pack_view s st).row r last ≡ given s (look_up s st (row_context (tones_of s st) (ascending (map (accent_at 3 s) st.accents)) r last))
+  view_look : (r : ℕ) (last : Bool) → (pack_view s st).row r last ≡ carried_of s (look_up s st (row_context (tones_of s st) (ascending (map (accent_at 3 s) st.accents)) r last))
   unfolding view_of source_of_pack
   view_look r last = refl
 
@@ -34,7 +34,7 @@ module _ (s : List ℕ) (st : Pst) where
     pub view_sorted : (pack_view s st).accents ≡ accents_at s os
     view_sorted = view_accents ∙ sym o.same
 
-    pub view_row : (r : ℕ) (last : Bool) → given s (look_up s st (row_context (tones_of s st) (accents_at s os) r last)) ≡ (pack_view s st).row r last
+    pub view_row : (r : ℕ) (last : Bool) → carried_of s (look_up s st (row_context (tones_of s st) (accents_at s os) r last)) ≡ (pack_view s st).row r last
     view_row r last = rw o.same (sym (view_look r last))
 
     accent_count : length (pack_view s st).accents ≡ length os

@@ -4,7 +4,7 @@ use Rattle.std.specs.Prelude.{ℕ, ◌≡◌, List, []}
 use Rattle.std.proofs.Math.Option.{some}
 use Rattle.tonekit_pack.specs.Held.{shown}
 use Rattle.tonekit_pack.specs.declared.Pack.{Pack}
-use Rattle.spec_lookup.specs.Source.{Carried, given}
+use Rattle.spec_lookup.specs.Source.{Carried, carried_of}
 use Rattle.spec_lookup.specs.declared.Listing.{Listing}
 use Rattle.spec_sheet.specs.Number.{noted}
 use Rattle.spec_sheet.specs.Sheet.{note_turn}
@@ -32,7 +32,7 @@ abbrev pub with_listing : Plan → Listing → List (List Carried)
 with_listing plan l = noted (planned_by plan) (some (carried_by plan.bytes.now l))
 
 abbrev pub with_look : Plan → Option Listing → List (List Carried)
-with_look plan x = noted (planned_by plan) (given plan.bytes.now x)
+with_look plan x = noted (planned_by plan) (carried_of plan.bytes.now x)
 
 abbrev pub with_row : Pack → Plan → ℕ → List (List Carried)
 with_row p plan row = note_turn (pack_view plan.bytes.now (shown p)) row (planned_by plan)

@@ -5,7 +5,7 @@
 ghost use Rattle.std.specs.Prelude.{◌≡◌, ◌≤◌, ◌<◌, IfSome, length, [], ◌∷◌, ◌++◌};
 ghost use Rattle.std.proofs.Math.Option.{some};
 ghost use Rattle.tonekit_pack.specs.Held.{shown};
-ghost use Rattle.spec_lookup.specs.Source.{given};
+ghost use Rattle.spec_lookup.specs.Source.{carried_of};
 ghost use Rattle.spec_sheet.specs.Number.{same, number_in};
 ghost use Rattle.spec_sheet.specs.Sheet.{lists_of};
 ghost use Rattle.tonekit_sheet_plan.specs.Rows.{pack_view};
@@ -235,7 +235,7 @@ impl<'a> Plan<'a> {
     // Stays: 0 for nothing is the byte that a sheet's row holds; an Option would be turned into it where the row is written.
     pub fn number_of(&self, x: Option<Listing>) -> u8
         requires { LookKept self.now.bytes.now x }
-        ensures { result ≡ number_in (planned_by self.now) (given self.now.bytes.now x) }
+        ensures { result ≡ number_in (planned_by self.now) (carried_of self.now.bytes.now x) }
     {
         match x {
             Some(l) => self.number_listing(l),

@@ -11,7 +11,7 @@ use crate::{Sheet, SheetView};
 use tonekit_bytes::places::{Offsets, index_from};
 use tonekit_bytes::{byte_at, f32_at, u16_at, u32_at};
 use tonekit_core::{Refusal, layout, limits};
-use tonekit_pack::ranges::{a_share, region_fine, tolerances_fine, weight_fine, within};
+use tonekit_pack::ranges::{probability_fine, region_fine, tolerances_fine, weight_fine, within};
 use tonekit_pack::read::{in_turn, settings_verdict};
 use tonekit_sheet::{Kind, row_count};
 
@@ -157,7 +157,7 @@ impl SheetView<'_> {
         ensures { result ≡ tone_verdict self.now.bytes.now o (shown self.now.sheet) }
     {
         let number = byte_at(self.bytes, o, layout::OWN_NUMBER);
-        let share = a_share(f32_at(self.bytes, o, layout::SHEET_TONE_PRIOR));
+        let share = probability_fine(f32_at(self.bytes, o, layout::SHEET_TONE_PRIOR));
         let region = region_fine(self.bytes, o + layout::SHEET_TONE_REGION);
         let fine = (number != 0) & (share & region);
         let new = !self.tone_held(number);

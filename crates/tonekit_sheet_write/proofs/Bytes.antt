@@ -10,7 +10,7 @@ use Rattle.tonekit_bytes.proofs.Write.{part_put}
 use Rattle.tonekit_pack.specs.Held.{shown}
 use Rattle.tonekit_pack.specs.declared.Pack.{Pack}
 use Rattle.spec_lookup.specs.Lookup.{component_of}
-use Rattle.spec_lookup.specs.Source.{Tone, Accent, Carried, carried, components, given}
+use Rattle.spec_lookup.specs.Source.{Tone, Accent, Carried, carried, components, carried_of}
 use Rattle.spec_lookup.specs.declared.Component.{Component}
 use Rattle.spec_lookup.specs.declared.Context.{Context}
 use Rattle.spec_lookup.specs.declared.Listing.{Listing}
@@ -137,8 +137,8 @@ wrote_size {a} {at} {r} {l} {m} w = ap length w.same ∙ length-sets l at a
 -- ---- a row
 module _ (s : List ℕ) (p : Pack) (os : List ℕ) (lists : List (List Carried)) (r : ℕ) (o : Ordered s (shown p) os) where
   pub row_is : {c : Context} {n m : ℕ} (x y : Option Listing) → c ≡ row_context (tones_of s (shown p)) (accents_at s os) r false
-      → n ≡ number_in lists (given s x) → given s x ≡ (pack_view s (shown p)).row r false
-      → m ≡ number_in lists (given s y) → given s y ≡ (pack_view s (shown p)).row r true
+      → n ≡ number_in lists (carried_of s x) → carried_of s x ≡ (pack_view s (shown p)).row r false
+      → m ≡ number_in lists (carried_of s y) → carried_of s y ≡ (pack_view s (shown p)).row r true
       → row_bytes c n m ≡ row_piece (pack_view s (shown p)) lists r
   row_is {c} {n} {m} x y ec en ex em ey =
       let v = pack_view s (shown p) in
