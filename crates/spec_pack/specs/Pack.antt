@@ -85,13 +85,11 @@ tone_verdict s o st = in_turn (tone_crowded s o st) (tone_fine s o) (not (holds 
 abbrev pub accent_fine : List ℕ → ℕ → Bool
 accent_fine s o = not (eqb (number_at s o) 0) && tolerances_fine s (o + ACCENT_CONTOUR)
 
+abbrev pub accent_held : List ℕ → ℕ → PackRead → Bool
+accent_held s o st = zero_or_held s st.accents (byte_at s (o + ACCENT_PARENT))
+
 unfoldable pub accent_verdict : List ℕ → ℕ → PackRead → Result Unit Refusal
-accent_verdict s o st =
-    in_turn
-    (leb 8 (length st.accents))
-    (accent_fine s o)
-    (not (holds s st.accents (number_at s o)))
-    (zero_or_held s st.accents (byte_at s (o + ACCENT_PARENT)))
+accent_verdict s o st = in_turn (leb 8 (length st.accents)) (accent_fine s o) (not (holds s st.accents (number_at s o))) (accent_held s o st)
 
 -- label, tone, prev, final ("0 any, 1 no, 2 yes"), form ("2 is single, 3 mixture")
 abbrev pub rule_fine : List ℕ → ℕ → Bool
