@@ -66,8 +66,7 @@ in_turn crowded fine new held =
     (cond (not held) (Err Loose) (Ok tt))))
 
 unfoldable pub settings_verdict : List ℕ → ℕ → Result Unit Refusal
-settings_verdict s o =
-    in_turn false (above_zero (f32_at s (o + SETTINGS_TEMPERATURE)) && probability_fine (f32_at s (o + SETTINGS_THRESHOLD))) true true
+settings_verdict s o = in_turn false (above_zero (f32_at s (o + SETTINGS_TEMPERATURE)) && probability_fine (f32_at s (o + SETTINGS_THRESHOLD))) true true
 
 -- number, prior, knot count, ten slots, region
 abbrev pub tone_crowded : List ℕ → ℕ → PackRead → Bool
@@ -93,12 +92,10 @@ accent_verdict s o st = in_turn (leb 8 (length st.accents)) (accent_fine s o) (n
 
 -- label, tone, prev, final ("0 any, 1 no, 2 yes"), form ("2 is single, 3 mixture")
 abbrev pub rule_fine : List ℕ → ℕ → Bool
-rule_fine s o =
-    leb (byte_at s (o + RULE_FINAL)) 2 && (eqb (byte_at s (o + RULE_FORM)) 2 || eqb (byte_at s (o + RULE_FORM)) 3)
+rule_fine s o = leb (byte_at s (o + RULE_FINAL)) 2 && (eqb (byte_at s (o + RULE_FORM)) 2 || eqb (byte_at s (o + RULE_FORM)) 3)
 
 abbrev pub rule_held : List ℕ → ℕ → PackRead → Bool
-rule_held s o st =
-    zero_or_held s st.tones (byte_at s (o + RULE_TONE)) && zero_or_held s st.tones (byte_at s (o + RULE_PREV))
+rule_held s o st = zero_or_held s st.tones (byte_at s (o + RULE_TONE)) && zero_or_held s st.tones (byte_at s (o + RULE_PREV))
 
 unfoldable pub rule_verdict : List ℕ → ℕ → PackRead → Result Unit Refusal
 rule_verdict s o st = in_turn (leb 64 (length st.rules)) (rule_fine s o) true (rule_held s o st)
