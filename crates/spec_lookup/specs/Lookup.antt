@@ -22,17 +22,14 @@ unfoldable pub meets : ℕ → ℕ → Bool
 meets c x = eqb c 0 || eqb c x
 
 unfoldable pub matches : List ℕ → Context → ℕ → Bool
-matches s c r =
-    meets (byte_at s (r + RULE_TONE)) c.tone
-    && (meets (byte_at s (r + RULE_PREV)) c.prev && meets (byte_at s (r + RULE_FINAL)) (final_of c))
+matches s c r = meets (byte_at s (r + RULE_TONE)) c.tone && (meets (byte_at s (r + RULE_PREV)) c.prev && meets (byte_at s (r + RULE_FINAL)) (final_of c))
 
 -- `specificity`: "conditions stated"
 abbrev pub stated : ℕ → ℕ
 stated c = cond (eqb c 0) 0 1
 
 unfoldable pub specificity : List ℕ → ℕ → ℕ
-specificity s r =
-    stated (byte_at s (r + RULE_TONE)) + stated (byte_at s (r + RULE_PREV)) + stated (byte_at s (r + RULE_FINAL))
+specificity s r = stated (byte_at s (r + RULE_TONE)) + stated (byte_at s (r + RULE_PREV)) + stated (byte_at s (r + RULE_FINAL))
 
 -- "its most specific one (conditions stated), the first among equals": a later rule must state more
 abbrev pub more_than : List ℕ → Option ℕ → ℕ → Bool

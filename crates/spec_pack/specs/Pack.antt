@@ -61,8 +61,7 @@ in_turn crowded fine new held =
     (cond (not held) (Err Loose) (Ok tt))))
 
 unfoldable pub settings_verdict : List ℕ → ℕ → Result Unit Refusal
-settings_verdict s o =
-    in_turn false (above_zero (f32_at s (o + SETTINGS_TEMPERATURE)) && probability_fine (f32_at s (o + SETTINGS_THRESHOLD))) true true
+settings_verdict s o = in_turn false (above_zero (f32_at s (o + SETTINGS_TEMPERATURE)) && probability_fine (f32_at s (o + SETTINGS_THRESHOLD))) true true
 
 -- number, prior, knot count, ten slots, region
 abbrev pub tone_crowded : List ℕ → ℕ → PackRead → Bool
@@ -80,22 +79,18 @@ tone_verdict s o st = in_turn (tone_crowded s o st) (tone_fine s o) (not (holds 
 abbrev pub accent_fine : List ℕ → ℕ → Bool
 accent_fine s o = not (eqb (number_at s o) 0) && tolerances_fine s (o + ACCENT_CONTOUR)
 
+abbrev pub accent_held : List ℕ → ℕ → PackRead → Bool
+accent_held s o st = zero_or_held s st.accents (byte_at s (o + ACCENT_PARENT))
+
 unfoldable pub accent_verdict : List ℕ → ℕ → PackRead → Result Unit Refusal
-accent_verdict s o st =
-    in_turn
-    (leb 8 (length st.accents))
-    (accent_fine s o)
-    (not (holds s st.accents (number_at s o)))
-    (zero_or_held s st.accents (byte_at s (o + ACCENT_PARENT)))
+accent_verdict s o st = in_turn (leb 8 (length st.accents)) (accent_fine s o) (not (holds s st.accents (number_at s o))) (accent_held s o st)
 
 -- label, tone, prev, final ("0 any, 1 no, 2 yes"), form ("2 is single, 3 mixture")
 abbrev pub rule_fine : List ℕ → ℕ → Bool
-rule_fine s o =
-    leb (byte_at s (o + RULE_FINAL)) 2 && (eqb (byte_at s (o + RULE_FORM)) 2 || eqb (byte_at s (o + RULE_FORM)) 3)
+rule_fine s o = leb (byte_at s (o + RULE_FINAL)) 2 && (eqb (byte_at s (o + RULE_FORM)) 2 || eqb (byte_at s (o + RULE_FORM)) 3)
 
 abbrev pub rule_held : List ℕ → ℕ → PackRead → Bool
-rule_held s o st =
-    zero_or_held s st.tones (byte_at s (o + RULE_TONE)) && zero_or_held s st.tones (byte_at s (o + RULE_PREV))
+rule_held s o st = zero_or_held s st.tones (byte_at s (o + RULE_TONE)) && zero_or_held s st.tones (byte_at s (o + RULE_PREV))
 
 unfoldable pub rule_verdict : List ℕ → ℕ → PackRead → Result Unit Refusal
 rule_verdict s o st = in_turn (leb 64 (length st.rules)) (rule_fine s o) true (rule_held s o st)

@@ -1,7 +1,7 @@
 -- The ranges of document 01's fields, as tests on a record's bytes.
 use Rattle.std.specs.Prelude.{ℕ, ◌+◌, ◌*◌, Bool, true, false, cond, ◌&&◌, List, eqb, ltb, pos, Float}
 use Rattle.std.specs.Float.{inf, fin}
-use Rattle.std.specs.Float.Ieee.{lt, le, neg}
+use Rattle.std.specs.Float.Ieee.{lt, le}
 use Rattle.std.specs.Float.Ieee.Scale.{finite}
 use Rattle.tonekit_core.specs.Loop.{range}
 use Rattle.tonekit_core.specs.declared.layout.TheConstants.{F32_SIZE, REGION_FROM, REGION_TO, TOLERANCE_ONSET, TOLERANCE_OFFSET, TOLERANCE_TURNING}
@@ -15,10 +15,6 @@ above_zero x = lt zero32 x && lt x (inf false)
 -- "prior and threshold above 0, at most 1"
 unfoldable pub probability_fine : Float → Bool
 probability_fine x = lt zero32 x && le x one32
-
--- of size at most `most`
-unfoldable pub within : Float → Float → Bool
-within x most = le (neg most) x && le x most
 
 -- "Knots number 1 to 10, size at most 100"
 unfoldable pub knot_fine : Float → Bool

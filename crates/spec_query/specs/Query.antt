@@ -11,11 +11,13 @@ use Rattle.spec_arithmetic.specs.Fields.{byte_at, u16_at, u32_at, f32_at}
 use Rattle.spec_arithmetic.specs.Files.{judged}
 use Rattle.spec_query.specs.declared.Query.{Query}
 
+-- the tone of variant i
+abbrev pub variant_tone : List ℕ → ℕ → ℕ
+variant_tone s i = byte_at s (VARIANT_TONES + VARIANT_SIZE * i)
+
 -- "variant count u8 (at most 4), 4 times (tone u8, weight f32), unused ones zero": five zero bytes
 unfoldable pub variant_fine : List ℕ → ℕ → Bool
-variant_fine s i =
-    ltb i (byte_at s QUERY_VARIANT_COUNT)
-    || (eqb (byte_at s (VARIANT_TONES + VARIANT_SIZE * i)) 0 && eqb (u32_at s (VARIANT_WEIGHTS + VARIANT_SIZE * i)) 0)
+variant_fine s i = ltb i (byte_at s QUERY_VARIANT_COUNT) || (eqb (variant_tone s i) 0 && eqb (u32_at s (VARIANT_WEIGHTS + VARIANT_SIZE * i)) 0)
 
 unfoldable pub variants_fine : List ℕ → Bool
 variants_fine s = range (λ i ok. ok && variant_fine s i) 0 4 true
@@ -90,9 +92,6 @@ check_query s = said (load_query s)
 abbrev pub frames_of : List ℕ → ℕ → List ℕ
 frames_of s count = take (FRAME_SIZE * count) (drop QUERY_SIZE s)
 
--- variant i
-abbrev pub variant_tone : List ℕ → ℕ → ℕ
-variant_tone s i = byte_at s (VARIANT_TONES + VARIANT_SIZE * i)
-
+-- the weight of variant i
 abbrev pub variant_weight : List ℕ → ℕ → Float
 variant_weight s i = f32_at s (VARIANT_WEIGHTS + VARIANT_SIZE * i)

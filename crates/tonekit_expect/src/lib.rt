@@ -256,7 +256,7 @@ fn on_line(a: f32, b: f32, t: f64) -> f32
 }
 
 // Point i of ten.
-#[tactic(auto, unfolding(spec_lookup::specs::Knots::point_at, spec_lookup::specs::Knots::fraction, spec_lookup::specs::Knots::segment))]
+#[tactic(auto, unfolding(spec_lookup::specs::Knots::point_at, spec_lookup::specs::Knots::past_knot, spec_lookup::specs::Knots::segment))]
 fn point(knots: &[f32], i: usize) -> f32
     requires { Knots knots.now × (i < 10) }
     ensures { result ≡ point_at knots.now i }

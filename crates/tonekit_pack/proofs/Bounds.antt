@@ -1,7 +1,8 @@
 -- Ranges by the bits of their bounds, as the code has them. Assumes nothing.
 use Rattle.std.proofs.Common.{◌≡◌, refl, ◌&&◌, Float}
 use lib.Ieee.{binary32, lt, neg, of_bits}
-use Rattle.spec_pack.specs.Ranges.{above_zero, within, knot_fine}
+use Rattle.spec_pack.specs.Ranges.{above_zero, knot_fine}
+use Rattle.tonekit_pack.specs.Sizes.{within}
 
 pub above_bits : (x : Float) → above_zero x ≡ (lt (of_bits binary32 0) x && lt x (of_bits binary32 0x7f80_0000))
 unfolding above_zero of_bits

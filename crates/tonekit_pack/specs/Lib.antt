@@ -1,3 +1,4 @@
+pub mod Sizes
 pub mod Kinds
 pub mod Held
 pub mod Format

@@ -1,6 +1,7 @@
 // Tests of the ranges of document 01's fields, on a record's bytes.
 ghost use Rattle.std.specs.Prelude.{◌≡◌, ◌<◌};
-ghost use Rattle.spec_pack.specs.Ranges.{above_zero, probability_fine, within, weight_fine, slot_fine, knots_fine, region_fine, tolerances_fine};
+ghost use Rattle.spec_pack.specs.Ranges.{above_zero, probability_fine, weight_fine, slot_fine, knots_fine, region_fine, tolerances_fine};
+ghost use Rattle.tonekit_pack.specs.Sizes.{within};
 
 use tonekit_bytes::{byte_at, f32_at, u32_at};
 use tonekit_core::layout;
@@ -23,7 +24,7 @@ pub fn probability_fine(x: f32) -> bool
 }
 
 // Of size at most `most`.
-#[tactic(auto, unfolding(spec_pack::specs::Ranges::within))]
+#[tactic(auto, unfolding(crate::specs::Sizes::within))]
 pub fn within(x: f32, most: f32) -> bool
     ensures { result ≡ within x most }
 {
