@@ -131,15 +131,10 @@ record_verdict s o st = judged (due_after st.last) size_of (λ k. body_verdict k
 -- what has been read once the record of kind k at o is fine
 unfoldable pub added : ℕ → ℕ → PackRead → PackRead
 added k o st =
-    cond (eqb k TONE_KIND)
-    (record { last = k; tones = st.tones ++ (o ∷ []); accents = st.accents; firsts = st.firsts; rules = st.rules; parts = st.parts; total = st.total })
-    (cond (eqb k ACCENT_KIND)
-    (record { last = k; tones = st.tones; accents = st.accents ++ (o ∷ []); firsts = st.firsts ++ (length st.rules ∷ []); rules = st.rules; parts = st.parts; total = st.total })
-    (cond (eqb k RULE_KIND)
-    (record { last = k; tones = st.tones; accents = st.accents; firsts = st.firsts; rules = st.rules ++ (o ∷ []); parts = 0; total = st.total })
-    (cond (eqb k PART_KIND)
-    (record { last = k; tones = st.tones; accents = st.accents; firsts = st.firsts; rules = st.rules; parts = st.parts + 1; total = st.total + 1 })
-    (record { last = k; tones = st.tones; accents = st.accents; firsts = st.firsts; rules = st.rules; parts = st.parts; total = st.total }))))
+    cond (eqb k TONE_KIND) (record st { last = k; tones = st.tones ++ (o ∷ []) })
+    (cond (eqb k ACCENT_KIND) (record st { last = k; accents = st.accents ++ (o ∷ []); firsts = st.firsts ++ (length st.rules ∷ []) })
+    (cond (eqb k RULE_KIND) (record st { last = k; rules = st.rules ++ (o ∷ []); parts = 0 })
+    (cond (eqb k PART_KIND) (record st { last = k; parts = st.parts + 1; total = st.total + 1 }) (record st { last = k }))))
 
 -- "each Rule with its Parts": the parts that stand from an offset on, at most n
 unfoldable pub parts_from : ℕ → List ℕ → ℕ → ℕ

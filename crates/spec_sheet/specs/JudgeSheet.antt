@@ -1,6 +1,7 @@
 -- Document 01's Judgement with a sheet in the pack's place: the call `judge_sheet`, and the program `station_sheet`.
 use Rattle.std.specs.Prelude.{ℕ, List}
 use Rattle.tonekit_core.specs.Calls.{Outcome, refused}
+use Rattle.spec_arithmetic.specs.Files as files
 use Rattle.spec_judgement.specs.Input.{held_of, query_of}
 use Rattle.spec_judgement.specs.Judgement.{judgement}
 use Rattle.spec_sheet.specs.Reader.{load_sheet}

@@ -134,17 +134,11 @@ record_verdict s o st = judged (due_next st) size_of (λ k. body_verdict k s o s
 -- what has been read once the record of kind k at o, a list of so many components, is fine
 unfoldable pub added : ℕ → ℕ → ℕ → Sst → Sst
 added k o count st =
-    cond (eqb k SHEET_TONE_KIND)
-    (record { last = k; tones = st.tones ++ (o ∷ []); accents = st.accents; rows = st.rows; lists = st.lists; due = st.due; total = st.total })
-    (cond (eqb k SHEET_ACCENT_KIND)
-    (record { last = k; tones = st.tones; accents = st.accents ++ (o ∷ []); rows = st.rows; lists = st.lists; due = st.due; total = st.total })
-    (cond (eqb k SHEET_ROW_KIND)
-    (record { last = k; tones = st.tones; accents = st.accents; rows = st.rows + 1; lists = st.lists; due = st.due; total = st.total })
-    (cond (eqb k SHEET_LIST_KIND)
-    (record { last = k; tones = st.tones; accents = st.accents; rows = st.rows; lists = st.lists ++ (o ∷ []); due = count; total = st.total })
-    (cond (eqb k SHEET_COMPONENT_KIND)
-    (record { last = k; tones = st.tones; accents = st.accents; rows = st.rows; lists = st.lists; due = st.due - 1; total = st.total + 1 })
-    (record { last = k; tones = st.tones; accents = st.accents; rows = st.rows; lists = st.lists; due = st.due; total = st.total })))))
+    cond (eqb k SHEET_TONE_KIND) (record st { last = k; tones = st.tones ++ (o ∷ []) })
+    (cond (eqb k SHEET_ACCENT_KIND) (record st { last = k; accents = st.accents ++ (o ∷ []) })
+    (cond (eqb k SHEET_ROW_KIND) (record st { last = k; rows = st.rows + 1 })
+    (cond (eqb k SHEET_LIST_KIND) (record st { last = k; lists = st.lists ++ (o ∷ []); due = count })
+    (cond (eqb k SHEET_COMPONENT_KIND) (record st { last = k; due = st.due - 1; total = st.total + 1 }) (record st { last = k })))))
 
 -- where row r stands
 abbrev pub row_at : Sst → ℕ → ℕ

@@ -95,7 +95,7 @@ module _ (s : List ℕ) (at : ℕ) (st : PackRead) (r : List ℕ) (t : Tally) (h
   body_same (finish l u) q = rw (sym q)
 
   pub verdict_same : 0 < length r → record_verdict s at st ≡ record_verdict_of r t
-  unfolding record_verdict record_verdict_of tone_verdict accent_verdict rule_verdict part_verdict
+  unfolding record_verdict record_verdict_of body_verdict tone_verdict accent_verdict rule_verdict part_verdict
   verdict_same some =
       let b : byte_at s at ≡ kind r = byte_same s at r h at 0 (omega arith) some in
       let i = h.fits in

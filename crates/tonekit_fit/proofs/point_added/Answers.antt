@@ -1,6 +1,6 @@
 -- The sums at the loop's end are the definition's.
 use Rattle.std.proofs.Common.{rules}
-use Rattle.tonekit_core.specs.Loop.{ended}
+use Rattle.tonekit_core.proofs.LoopLaws.{ended}
 use Rattle.tonekit_fit.proofs.Powers.{powers_are}
 use Rattle.tonekit_fit.proofs.point_added.Goals as goal
 

@@ -1,6 +1,6 @@
 -- `fill_gap` meets its contract: a turn over the gap is a turn over the curve.
 use Rattle.std.proofs.Common.{arith, add-zero, ◌∙◌, length-set, ◌+◌, ◌-◌, ◌≡◌, ◌<◌, length, drop, length-take-le, length-drop}
-use Rattle.tonekit_core.specs.Loop.{again, ended}
+use Rattle.tonekit_core.proofs.LoopLaws.{again, ended}
 use Rattle.tonekit_shape.proofs.Gap.{fill_turn, joined_whole, gap_turn}
 use Rattle.tonekit_shape.proofs.curve.fill_gap.Goals as goal
 

@@ -1,5 +1,5 @@
 use Rattle.std.proofs.Common.{ap, rules}
-use Rattle.tonekit_core.specs.Loop.{ended}
+use Rattle.tonekit_core.proofs.LoopLaws.{ended}
 use Rattle.spec_shape.specs.Extract.{holes_filled, Filled}
 use Rattle.tonekit_shape.proofs.curve.fill_holes.Goals as goal
 
