@@ -9,7 +9,6 @@ use Rattle.spec_lookup.specs.Source.{Carried, Source, accent_in}
 use Rattle.spec_sheet.specs.Number.{same_numbers, same_carried, same, seen_in, place_in, noted, number_in}
 use Rattle.spec_sheet.specs.Pieces.{pieces, gather}
 use Rattle.spec_sheet.specs.Sheet.{asc_from, ascending, no_tone, no_accent, no_carried, row_context, view_of, lists_of, bits_bytes, components_bytes, bytes_with, sheet}
-use Rattle.tonekit_sheet.specs.Parts.{bytes_of}
 use Rattle.spec_sheet.specs.Reader.{point_fine}
 use Rattle.tonekit_sheet.specs.Fit.{f32, SettingsFit, ToneFit, AccentFit, CarriedFit, ListFit, components_in, Fit}
 
