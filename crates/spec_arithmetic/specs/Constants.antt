@@ -1,7 +1,31 @@
--- The numbers that the logarithms and the exponential are made with.
+-- The numbers that several definitions name, and those that the logarithms and the exponential are made with.
 use Rattle.std.specs.Prelude.{ℕ, pos, from_bits, Float}
-use Rattle.std.specs.Float.{binary64}
+use Rattle.std.specs.Float.{binary32, binary64}
 use Rattle.std.specs.Float.Ieee.{of_int}
+
+-- 0 and 1 as f32
+abbrev pub zero32 : Float
+zero32 = from_bits binary32 0
+
+abbrev pub one32 : Float
+one32 = from_bits binary32 0x3F80_0000
+
+-- 0, 1/2, 1 and 2 as f64
+abbrev pub zero64 : Float
+zero64 = from_bits binary64 0
+
+abbrev pub half : Float
+half = from_bits binary64 0x3FE0_0000_0000_0000
+
+abbrev pub one64 : Float
+one64 = from_bits binary64 0x3FF0_0000_0000_0000
+
+abbrev pub two : Float
+two = from_bits binary64 0x4000_0000_0000_0000
+
+-- the whole number n as an f64
+abbrev pub whole64 : ℕ → Float
+whole64 n = of_int binary64 (pos n)
 
 -- "LN2 is 0x3FE62E42FEFA39EF"
 abbrev pub LN2 : Float
@@ -15,15 +39,6 @@ LOG2E = from_bits binary64 0x3FF7_1547_652B_82FE
 abbrev pub ROOT2 : Float
 ROOT2 = from_bits binary64 0x3FF6_A09E_667F_3BCD
 
-abbrev pub half : Float
-half = from_bits binary64 0x3FE0_0000_0000_0000
-
-abbrev pub one : Float
-one = from_bits binary64 0x3FF0_0000_0000_0000
-
-abbrev pub two : Float
-two = from_bits binary64 0x4000_0000_0000_0000
-
 -- 708
 abbrev pub bound : Float
 bound = from_bits binary64 0x4086_2000_0000_0000
@@ -34,7 +49,3 @@ scale = from_bits binary64 0x4350_0000_0000_0000
 
 abbrev pub least : Float
 least = from_bits binary64 0x0010_0000_0000_0000
-
--- the whole number n as an f64
-abbrev pub num : ℕ → Float
-num n = of_int binary64 (pos n)

@@ -2,7 +2,7 @@
 use Rattle.std.specs.Prelude.{ℕ, zero, suc, ◌+◌, ◌-◌, ◌*◌, ◌/◌, true, false, cond, ℤ, pos, neg_ℤ, is_nan, Float}
 use Rattle.std.specs.Float.{nan, inf, fin, binary64}
 use Rattle.std.specs.Float.Ieee.{up, down, add, sub, mul, div, neg, lt, of_int}
-use Rattle.spec_arithmetic.specs.Constants.{LN2, LOG2E, half, one, bound, num}
+use Rattle.spec_arithmetic.specs.Constants.{LN2, LOG2E, half, one64, bound, whole64}
 
 -- "floor": the whole number at or below x
 unfoldable pub floor_of : Float → ℤ
@@ -14,12 +14,12 @@ floor_of (fin true m e) = neg_ℤ (pos ((m * up e + (down e - 1)) / down e))
 -- "for j from [k] down to 1, q becomes 1 + (r·q)/j"
 unfoldable pub steps : ℕ → Float → Float → Float
 steps zero r q = q
-steps (suc j) r q = steps j r (add binary64 one (div binary64 (mul binary64 r q) (num (suc j))))
+steps (suc j) r q = steps j r (add binary64 one64 (div binary64 (mul binary64 r q) (whole64 (suc j))))
 
 -- "q = 1; for j from 13 down to 1 .."
 unfoldable pub exp_series : Float → Float
 unfolding steps
-exp_series r = steps 13 r one
+exp_series r = steps 13 r one64
 
 -- "v·LOG2E + 0.5"
 abbrev pub turns : Float → Float

@@ -5,8 +5,8 @@ pub mod Narrow
 pub mod Magnitude
 pub mod Whole
 pub mod Bounds
-pub mod Position
 pub mod Constants
+pub mod Position
 pub mod Log
 pub mod Exp
 pub mod Root

@@ -2,12 +2,12 @@
 use Rattle.std.specs.Prelude.{ℕ, zero, suc, ◌+◌, ◌-◌, ◌*◌, ◌/◌, ◌%◌, ◌^◌, ◌≤◌, true, false, cond, ℤ, pos, negsuc, from_bits, to_bits, Float, ◌≡◌, Result, Ok, Err}
 use Rattle.std.specs.Float.{nan, inf, fin, binary64}
 use Rattle.std.specs.Float.Ieee.{add, sub, mul, div, lt, of_int, up, down, size, round, minus}
-use Rattle.spec_arithmetic.specs.Constants.{LN2, LOG2E, ROOT2, half, one, two, scale, least, num}
+use Rattle.spec_arithmetic.specs.Constants.{LN2, LOG2E, ROOT2, half, one64, two, scale, least, whole64}
 use Rattle.spec_arithmetic.specs.declared.Parts.{Parts}
 
 -- 1 / (2 j + 1)
 abbrev pub recip : ℕ → Float
-recip j = div binary64 one (num (2 * j + 1))
+recip j = div binary64 one64 (whole64 (2 * j + 1))
 
 -- "for j from [k - 1] down to 0 replace p by p·z + 1/(2j+1)"
 unfoldable pub steps : ℕ → Float → Float → Float
@@ -16,7 +16,7 @@ steps (suc j) z p = steps j z (add binary64 (mul binary64 p z) (recip j))
 
 -- "s = (m−1)/(m+1)"
 abbrev pub ratio : Float → Float
-ratio m = div binary64 (sub binary64 m one) (add binary64 m one)
+ratio m = div binary64 (sub binary64 m one64) (add binary64 m one64)
 
 -- "z = s·s. Start with p = 1/23, and for j from 10 down to 0 ..": (2·s)·p
 unfoldable pub series : Float → Float
@@ -31,7 +31,7 @@ parts_of x = record { m = round binary64 false x (2 ^ (size x - 1)); e = of_int 
 
 -- "if m > 1.4142135623730951, halve m and add 1 to e"
 unfoldable pub centred : Parts → Parts
-centred p = cond (lt ROOT2 p.m) (record { m = mul binary64 p.m half; e = add binary64 p.e one }) p
+centred p = cond (lt ROOT2 p.m) (record { m = mul binary64 p.m half; e = add binary64 p.e one64 }) p
 
 -- "ln is e·LN2 + (2·s)·p"
 unfoldable pub ln_at : Parts → Float
@@ -74,9 +74,9 @@ Exponent (negsuc k) = suc k ≤ 1074
 -- ---- how the code finds m and e
 -- a normal number's: the digits with 1's exponent, and the exponent's field less its bias
 unfoldable pub fields : Float → Parts
-fields x = record { m = from_bits binary64 (0x3FF0_0000_0000_0000 + to_bits binary64 x % 2 ^ 52); e = sub binary64 (num (to_bits binary64 x / 2 ^ 52)) (num 1023) }
+fields x = record { m = from_bits binary64 (0x3FF0_0000_0000_0000 + to_bits binary64 x % 2 ^ 52); e = sub binary64 (whole64 (to_bits binary64 x / 2 ^ 52)) (whole64 1023) }
 
 -- "Subnormals are first scaled by 2^54, e lowered by 54"
 unfoldable pub scaled : Float → Parts
 unfolding fields
-scaled x = cond (lt x least) (record { m = (fields (mul binary64 x scale)).m; e = sub binary64 (fields (mul binary64 x scale)).e (num 54) }) (fields x)
+scaled x = cond (lt x least) (record { m = (fields (mul binary64 x scale)).m; e = sub binary64 (fields (mul binary64 x scale)).e (whole64 54) }) (fields x)

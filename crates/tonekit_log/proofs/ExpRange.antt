@@ -13,7 +13,7 @@ use Rattle.tonekit_float.proofs.Order.{yes, lt→le, le→under, under→le, neg
 use Rattle.tonekit_float.proofs.Monotone.{Rounds, zero_f, add_rounds, mul_rounds, mul_comm_float}
 use Rattle.tonekit_float.proofs.Bounds.{in_wider, in_add, in_mul, in_div, in_scale, finite4, about0}
 use Rattle.tonekit_float.proofs.Exact.{rounds_under, rounds_over, whole, whole_worth}
-use Rattle.spec_arithmetic.specs.Constants.{LN2, LOG2E, half, one, bound, num}
+use Rattle.spec_arithmetic.specs.Constants.{LN2, LOG2E, half, one64, bound, whole64}
 use Rattle.tonekit_log.proofs.Powers.{minus_is}
 use Rattle.tonekit_log.proofs.Turns.{inside, keeps, v_finite, times_finite, turns_finite, no_deeper}
 use Rattle.tonekit_log.proofs.ExpCases.{exp_is, low_result}
@@ -379,13 +379,13 @@ two_f = fin false 1 (pos 1)
 
 -- a step's least and greatest result
 abbrev least_step : ℕ → Float
-least_step j = div binary64 (mul binary64 most_q least_r) (num j)
+least_step j = div binary64 (mul binary64 most_q least_r) (whole64 j)
 
 abbrev most_step : ℕ → Float
-most_step j = div binary64 (mul binary64 most_q most_r) (num j)
+most_step j = div binary64 (mul binary64 most_q most_r) (whole64 j)
 
 abbrev step_ok : ℕ → Bool
-step_ok j = positive (num j) && finite4 one one (least_step j) (most_step j) && (le least_q (add binary64 one (least_step j)) && le (add binary64 one (most_step j)) most_q)
+step_ok j = positive (whole64 j) && finite4 one64 one64 (least_step j) (most_step j) && (le least_q (add binary64 one64 (least_step j)) && le (add binary64 one64 (most_step j)) most_q)
 
 steps_ok : ℕ → Bool
 steps_ok zero = true
@@ -399,35 +399,35 @@ product_ends : T (finite (mul binary64 most_q least_r) && finite (mul binary64 m
 unfolding mul round le lt eq
 product_ends = (tt, tt, tt)
 
-one_in : In one one one
+one_in : In one64 one64 one64
 unfolding of_bits le lt eq
 one_in = record { low = tt; high = tt }
 
-step_in : (j : ℕ) (r q : Float) → T (step_ok j) → In least_r most_r r → In least_q most_q q → In least_q most_q (add binary64 one (div binary64 (mul binary64 r q) (num j)))
+step_in : (j : ℕ) (r q : Float) → T (step_ok j) → In least_r most_r r → In least_q most_q q → In least_q most_q (add binary64 one64 (div binary64 (mul binary64 r q) (whole64 j)))
 step_in j r q t hr hq =
-    let A = positive (num j) in
-    let B = finite4 one one (least_step j) (most_step j) in
-    let C = le least_q (add binary64 one (least_step j)) && le (add binary64 one (most_step j)) most_q in
+    let A = positive (whole64 j) in
+    let B = finite4 one64 one64 (least_step j) (most_step j) in
+    let C = le least_q (add binary64 one64 (least_step j)) && le (add binary64 one64 (most_step j)) most_q in
     let m : In (mul binary64 most_q least_r) (mul binary64 most_q most_r) (mul binary64 r q) =
     subst (λ (y : Float). In (mul binary64 most_q least_r) (mul binary64 most_q most_r) y) (mul_comm_float binary64 q r)
     (in_scale binary64 product_ends.1 (in_wider product_ends.2 hq) hr) in
     in_wider (and_r (A && B) C t)
-    (in_add binary64 (and_r A B (and_l (A && B) C t)) one_in (in_div binary64 (num j) product_ends.0 (and_l A B (and_l (A && B) C t)) m))
+    (in_add binary64 (and_r A B (and_l (A && B) C t)) one_in (in_div binary64 (whole64 j) product_ends.0 (and_l A B (and_l (A && B) C t)) m))
 
 steps_in : (j : ℕ) (r q : Float) → T (steps_ok j) → In least_r most_r r → In least_q most_q q → In least_q most_q (steps j r q)
 unfolding steps steps_ok
 steps_in zero r q t hr hq = hq
 steps_in (suc j) r q t hr hq =
-    steps_in j r (add binary64 one (div binary64 (mul binary64 r q) (num (suc j)))) (and_r (step_ok (suc j)) (steps_ok j) t) hr
+    steps_in j r (add binary64 one64 (div binary64 (mul binary64 r q) (whole64 (suc j)))) (and_r (step_ok (suc j)) (steps_ok j) t) hr
     (step_in (suc j) r q (and_l (step_ok (suc j)) (steps_ok j) t) hr hq)
 
-start : In least_q most_q one
+start : In least_q most_q one64
 unfolding of_bits le lt eq
 start = record { low = tt; high = tt }
 
 series_in : (r : Float) → In least_r most_r r → In least_q most_q (exp_series r)
 unfolding exp_series
-series_in r h = steps_in 13 r one steps_13 h start
+series_in r h = steps_in 13 r one64 steps_13 h start
 
 -- ---- 2 ^ -k
 power_in : (k : ℕ) → In zero_f one_f (fin false 1 (neg_ℤ (pos k)))

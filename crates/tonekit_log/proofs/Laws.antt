@@ -9,7 +9,7 @@ use Rattle.tonekit_float.proofs.Monotone.{zero_f}
 use Rattle.tonekit_float.proofs.Bounds.{in_finite}
 use Rattle.tonekit_float.proofs.Signs.{below}
 use Rattle.spec_arithmetic.specs.declared.Parts.{Parts}
-use Rattle.spec_arithmetic.specs.Constants.{LN2, LOG2E, one, bound}
+use Rattle.spec_arithmetic.specs.Constants.{LN2, LOG2E, one64, bound}
 use Rattle.spec_arithmetic.specs.Log.{Exponent, series, ln_at, log2_at, log_by, ln_of, log2_of}
 use Rattle.spec_arithmetic.specs.Exp.{exp_series, turns, rest, floor_of, exp_by, exp_of}
 use Rattle.tonekit_log.proofs.LogCases.{ln_is, log2_is, none_of}
@@ -20,7 +20,7 @@ use Rattle.tonekit_log.proofs.ExpRange.{exp_in}
 
 -- ---- powers of two
 -- at m = 1 the series gives exactly 0
-pub series_at_one : series one ≡ zero_f
+pub series_at_one : series one64 ≡ zero_f
 unfolding series mul div add sub of_bits of_int
 series_at_one = refl
 
@@ -90,7 +90,7 @@ pub log2_nan : log2_of nan ≡ nan
 log2_nan = log2_is nan ∙ by_nan log2_at
 
 -- ---- exp
-pub exp_zero : (s : Bool) → exp_of (fin s 0 (pos 0)) ≡ one
+pub exp_zero : (s : Bool) → exp_of (fin s 0 (pos 0)) ≡ one64
 unfolding exp_of is_nan lt neg of_bits of_int add sum sub mul div round
 exp_zero true = refl
 exp_zero false = refl

@@ -18,7 +18,7 @@ use Rattle.tonekit_float.proofs.Size.{within_lit, in_within}
 use Rattle.tonekit_float.proofs.Patterns.{units_in, units_pos, units_lt}
 use Rattle.tonekit_float.proofs.Signs as signs
 use Rattle.spec_arithmetic.specs.declared.Parts.{Parts}
-use Rattle.spec_arithmetic.specs.Constants.{LN2, LOG2E, ROOT2, half, one, two}
+use Rattle.spec_arithmetic.specs.Constants.{LN2, LOG2E, ROOT2, half, one64, two}
 use Rattle.spec_arithmetic.specs.Log.{recip, steps, ratio, series, parts_of, centred, ln_at, log2_at, log_by}
 use Rattle.tonekit_log.proofs.Powers.{minus_is, from_above}
 use Rattle.tonekit_log.proofs.LogCases.{number_is}
@@ -84,26 +84,26 @@ in_quotient x y h k =
 abbrev low_m : Float
 low_m = mul binary64 ROOT2 half
 
-one_finite : T (finite one) × T (finite low_m && finite ROOT2) × T (finite ROOT2 && finite two) × T (finite half) × T (le zero_f half)
+one_finite : T (finite one64) × T (finite low_m && finite ROOT2) × T (finite ROOT2 && finite two) × T (finite half) × T (le zero_f half)
 unfolding of_bits mul round le lt eq
 one_finite = (tt, tt, tt, tt, tt)
 
-sub_ends : T (le below1 (sub binary64 low_m one) && le (sub binary64 ROOT2 one) above1)
+sub_ends : T (le below1 (sub binary64 low_m one64) && le (sub binary64 ROOT2 one64) above1)
 unfolding of_bits mul sub add neg round le lt eq
 sub_ends = tt
 
-add_ends : T (le divisor (add binary64 low_m one) && le (add binary64 ROOT2 one) (fin false 3 (pos 0)))
+add_ends : T (le divisor (add binary64 low_m one64) && le (add binary64 ROOT2 one64) (fin false 3 (pos 0)))
 unfolding of_bits mul add round le lt eq
 add_ends = tt
 
-four_finite : T (finite low_m && finite ROOT2 && (finite one && finite one))
+four_finite : T (finite low_m && finite ROOT2 && (finite one64 && finite one64))
 unfolding of_bits mul round
 four_finite = tt
 
 ratio_in : (m : Float) → In low_m ROOT2 m → In minus_quarter quarter (ratio m)
 ratio_in m h =
-    let o = at_itself one one_finite.0 in
-    in_quotient (sub binary64 m one) (add binary64 m one)
+    let o = at_itself one64 one_finite.0 in
+    in_quotient (sub binary64 m one64) (add binary64 m one64)
     (in_wider sub_ends (in_sub binary64 four_finite h o))
     (in_wider add_ends (in_add binary64 four_finite h o))
 
@@ -224,7 +224,7 @@ series_in m h =
     (in_wider product_ends (in_scale binary64 about_half hp h2))
 
 -- ---- m and e of a positive number
-power_is : round binary64 false 1 1 ≡ one
+power_is : round binary64 false 1 1 ≡ one64
 unfolding round of_bits
 power_is = refl
 
@@ -232,7 +232,7 @@ power2_is : round binary64 false 2 1 ≡ two
 unfolding round of_bits
 power2_is = refl
 
-mantissa_in : (n : ℕ) → 0 < n → In one two (round binary64 false n (2 ^ (size n - 1)))
+mantissa_in : (n : ℕ) → 0 < n → In one64 two (round binary64 false n (2 ^ (size n - 1)))
 mantissa_in n p =
     let d = size n in
     let D : 0 < d = size_gt n 0 p in
@@ -287,29 +287,29 @@ half_ends : T (le low_m (mul binary64 ROOT2 half) && le (mul binary64 two half) 
 unfolding of_bits mul round le lt eq
 half_ends = tt
 
-raised : T (finite4 (neg (W 1074)) (W 1023) one one) × T (le (neg (W 1074)) (add binary64 (neg (W 1074)) one) && le (add binary64 (W 1023) one) (W 1024))
+raised : T (finite4 (neg (W 1074)) (W 1023) one64 one64) × T (le (neg (W 1074)) (add binary64 (neg (W 1074)) one64) && le (add binary64 (W 1023) one64) (W 1024))
 unfolding of_bits neg add sum of_int round le lt eq
 raised = (tt, tt)
 
-kept : T (le low_m one && le ROOT2 ROOT2) × T (le (neg (W 1074)) (neg (W 1074)) && le (W 1023) (W 1024))
+kept : T (le low_m one64 && le ROOT2 ROOT2) × T (le (neg (W 1074)) (neg (W 1074)) && le (W 1023) (W 1024))
 unfolding of_bits neg mul of_int round le lt eq
 kept = (tt, tt)
 
-root_finite : T (finite ROOT2) × T (finite one && finite two)
+root_finite : T (finite ROOT2) × T (finite one64 && finite two)
 unfolding of_bits
 root_finite = (tt, tt)
 
-centred_in : (m e : Float) → In one two m → In (neg (W 1074)) (W 1023) e → Centred (centred (record { m = m; e = e }))
+centred_in : (m e : Float) → In one64 two m → In (neg (W 1074)) (W 1023) e → Centred (centred (record { m = m; e = e }))
 unfolding centred
 centred_in m e hm he = go (lt ROOT2 m) refl
   where
     F : T (finite m)
     F = in_finite root_finite.1 hm
 
-    go : (b : Bool) → lt ROOT2 m ≡ b → Centred (cond b (record { m = mul binary64 m half; e = add binary64 e one }) (record { m = m; e = e }))
+    go : (b : Bool) → lt ROOT2 m ≡ b → Centred (cond b (record { m = mul binary64 m half; e = add binary64 e one64 }) (record { m = m; e = e }))
     go true q = record {
       m_in = in_wider half_ends (in_times ROOT2 two half one_finite.2 one_finite.3 one_finite.4 (record { low = lt→le ROOT2 m (yes q); high = hm.high }));
-      e_in = in_wider raised.1 (in_add binary64 raised.0 he (at_itself one one_finite.0));
+      e_in = in_wider raised.1 (in_add binary64 raised.0 he (at_itself one64 one_finite.0));
     }
     go false q = record {
       m_in = in_wider kept.0 (record { low = hm.low; high = not-lt→le ROOT2 m root_finite.0 F q });

@@ -12,7 +12,7 @@ use lib.Ieee.Exact.{HasValue, round_exact}
 use lib.Ieee.Positive.{mul_at, positive_of_value}
 use lib.Ieee.Scale.{round_same}
 use Rattle.spec_arithmetic.specs.declared.Parts.{Parts}
-use Rattle.spec_arithmetic.specs.Constants.{num, scale, least}
+use Rattle.spec_arithmetic.specs.Constants.{whole64, scale, least}
 use Rattle.spec_arithmetic.specs.Log.{fields, parts_of, scaled}
 use Rattle.tonekit_float.proofs.Units.{units_value, unique, opened, sub_at, size_gt}
 use Rattle.tonekit_float.proofs.NarrowRound.{L}
@@ -75,16 +75,16 @@ sub_less f (fin false m e) (fin false n d) a b c C h v w =
     ∙ round_same f true (B - A) D (b - a) c (mul-pos (down_pos e) (down_pos d)) C
     (mul_comm (B - A) c ∙ mul-sub c B A ∙ ap (λ (z : ℕ). z - c * A) (mul_comm c B ∙ y ∙ mul_comm b D) ∙ ap (λ (z : ℕ). D * b - z) (mul_comm c A ∙ x ∙ mul_comm a D) ∙ sym (mul-sub D b a) ∙ mul_comm D (b - a))
 
-pub int_sub : (a b : ℕ) → a ≤ 2 ^ 53 → b ≤ 2 ^ 53 → sub binary64 (num a) (num b) ≡ of_int binary64 (minus a b)
+pub int_sub : (a b : ℕ) → a ≤ 2 ^ 53 → b ≤ 2 ^ 53 → sub binary64 (whole64 a) (whole64 b) ≡ of_int binary64 (minus a b)
 unfolding of_int
 int_sub a b ha hb = go (leb b a) (leb→le b a) (nleb→lt b a)
   where
     gap : (a b : ℕ) → a < b → b - a ≡ suc (b - suc a)
     gap a b h = omega arith
 
-    go : (t : Bool) → (T t → b ≤ a) → (T (not t) → a < b) → sub binary64 (num a) (num b) ≡ of_int binary64 (cond t (pos (a - b)) (negsuc (b - suc a)))
-    go true p q = sub_at binary64 (num a) (num b) a b 1 (lit< tt) (p tt) (whole_value binary64 a ha) (whole_value binary64 b hb)
-    go false p q = sub_less binary64 (num a) (num b) a b 1 (lit< tt) (q tt) (whole_value binary64 a ha) (whole_value binary64 b hb) ∙ ap (λ (n : ℕ). round binary64 true n 1) (gap a b (q tt))
+    go : (t : Bool) → (T t → b ≤ a) → (T (not t) → a < b) → sub binary64 (whole64 a) (whole64 b) ≡ of_int binary64 (cond t (pos (a - b)) (negsuc (b - suc a)))
+    go true p q = sub_at binary64 (whole64 a) (whole64 b) a b 1 (lit< tt) (p tt) (whole_value binary64 a ha) (whole_value binary64 b hb)
+    go false p q = sub_less binary64 (whole64 a) (whole64 b) a b 1 (lit< tt) (q tt) (whole_value binary64 a ha) (whole_value binary64 b hb) ∙ ap (λ (n : ℕ). round binary64 true n 1) (gap a b (q tt))
 
 -- ---- a normal float
 pub shift_minus : (a b k : ℕ) → minus (a + k) (b + k) ≡ minus a b
@@ -104,9 +104,9 @@ pub parts : {a b c d : Float} → a ≡ b → c ≡ d → ◌≡◌ {A = Parts} 
 parts p q = λ i. record { m = p i; e = q i }
 
 fields_is : (x : Float) (t f : ℕ) → to_bits binary64 x % 2 ^ 52 ≡ t → to_bits binary64 x / 2 ^ 52 ≡ f
-    → fields x ≡ record { m = of_bits binary64 (0x3FF0_0000_0000_0000 + t); e = sub binary64 (num f) (num 1023) }
+    → fields x ≡ record { m = of_bits binary64 (0x3FF0_0000_0000_0000 + t); e = sub binary64 (whole64 f) (whole64 1023) }
 unfolding fields
-fields_is x t f p q = parts (ap (λ (z : ℕ). of_bits binary64 (0x3FF0_0000_0000_0000 + z)) p) (ap (λ (z : ℕ). sub binary64 (num z) (num 1023)) q)
+fields_is x t f p q = parts (ap (λ (z : ℕ). of_bits binary64 (0x3FF0_0000_0000_0000 + z)) p) (ap (λ (z : ℕ). sub binary64 (whole64 z) (whole64 1023)) q)
 
 pub parts_of_is : (X : ℕ) (a b : Float) → round binary64 false X (2 ^ (size X - 1)) ≡ a → of_int binary64 (minus (size X) 1075) ≡ b → parts_of X ≡ record { m = a; e = b }
 unfolding parts_of
@@ -136,7 +136,7 @@ fields_of_lem (fin false m e) n p v lo hi =
     let n-is : n ≡ D * 2 ^ g =
     same_value y n (D * 2 ^ g) v (subst (λ (x : Float). HasValue x false (D * 2 ^ g) L) (of_bits-to_bits binary64 y p) (normal_value b g b_lt f52 F.1)) in
     fields_is y t (suc g) refl f52
-    ∙ sym (parts_of_is n (of_bits binary64 (0x3FF0_0000_0000_0000 + t)) (sub binary64 (num (suc g)) (num 1023))
+    ∙ sym (parts_of_is n (of_bits binary64 (0x3FF0_0000_0000_0000 + t)) (sub binary64 (whole64 (suc g)) (whole64 1023))
     (ap (λ (k : ℕ). round binary64 false n (2 ^ k)) F.5
     ∙ round_same binary64 false n (2 ^ (52 + g)) D (2 ^ 52) (pow_pos (52 + g)) (pow_pos 52)
     (ap (λ (k : ℕ). k * 2 ^ 52) n-is ∙ mul_assoc D (2 ^ g) (2 ^ 52) ∙ ap (λ (k : ℕ). D * k) (mul_comm (2 ^ g) (2 ^ 52) ∙ sym (pow-add 2 52 g)))
@@ -173,11 +173,11 @@ pub of_int_neg : (k : ℕ) → of_int binary64 (negsuc k) ≡ round binary64 tru
 unfolding of_int
 of_int_neg k = refl
 
-lowered : (z : ℕ) → z ≤ 52 → sub binary64 (of_int binary64 (minus (z + 54) 1075)) (num 54) ≡ of_int binary64 (minus z 1075)
+lowered : (z : ℕ) → z ≤ 52 → sub binary64 (of_int binary64 (minus (z + 54) 1075)) (whole64 54) ≡ of_int binary64 (minus z 1075)
 lowered z h =
     let k = 1075 - suc (z + 54) in
-    ap (λ (i : ℤ). sub binary64 (of_int binary64 i) (num 54)) (minus_low (z + 54) (low54 z h))
-    ∙ sub_neg_at binary64 (of_int binary64 (negsuc k)) (num 54) (suc k) 54 1 (lit< tt) (neg_int k (small z h)) (whole_value binary64 54 (lit≤ tt))
+    ap (λ (i : ℤ). sub binary64 (of_int binary64 i) (whole64 54)) (minus_low (z + 54) (low54 z h))
+    ∙ sub_neg_at binary64 (of_int binary64 (negsuc k)) (whole64 54) (suc k) 54 1 (lit< tt) (neg_int k (small z h)) (whole_value binary64 54 (lit≤ tt))
     ∙ ap (λ (n : ℕ). round binary64 true n 1) (gap z h)
     ∙ sym (of_int_neg (1075 - suc z))
     ∙ ap (λ (i : ℤ). of_int binary64 i) (sym (minus_low z (low0 z h)))
@@ -195,7 +195,7 @@ lowered z h =
     gap z h = omega arith
 
 subnormal : (y : Float) (n : ℕ) → 0 < n → n < 2 ^ 52 → T (fits binary64 y) → HasValue y false (n * 2 ^ 54) L
-    → ◌≡◌ {A = Parts} (record { m = (fields y).m; e = sub binary64 (fields y).e (num 54) }) (parts_of n)
+    → ◌≡◌ {A = Parts} (record { m = (fields y).m; e = sub binary64 (fields y).e (whole64 54) }) (parts_of n)
 subnormal y n p h q v =
     let z = size n in
     let s : size (n * 2 ^ 54) ≡ z + 54 = size_shl n 54 p in
@@ -208,7 +208,7 @@ subnormal y n p h q v =
     ∙ round_same binary64 false (n * 2 ^ 54) (2 ^ (z + 54 - 1)) n (2 ^ (z - 1)) (pow_pos (z + 54 - 1)) (pow_pos (z - 1))
     (mul_assoc n (2 ^ 54) (2 ^ (z - 1)) ∙ ap (λ (k : ℕ). n * k) (sym (pow-add 2 54 (z - 1)) ∙ ap (λ (k : ℕ). 2 ^ k) (join z z1))))
     (ap (λ (k : ℕ). of_int binary64 (minus k 1075)) s) in
-    ap (λ (r : Parts). record { m = r.m; e = sub binary64 r.e (num 54) }) (F ∙ G)
+    ap (λ (r : Parts). record { m = r.m; e = sub binary64 r.e (whole64 54) }) (F ∙ G)
     ∙ parts refl (lowered z z52)
     ∙ sym (parts_of_is n (round binary64 false n (2 ^ (z - 1))) (of_int binary64 (minus z 1075)) refl refl)
   where
@@ -229,7 +229,7 @@ scaled_value x n p h v =
     le_lt : (a b : ℕ) → a < b → a ≤ b
     le_lt a b h = omega arith
 
-is_scaled : (x : Float) → lt x least ≡ true → scaled x ≡ record { m = (fields (mul binary64 x scale)).m; e = sub binary64 (fields (mul binary64 x scale)).e (num 54) }
+is_scaled : (x : Float) → lt x least ≡ true → scaled x ≡ record { m = (fields (mul binary64 x scale)).m; e = sub binary64 (fields (mul binary64 x scale)).e (whole64 54) }
 unfolding scaled
 is_scaled x h = rw h
 

@@ -15,7 +15,7 @@ use Rattle.tonekit_float.proofs.Exact.{round_own, whole, whole_le}
 use Rattle.tonekit_float.proofs.Size.{within_whole, within_neg, within_mul, within_lit}
 use Rattle.spec_arithmetic.specs.Bounds.{Within}
 use Rattle.spec_arithmetic.specs.declared.Parts.{Parts}
-use Rattle.spec_arithmetic.specs.Constants.{LN2, LOG2E, one}
+use Rattle.spec_arithmetic.specs.Constants.{LN2, LOG2E, one64}
 use Rattle.spec_arithmetic.specs.Log.{Exponent, parts_of, centred, series, ln_at, log2_at, log_by}
 use Rattle.tonekit_log.proofs.PartsOf.{parts_of_is, shift_minus}
 use Rattle.tonekit_log.proofs.LogCases.{number_is}
@@ -132,14 +132,14 @@ unfolding mul of_bits round
 none_more = refl
 
 -- ---- 2 ^ j units of 2 ^ -1074
-one_is : round binary64 false 1 1 ≡ one
+one_is : round binary64 false 1 1 ≡ one64
 unfolding round of_bits
 one_is = refl
 
-parts_at : (j : ℕ) → parts_of (2 ^ j) ≡ record { m = one; e = of_int binary64 (minus j 1074) }
+parts_at : (j : ℕ) → parts_of (2 ^ j) ≡ record { m = one64; e = of_int binary64 (minus j 1074) }
 parts_at j =
     let s : size (2 ^ j) ≡ suc j = size_at (2 ^ j) j (le_of_eq refl) (pow-lt (below j)) in
-    parts_of_is (2 ^ j) one (of_int binary64 (minus j 1074))
+    parts_of_is (2 ^ j) one64 (of_int binary64 (minus j 1074))
     (ap (λ (k : ℕ). round binary64 false (2 ^ j) (2 ^ k)) (ap (λ (k : ℕ). k - 1) s ∙ less j)
     ∙ round_same binary64 false (2 ^ j) (2 ^ j) 1 1 (pow_pos j) (lit< tt) (mul_comm (2 ^ j) 1)
     ∙ one_is)
@@ -154,19 +154,19 @@ parts_at j =
     plus : (j : ℕ) → suc j ≡ j + 1
     plus j = omega arith
 
-stays : (e : Float) → centred (record { m = one; e = e }) ≡ record { m = one; e = e }
+stays : (e : Float) → centred (record { m = one64; e = e }) ≡ record { m = one64; e = e }
 unfolding centred lt of_bits
 stays e = refl
 
-at_units : (f : Parts → Float) (k : ℤ) (j : ℕ) → 1 * up k * 2 ^ 1074 / down k ≡ 2 ^ j → minus j 1074 ≡ k → log_by f (fin false 1 k) ≡ f (record { m = one; e = of_int binary64 k })
+at_units : (f : Parts → Float) (k : ℤ) (j : ℕ) → 1 * up k * 2 ^ 1074 / down k ≡ 2 ^ j → minus j 1074 ≡ k → log_by f (fin false 1 k) ≡ f (record { m = one64; e = of_int binary64 k })
 at_units f k j p q =
     number_is f 0 k
     ∙ ap (λ (n : ℕ). f (centred (parts_of n))) p
     ∙ ap (λ (r : Parts). f (centred r)) (parts_at j)
     ∙ ap f (stays (of_int binary64 (minus j 1074)))
-    ∙ ap (λ (i : ℤ). f (record { m = one; e = of_int binary64 i })) q
+    ∙ ap (λ (i : ℤ). f (record { m = one64; e = of_int binary64 i })) q
 
-pub at_power : (f : Parts → Float) (k : ℤ) → Exponent k → log_by f (fin false 1 k) ≡ f (record { m = one; e = of_int binary64 k })
+pub at_power : (f : Parts → Float) (k : ℤ) → Exponent k → log_by f (fin false 1 k) ≡ f (record { m = one64; e = of_int binary64 k })
 at_power f (pos k) h =
     at_units f (pos k) (k + 1074) (div-one (1 * 2 ^ k * 2 ^ 1074) ∙ ap (λ (z : ℕ). z * 2 ^ 1074) (one-mul (2 ^ k)) ∙ sym (pow-add 2 k 1074)) (shift_minus k 0 1074 ∙ zero_minus k)
   where
@@ -190,10 +190,10 @@ at_power f (negsuc k) h =
     twice k h = omega arith
 
 -- ---- both logarithms
-pub log2_at_one : (e : Float) → log2_at (record { m = one; e = e }) ≡ add binary64 e (mul binary64 (series one) LOG2E)
+pub log2_at_one : (e : Float) → log2_at (record { m = one64; e = e }) ≡ add binary64 e (mul binary64 (series one64) LOG2E)
 unfolding log2_at
 log2_at_one e = refl
 
-pub ln_at_one : (e : Float) → ln_at (record { m = one; e = e }) ≡ add binary64 (mul binary64 e LN2) (series one)
+pub ln_at_one : (e : Float) → ln_at (record { m = one64; e = e }) ≡ add binary64 (mul binary64 e LN2) (series one64)
 unfolding ln_at
 ln_at_one e = refl
