@@ -18,7 +18,8 @@ use Rattle.spec_arithmetic.specs.Root.{root_of}
 use Rattle.spec_arithmetic.specs.Log.{ln_of}
 use Rattle.spec_arithmetic.specs.Exp.{exp_of}
 use Rattle.spec_shape.specs.declared.ToneShape.{ToneShape}
-use Rattle.spec_judgement.specs.Score.{zero64, zero32, million, empty, add_to, value_of, distance_of, no_mixing, led, mix_turn, mixture_of, mixture_log, calibrate, clamp_log, scoring_of}
+use Rattle.spec_arithmetic.specs.Constants.{zero64, zero32}
+use Rattle.spec_judgement.specs.Score.{million, empty, add_to, value_of, distance_of, no_mixing, led, mix_turn, mixture_of, mixture_log, calibrate, clamp_log, scoring_of}
 use Rattle.spec_judgement.specs.declared.Settings.{Settings}
 use Rattle.spec_judgement.specs.declared.Tolerance.{Tolerance}
 use Rattle.spec_judgement.specs.declared.Scoring.{Scoring}

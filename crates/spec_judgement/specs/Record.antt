@@ -4,7 +4,7 @@ use Rattle.std.specs.Option.{option_map_or}
 use Rattle.tonekit_core.specs.declared.layout.TheConstants.{JUDGEMENT_KIND}
 use Rattle.tonekit_core.specs.Words.{delta_number, measured_number}
 use Rattle.spec_arithmetic.specs.Fields.{le16, f32_bytes, f32s_bytes}
-use Rattle.spec_judgement.specs.Score.{zero32}
+use Rattle.spec_arithmetic.specs.Constants.{zero32}
 use Rattle.spec_judgement.specs.declared.Delta.{Delta}
 use Rattle.spec_judgement.specs.declared.Deltas.{Deltas}
 use Rattle.spec_judgement.specs.declared.Nearest.{Nearest}

@@ -9,7 +9,8 @@ use Rattle.spec_arithmetic.specs.Narrow.{narrowed}
 use Rattle.spec_arithmetic.specs.Pick.{greater}
 use Rattle.spec_arithmetic.specs.Log.{ln_of}
 use Rattle.spec_arithmetic.specs.Exp.{exp_of}
-use Rattle.spec_judgement.specs.Score.{zero64, one64, zero32, million, neg_inf, widen_for, scoring_of, clamp_log, empty, add_to, value_of, excused, point_weight, squares_of, no_mixing, mixed, mix_turn}
+use Rattle.spec_arithmetic.specs.Constants.{zero64, one64, zero32}
+use Rattle.spec_judgement.specs.Score.{million, neg_inf, widen_for, scoring_of, clamp_log, empty, add_to, value_of, excused, point_weight, squares_of, no_mixing, mixed, mix_turn}
 
 -- LowSnr is bit 1, TooShort bit 3
 pub widened_low_snr : widen_for 2 ≡ of_bits binary32 0x3fc0_0000
