@@ -79,7 +79,7 @@ half_kept = refl
 
 -- "`expect` weighs variants in f32": 2^−100 times 2^−100 is 0 there, and is dropped
 pub weighed_in_f32 : (part_mixing plain (λ t j. record { weight = of_bits binary32 0x0d80_0000; distance = zero64 }) 1 0 (of_bits binary32 0x0d80_0000) no_mixing).best ≡ None
-unfolding part_mixing weighed range turns mul lt round of_bits
+unfolding part_mixing weighed mix_turn mixed range turns mul lt le round of_bits
 weighed_in_f32 = refl
 
 -- no advice under LowSnr, bit 1

@@ -1,5 +1,5 @@
 -- The record of a judgement, kind 49.
-use Rattle.std.specs.Prelude.{ℕ, ◌+◌, Bool, cond, Option, Some, None, is_some, unwrap_or, List, [], ◌∷◌, ◌++◌, Float}
+use Rattle.std.specs.Prelude.{ℕ, ◌+◌, Bool, cond, Option, is_some, unwrap_or, List, [], ◌∷◌, ◌++◌, Float}
 use Rattle.std.specs.Option.{option_map_or}
 use Rattle.tonekit_core.specs.declared.layout.TheConstants.{JUDGEMENT_KIND}
 use Rattle.tonekit_core.specs.Words.{delta_number, measured_number}

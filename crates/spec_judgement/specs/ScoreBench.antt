@@ -1,5 +1,5 @@
 -- Worked cases of the definitions, by computing.
-use Rattle.std.specs.Prelude.{◌≡◌, refl, true, false, Some, None, is_some, List, [], ◌∷◌, replicate, Float}
+use Rattle.std.specs.Prelude.{◌≡◌, refl, true, false, Some, None, is_some, List, ◌∷◌, replicate, Float}
 use Rattle.std.specs.Float.{nan, inf, binary32, binary64}
 use Rattle.std.specs.Float.Ieee.{is_nan, eq, neg, add, sub, mul, div, lt, le, round, of_int, of_bits}
 use Rattle.tonekit_core.specs.Loop.{turns, range}
