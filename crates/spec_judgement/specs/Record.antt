@@ -17,10 +17,11 @@ kind_of d = option_map_or (λ d. delta_number d.kind) d 0
 unfoldable pub amount_of : Option Delta → Float
 amount_of d = option_map_or (λ d. d.amount) d zero32
 
--- how many there are
+-- a flag: 1 or 0
 abbrev pub flag_of : Bool → ℕ
 flag_of b = cond b 1 0
 
+-- how many there are
 unfoldable pub delta_count : Deltas → ℕ
 delta_count ds = flag_of (is_some ds.first) + flag_of (is_some ds.second)
 

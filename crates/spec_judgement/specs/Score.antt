@@ -73,7 +73,8 @@ add_to s v =
 unfoldable pub value_of : LogSumExp → Float
 value_of s = cond (lt zero64 s.sum) (add binary64 s.max (ln_of s.sum)) neg_inf
 
--- inside the region of the component's tone, if it has one, a point voiced less than 0.5 has no weight; every other point at least 0.25. Point k is k / 9 of the way
+-- inside the region of the component's tone, if it has one, a point voiced less than 0.5 has no weight; every other point at least 0.25. Point k stands at
+-- k / 9, in f32
 unfoldable pub excused : Option Region → ℕ → Float → Bool
 excused None k voiced = false
 excused (Some r) k voiced =
