@@ -10,7 +10,7 @@ use Rattle.spec_arithmetic.specs.Magnitude.{magnitude}
 use Rattle.spec_shape.specs.Turning.{turning_point}
 use Rattle.spec_shape.specs.Range.{range_in}
 use Rattle.spec_shape.specs.declared.ToneShape.{ToneShape}
-use Rattle.spec_judgement.specs.Score.{zero64, one64}
+use Rattle.spec_arithmetic.specs.Constants.{zero64, one64}
 use Rattle.spec_judgement.specs.declared.Tolerance.{Tolerance}
 use Rattle.spec_judgement.specs.declared.Delta.{Delta}
 use Rattle.spec_judgement.specs.declared.Deltas.{Deltas}

@@ -1,5 +1,5 @@
 -- What a station gathers for a context, from a pack or from a sheet: all that a query is judged by. "The inventory is every tone held, context only ones too."
-use Rattle.std.specs.Prelude.{ℕ, ◌*◌, ◌≡◌, Bool, cond, ◌||◌, Option, Some, None, List, [], ◌∷◌, ◌++◌, map, eqb, ltb, length, get_or, replicate, Float}
+use Rattle.std.specs.Prelude.{ℕ, ◌*◌, Bool, cond, ◌||◌, Option, Some, None, List, [], ◌∷◌, ◌++◌, map, eqb, ltb, length, get_or, replicate, Float}
 use Rattle.std.proofs.Math.Option as math
 use Rattle.std.proofs.Math.Option.{none, some}
 use Rattle.std.proofs.lemmas.List.Edits.{sets}
@@ -16,7 +16,6 @@ use Rattle.spec_judgement.specs.declared.ToneListing.{ToneListing}
 use Rattle.spec_judgement.specs.declared.Slot.{Slot}
 use Rattle.spec_judgement.specs.declared.ToneEntry.{ToneEntry}
 use Rattle.spec_judgement.specs.declared.Slots.{Slots}
-use Rattle.spec_judgement.specs.declared.Gathered.{Gathered}
 use Rattle.spec_judgement.specs.declared.Settings.{Settings}
 
 -- the floats of bits

@@ -1,5 +1,5 @@
 -- `judge` of score.rs: a function of settings, tones, the graded accent's tolerances and the inventory's listings.
-use Rattle.std.specs.Prelude.{ℕ, ◌+◌, ◌*◌, ◌/◌, ◌%◌, ◌≤◌, ◌<◌, ◌≡◌, Bool, cond, ◌&&◌, Option, Some, None, option_and_then, List, [], ◌++◌, eqb, length, get_or, set, replicate, take, Float}
+use Rattle.std.specs.Prelude.{ℕ, ◌+◌, ◌*◌, ◌/◌, ◌%◌, Bool, cond, ◌&&◌, Option, Some, None, option_and_then, List, [], ◌++◌, eqb, length, get_or, set, replicate, take, Float}
 use Rattle.std.specs.List.{list_all}
 use Rattle.std.specs.Float.{nan, binary32, binary64}
 use Rattle.std.specs.Float.Ieee.{neg, add, sub, mul, lt, le, of_bits}
@@ -9,7 +9,6 @@ use Rattle.tonekit_core.specs.Words.{has_issue}
 use Rattle.tonekit_core.specs.declared.MeasureIssue.TheVariants.{LowSnr, TooShort}
 use Rattle.arrayvec.specs.ArrayVec.{ArrayVec}
 use Rattle.tonekit_core.specs.declared.layout.TheConstants.{MIXTURE_FORM}
-use Rattle.tonekit_core.specs.declared.Measured.{Measured}
 use Rattle.tonekit_core.specs.declared.Name.{Name}
 use Rattle.tonekit_core.specs.declared.Measured.TheVariants.{Full, Partial, NotMeasured}
 use Rattle.spec_arithmetic.specs.Pick.{lesser}
@@ -18,7 +17,8 @@ use Rattle.spec_arithmetic.specs.Root.{root_of}
 use Rattle.spec_arithmetic.specs.Log.{ln_of}
 use Rattle.spec_arithmetic.specs.Exp.{exp_of}
 use Rattle.spec_shape.specs.declared.ToneShape.{ToneShape}
-use Rattle.spec_judgement.specs.Score.{zero64, zero32, million, empty, add_to, value_of, distance_of, no_mixing, led, mix_turn, mixture_of, mixture_log, calibrate, clamp_log, scoring_of}
+use Rattle.spec_arithmetic.specs.Constants.{zero64, zero32}
+use Rattle.spec_judgement.specs.Score.{million, empty, add_to, value_of, distance_of, no_mixing, led, mix_turn, mixture_of, mixture_log, calibrate, clamp_log, scoring_of}
 use Rattle.spec_judgement.specs.declared.Settings.{Settings}
 use Rattle.spec_judgement.specs.declared.Tolerance.{Tolerance}
 use Rattle.spec_judgement.specs.declared.Scoring.{Scoring}

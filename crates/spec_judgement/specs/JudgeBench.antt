@@ -11,7 +11,8 @@ use Rattle.tonekit_core.specs.declared.layout.TheConstants.{JUDGEMENT_SIZE, JUDG
 use Rattle.tonekit_core.specs.declared.layout.TheConstants.{JUDGEMENT_DISTANCE, JUDGEMENT_OWNER, JUDGEMENT_FORM, JUDGEMENT_LABEL, JUDGEMENT_PART, JUDGEMENT_HEARD}
 use Rattle.tonekit_core.specs.declared.layout.TheConstants.{JUDGEMENT_DELTA_COUNT, JUDGEMENT_FIRST_DELTA, JUDGEMENT_SECOND_DELTA, DELTA_AMOUNT, JUDGEMENT_MEASURED, JUDGEMENT_ISSUES}
 use Rattle.spec_arithmetic.specs.Fields.{byte_at, u16_at, u32_at, f32s_bytes}
-use Rattle.spec_judgement.specs.Score.{one64, zero64, add_to, value_of, excused, point_weight, squares_of, end_term, ends_of, distance_of, no_mixing, mixed, mix_turn}
+use Rattle.spec_arithmetic.specs.Constants.{one64, zero64}
+use Rattle.spec_judgement.specs.Score.{add_to, value_of, excused, point_weight, squares_of, end_term, ends_of, distance_of, no_mixing, mixed, mix_turn}
 use Rattle.spec_judgement.specs.ScoreBench.{shaped, plain}
 use Rattle.spec_judgement.specs.DeltasBench.{raised, more, three}
 use Rattle.spec_judgement.specs.Deltas.{no_deltas}
@@ -78,7 +79,7 @@ half_kept = refl
 
 -- "`expect` weighs variants in f32": 2^−100 times 2^−100 is 0 there, and is dropped
 pub weighed_in_f32 : (part_mixing plain (λ t j. record { weight = of_bits binary32 0x0d80_0000; distance = zero64 }) 1 0 (of_bits binary32 0x0d80_0000) no_mixing).best ≡ None
-unfolding part_mixing weighed range turns mul lt round of_bits
+unfolding part_mixing weighed mix_turn mixed range turns mul lt le round of_bits
 weighed_in_f32 = refl
 
 -- no advice under LowSnr, bit 1

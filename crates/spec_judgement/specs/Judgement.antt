@@ -30,7 +30,7 @@ context_of q = record { accent = q.accent; tone = q.tone; prev = q.prev; last = 
 unfoldable pub tones_verdict : Inventory → Result (Unit {0}) Refusal
 tones_verdict i = cond (not (list_all (λ e. not (eqb (count_in e.listing) 0)) i.items)) (Err refusal.NoRealisation) (Ok tt)
 
--- a refusal, or what comes after, of what was not refused
+-- the refusal, or what comes after it where nothing was refused
 abbrev pub and_then : {A B : Type 0} → Result A Refusal → (A → Result B Refusal) → Result B Refusal
 and_then (Err r) after = Err r
 and_then (Ok a) after = after a

@@ -1,10 +1,10 @@
 -- The record of a judgement, kind 49.
-use Rattle.std.specs.Prelude.{ℕ, ◌+◌, Bool, cond, Option, Some, None, is_some, unwrap_or, List, [], ◌∷◌, ◌++◌, Float}
+use Rattle.std.specs.Prelude.{ℕ, ◌+◌, Bool, cond, Option, is_some, unwrap_or, List, [], ◌∷◌, ◌++◌, Float}
 use Rattle.std.specs.Option.{option_map_or}
 use Rattle.tonekit_core.specs.declared.layout.TheConstants.{JUDGEMENT_KIND}
 use Rattle.tonekit_core.specs.Words.{delta_number, measured_number}
 use Rattle.spec_arithmetic.specs.Fields.{le16, f32_bytes, f32s_bytes}
-use Rattle.spec_judgement.specs.Score.{zero32}
+use Rattle.spec_arithmetic.specs.Constants.{zero32}
 use Rattle.spec_judgement.specs.declared.Delta.{Delta}
 use Rattle.spec_judgement.specs.declared.Deltas.{Deltas}
 use Rattle.spec_judgement.specs.declared.Nearest.{Nearest}
@@ -17,10 +17,11 @@ kind_of d = option_map_or (λ d. delta_number d.kind) d 0
 unfoldable pub amount_of : Option Delta → Float
 amount_of d = option_map_or (λ d. d.amount) d zero32
 
--- how many there are
+-- a flag: 1 or 0
 abbrev pub flag_of : Bool → ℕ
 flag_of b = cond b 1 0
 
+-- how many there are
 unfoldable pub delta_count : Deltas → ℕ
 delta_count ds = flag_of (is_some ds.first) + flag_of (is_some ds.second)
 

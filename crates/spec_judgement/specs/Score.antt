@@ -6,6 +6,7 @@ use Rattle.std.specs.Float.Ieee.{is_nan, neg, add, sub, mul, div, lt, le, eq, of
 use Rattle.tonekit_core.specs.Loop.{range}
 use Rattle.tonekit_core.specs.Words.{has_issue}
 use Rattle.tonekit_core.specs.declared.MeasureIssue.TheVariants.{LowSnr, Clipped, ColdStartRegister, TooShort}
+use Rattle.spec_arithmetic.specs.Constants.{zero64, zero32, one64, half}
 use Rattle.spec_arithmetic.specs.Pick.{greater}
 use Rattle.spec_arithmetic.specs.Narrow.{narrowed}
 use Rattle.spec_arithmetic.specs.Log.{ln_of}
@@ -20,18 +21,6 @@ use Rattle.spec_judgement.specs.declared.Mixture.TheVariants.{Scored, Nothing}
 use Rattle.spec_judgement.specs.declared.Squares.{Squares}
 use Rattle.spec_judgement.specs.declared.Lead.{Lead}
 use Rattle.spec_judgement.specs.declared.Mixing.{Mixing}
-
-abbrev pub zero64 : Float
-zero64 = of_bits binary64 0
-
-abbrev pub zero32 : Float
-zero32 = of_bits binary32 0
-
-abbrev pub one64 : Float
-one64 = of_bits binary64 0x3ff0_0000_0000_0000
-
-abbrev pub half : Float
-half = of_bits binary64 0x3fe0_0000_0000_0000
 
 -- LOG_CLAMP, 1,000,000
 abbrev pub million : Float
@@ -84,7 +73,8 @@ add_to s v =
 unfoldable pub value_of : LogSumExp → Float
 value_of s = cond (lt zero64 s.sum) (add binary64 s.max (ln_of s.sum)) neg_inf
 
--- inside the region of the component's tone, if it has one, a point voiced less than 0.5 has no weight; every other point at least 0.25. Point k is k / 9 of the way
+-- inside the region of the component's tone, if it has one, a point voiced less than 0.5 has no weight; every other point at least 0.25. Point k stands at
+-- k / 9, in f32
 unfoldable pub excused : Option Region → ℕ → Float → Bool
 excused None k voiced = false
 excused (Some r) k voiced =

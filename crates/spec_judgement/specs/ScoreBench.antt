@@ -1,5 +1,5 @@
 -- Worked cases of the definitions, by computing.
-use Rattle.std.specs.Prelude.{◌≡◌, refl, true, false, Some, None, is_some, List, [], ◌∷◌, replicate, Float}
+use Rattle.std.specs.Prelude.{◌≡◌, refl, true, false, Some, None, is_some, List, ◌∷◌, replicate, Float}
 use Rattle.std.specs.Float.{nan, inf, binary32, binary64}
 use Rattle.std.specs.Float.Ieee.{is_nan, eq, neg, add, sub, mul, div, lt, le, round, of_int, of_bits}
 use Rattle.tonekit_core.specs.Loop.{turns, range}
@@ -9,7 +9,8 @@ use Rattle.spec_arithmetic.specs.Narrow.{narrowed}
 use Rattle.spec_arithmetic.specs.Pick.{greater}
 use Rattle.spec_arithmetic.specs.Log.{ln_of, log_by, parts_of, centred, series, log_horner}
 use Rattle.spec_arithmetic.specs.Exp.{exp_of, exp_by, exp_series, exp_horner, floor_of}
-use Rattle.spec_judgement.specs.Score.{zero64, zero32, million, neg_inf, widen_for, clamp_log, empty, add_to, value_of, excused, point_weight, one64, scoring_of, squares_of, no_mixing, mixed, mix_turn}
+use Rattle.spec_judgement.specs.Score.{million, neg_inf, widen_for, clamp_log, empty, add_to, value_of, excused, point_weight, scoring_of, squares_of, no_mixing, mixed, mix_turn}
+use Rattle.spec_arithmetic.specs.Constants.{zero64, one64, zero32}
 
 -- LowSnr is bit 1, TooShort bit 3
 pub widened_low_snr : widen_for 2 ≡ of_bits binary32 0x3fc0_0000

@@ -4,16 +4,11 @@ use Rattle.std.specs.Float.{binary32}
 use Rattle.std.specs.Float.Ieee.{neg, add, sub, lt, le, of_bits}
 use Rattle.std.specs.Float.Ieee.Scale.{finite}
 use Rattle.tonekit_core.specs.Loop.{Turn, next, stop, range, range_to}
+use Rattle.spec_arithmetic.specs.Constants.{zero32, one32}
 use Rattle.spec_arithmetic.specs.Pick.{greater}
 use Rattle.spec_query.specs.Query.{variant_tone, variant_weight}
 use Rattle.spec_judgement.specs.Judge.{Inventory, Targets}
 use Rattle.spec_judgement.specs.declared.Target.{Target}
-
-abbrev pub zero32 : Float
-zero32 = of_bits binary32 0
-
-abbrev pub one32 : Float
-one32 = of_bits binary32 0x3f80_0000
 
 -- VARIANT_SUM_SLACK, 1e−6
 abbrev pub slack : Float

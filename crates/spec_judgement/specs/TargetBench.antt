@@ -5,7 +5,8 @@ use Rattle.std.specs.Float.Ieee.{is_nan, neg, add, sub, lt, le, of_bits}
 use Rattle.tonekit_core.specs.Loop.{turns, range, turns_to, range_to}
 use Rattle.spec_arithmetic.specs.Pick.{greater}
 use Rattle.spec_judgement.specs.Judge.{Inventory}
-use Rattle.spec_judgement.specs.Target.{zero32, variant_weight_good, variant_weights_good, main_weight, variants_good, place_of, target_of, with_target, targets_of}
+use Rattle.spec_arithmetic.specs.Constants.{zero32}
+use Rattle.spec_judgement.specs.Target.{variant_weight_good, variant_weights_good, main_weight, variants_good, place_of, target_of, with_target, targets_of}
 
 -- the bytes of a query up to two variants, with weights of these bits
 abbrev pub variants : List ℕ → List ℕ → List ℕ

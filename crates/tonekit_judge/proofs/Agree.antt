@@ -1,6 +1,7 @@
 -- A judgement depends on the components that are there, and on no others. Assumes nothing.
 use Rattle.std.proofs.Common.{ℕ, ◌*◌, ◌<◌, ◌≡◌, ap, ◌∙◌, List, length, set, replicate, arith, Float}
-use Rattle.spec_judgement.specs.Score.{zero32, no_mixing, mixture_of, mixture_log, calibrate}
+use Rattle.spec_arithmetic.specs.Constants.{zero32}
+use Rattle.spec_judgement.specs.Score.{no_mixing, mixture_of, mixture_log, calibrate}
 use Rattle.spec_judgement.specs.declared.Scoring.{Scoring}
 use Rattle.spec_judgement.specs.declared.Mixing.{Mixing}
 use Rattle.spec_judgement.specs.declared.Mixture.{Mixture}

@@ -15,7 +15,8 @@ use Rattle.spec_arithmetic.specs.Fields.{f32_at, f32_bytes, f32s_bytes}
 use Rattle.tonekit_bytes.proofs.Stands.{Stands, stands_whole, stands_first, stands_then, f32_back, floats_stand}
 use Rattle.tonekit_bytes.proofs.Write.{f32s_length}
 use Rattle.spec_shape.specs.declared.ToneShape.{ToneShape}
-use Rattle.spec_judgement.specs.Score.{zero32, million, clamp_log, calibrate, scoring_of, mixture_of}
+use Rattle.spec_arithmetic.specs.Constants.{zero32}
+use Rattle.spec_judgement.specs.Score.{million, clamp_log, calibrate, scoring_of, mixture_of}
 use Rattle.spec_judgement.specs.declared.Settings.{Settings}
 use Rattle.spec_judgement.specs.declared.Tolerance.{Tolerance}
 use Rattle.spec_judgement.specs.declared.Scoring.{Scoring}

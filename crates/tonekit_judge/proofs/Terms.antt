@@ -4,7 +4,8 @@ use Rattle.std.proofs.Common.{Option, Some, None}
 use Rattle.std.specs.Float.{binary32, binary64}
 use Rattle.std.specs.Float.Ieee.{add, mul, le, lt}
 use Rattle.spec_arithmetic.specs.Log.{ln_of}
-use Rattle.spec_judgement.specs.Score.{zero32, log_of, mixed, mix_turn}
+use Rattle.spec_arithmetic.specs.Constants.{zero32}
+use Rattle.spec_judgement.specs.Score.{log_of, mixed, mix_turn}
 use Rattle.tonekit_score.specs.Terms.{term_of}
 use Rattle.spec_judgement.specs.declared.Scoring.{Scoring}
 use Rattle.spec_judgement.specs.declared.Mixing.{Mixing}

@@ -5,7 +5,8 @@ use Rattle.std.specs.Float.{binary64}
 use Rattle.std.specs.Float.Ieee.{add, lt, le}
 use Rattle.tonekit_core.proofs.LoopLaws.{range_keeps}
 use Rattle.spec_arithmetic.specs.Log.{ln_of}
-use Rattle.spec_judgement.specs.Score.{zero32, log_of, no_mixing, mixed, mix_turn, mixture_of, scoring_of}
+use Rattle.spec_arithmetic.specs.Constants.{zero32}
+use Rattle.spec_judgement.specs.Score.{log_of, no_mixing, mixed, mix_turn, mixture_of, scoring_of}
 use Rattle.spec_shape.specs.declared.ToneShape.{ToneShape}
 use Rattle.spec_judgement.specs.declared.Settings.{Settings}
 use Rattle.spec_judgement.specs.declared.Tolerance.{Tolerance}

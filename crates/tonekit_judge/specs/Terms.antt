@@ -3,7 +3,8 @@ use Rattle.std.specs.Prelude.{ℕ, ◌+◌, ◌*◌, ◌<◌, ◌≡◌, cond, O
 use Rattle.std.specs.Float.{nan, binary32}
 use Rattle.std.specs.Float.Ieee.{mul, lt}
 use Rattle.tonekit_core.specs.Loop.{range}
-use Rattle.spec_judgement.specs.Score.{zero32, mix_turn}
+use Rattle.spec_arithmetic.specs.Constants.{zero32}
+use Rattle.spec_judgement.specs.Score.{mix_turn}
 use Rattle.spec_judgement.specs.Judge.{Inventory, count_at, weighed}
 use Rattle.tonekit_score.specs.Terms.{term_of}
 use Rattle.spec_judgement.specs.declared.Scoring.{Scoring}

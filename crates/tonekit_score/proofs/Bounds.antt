@@ -11,7 +11,8 @@ use Rattle.tonekit_float.proofs.Narrowing.{narrow_fits}
 use Rattle.tonekit_float.proofs.Order.{no, not-lt→le}
 use Rattle.tonekit_float.proofs.Nans.{finite_number}
 use Rattle.tonekit_float.proofs.Bounds.{in_finite, in_wider, in_narrow}
-use Rattle.spec_judgement.specs.Score.{zero32, million, clamp_log}
+use Rattle.spec_arithmetic.specs.Constants.{zero32}
+use Rattle.spec_judgement.specs.Score.{million, clamp_log}
 
 abbrev pub Bounded : Float → Type 0
 Bounded v = In (neg million) million v

@@ -3,7 +3,8 @@ use Rattle.std.specs.Prelude.{Option, Some, None, cond, Float}
 use Rattle.std.specs.Float.{binary64}
 use Rattle.std.specs.Float.Ieee.{add, le}
 use Rattle.spec_arithmetic.specs.Log.{ln_of}
-use Rattle.spec_judgement.specs.Score.{zero32, log_of}
+use Rattle.spec_arithmetic.specs.Constants.{zero32}
+use Rattle.spec_judgement.specs.Score.{log_of}
 use Rattle.spec_judgement.specs.declared.Scoring.{Scoring}
 use Rattle.spec_judgement.specs.declared.Term.{Term}
 

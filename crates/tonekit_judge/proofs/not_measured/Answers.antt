@@ -3,7 +3,8 @@ use Rattle.std.proofs.Common.{ℕ, zero, suc, ◌≡◌, refl, ◌≤◌, ◌++�
 use Rattle.std.specs.Float.Ieee.{neg}
 use Rattle.tonekit_core.specs.Loop.{range, turns}
 use Rattle.spec_arithmetic.specs.Narrow.{narrowed}
-use Rattle.spec_judgement.specs.Score.{zero32, million}
+use Rattle.spec_arithmetic.specs.Constants.{zero32}
+use Rattle.spec_judgement.specs.Score.{million}
 use Rattle.tonekit_judge.proofs.Turns.{lowest_turn}
 use Rattle.spec_judgement.specs.Judge.{not_measured}
 use Rattle.tonekit_judge.proofs.not_measured.Goals as goal

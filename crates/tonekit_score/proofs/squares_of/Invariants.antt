@@ -1,7 +1,8 @@
 -- What is left of the loop, from here, gives what the whole gives.
 use Rattle.std.proofs.Common.{◌≡◌}
 use Rattle.tonekit_core.specs.Loop.{range}
-use Rattle.spec_judgement.specs.Score.{zero64, square_turn}
+use Rattle.spec_arithmetic.specs.Constants.{zero64}
+use Rattle.spec_judgement.specs.Score.{square_turn}
 use Rattle.tonekit_score.proofs.squares_of.Given as goal
 
 abbrev pub invariant-loop-k : goal.invariant-loop-k

@@ -3,7 +3,8 @@ use Rattle.std.proofs.Common.{sym, ap, rules}
 use Rattle.tonekit_core.proofs.LoopLaws.{again, ended}
 use Rattle.std.specs.Float.{binary32}
 use Rattle.std.specs.Float.Ieee.{sub, add}
-use Rattle.spec_judgement.specs.Target.{one32, main_weight}
+use Rattle.spec_arithmetic.specs.Constants.{one32}
+use Rattle.spec_judgement.specs.Target.{main_weight}
 use Rattle.tonekit_target.proofs.main_weight.Goals as goal
 
 pub loop-i-preserved : goal.loop-i-preserved

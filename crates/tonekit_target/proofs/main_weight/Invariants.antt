@@ -3,7 +3,7 @@ use Rattle.std.specs.Float.{binary32}
 use Rattle.std.specs.Float.Ieee.{add}
 use Rattle.tonekit_core.specs.Loop.{range}
 use Rattle.spec_query.specs.Query.{variant_weight}
-use Rattle.spec_judgement.specs.Target.{zero32}
+use Rattle.spec_arithmetic.specs.Constants.{zero32}
 use Rattle.tonekit_target.proofs.main_weight.Given as goal
 
 abbrev sum_turn : List ℕ → ℕ → Float → Float
