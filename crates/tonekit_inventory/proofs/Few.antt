@@ -62,7 +62,7 @@ read_from s p (loaded st e) q h = let is : st ≡ shown p = cc in record { end =
 read_from s p (refused r place) q h = let n : ◌≡◌ {A = ℕ} 0 1 = cc in absurd (omega arith)
 
 -- what a lookup in a pack that loads finds
-abbrev pub Looked : List ℕ → Look → Type 0
+abbrev pub Looked : List ℕ → Option Listing → Type 0
 Looked s k = (l : Listing) → k ≡ Some l → Short s l
 
 pub looked : (s : List ℕ) (p : Pack) → pack_in (read_pack s) ≡ Some (shown p) → (c : Context) (k : Option Listing) → k ≡ look_up s (shown p) c → Looked s k

@@ -5,7 +5,7 @@ use Rattle.spec_arithmetic.specs.Files.{Out, loaded, refused}
 use Rattle.spec_pack.specs.Pack.{PackRead, load_pack}
 use Rattle.tonekit_pack.specs.Held.{shown}
 use Rattle.tonekit_pack.specs.declared.Pack.{Pack}
-use Rattle.spec_lookup.specs.Lookup as lookup
+use Rattle.tonekit_expect.specs.Pieces as lookup
 use Rattle.spec_lookup.specs.Source.{Source, source_of_pack}
 use Rattle.spec_lookup.specs.declared.Listing.{Listing}
 

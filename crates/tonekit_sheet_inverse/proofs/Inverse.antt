@@ -14,7 +14,6 @@ use Rattle.spec_arithmetic.specs.Files.{loaded}
 use Rattle.spec_sheet.specs.FromSheet.{look_sheet, source_of_sheet}
 use Rattle.tonekit_sheet_inverse.proofs.Place.{rows_from, list_place, lists_from}
 use Rattle.tonekit_sheet.specs.Parts.{bytes_of, tone_piece, accent_piece, row_piece, list_piece}
-use Rattle.tonekit_sheet_inverse.specs.Place.{rows_from}
 use Rattle.tonekit_sheet_inverse.proofs.Spans.{Spans, one_spans, joined, gather_spans, spans_all}
 use Rattle.tonekit_sheet_inverse.proofs.Loads.{Loads, loads_whole}
 use Rattle.tonekit_sheet_inverse.proofs.Order.{accent_number_of, first_list, final_list, Ordered, ordered}

@@ -7,7 +7,6 @@ use Rattle.tonekit_core.proofs.Split.{split}
 use Rattle.tonekit_pack.proofs.Each.{Each, each_snoc}
 use Rattle.spec_sheet.specs.Reader.{Sst, rows_due, size_of, body_verdict, added, row_at}
 use Rattle.tonekit_sheet_inverse.proofs.Place.{rows_from, list_place, lists_from}
-use Rattle.tonekit_sheet_inverse.specs.Place.{rows_from}
 use Rattle.tonekit_sheet.proofs.Every.{Every, every_snoc}
 use Rattle.tonekit_sheet.proofs.Records.{Complete, rows_done, list_done, Due, settings, tone, accent, row, list, component, finish, tone_number, list_some}
 

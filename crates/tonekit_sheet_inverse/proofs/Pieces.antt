@@ -1,5 +1,5 @@
 -- Each record of a sheet, written anew from what is read there, has the bytes that it was read from. Assumes nothing.
-use Rattle.std.proofs.Common.{ℕ, zero, suc, ◌+◌, ◌*◌, ◌≤◌, ◌<◌, ◌≡◌, refl, sym, ap, ◌∙◌, true, List, [], ◌∷◌, ◌++◌, append-nil, append_assoc, arith, eqb, ltb, length, get_or, length-append, eq-eqb, ltb-true, ltb-false}
+use Rattle.std.proofs.Common.{ℕ, zero, suc, ◌+◌, ◌*◌, ◌≤◌, ◌<◌, ◌≡◌, refl, sym, ap, ◌∙◌, true, List, [], ◌∷◌, ◌++◌, arith, eqb, ltb, length, get_or, length-append, eq-eqb, ltb-true, ltb-false}
 use lib.ListN.{get_or-append}
 use lib.Seq.{get_or-append_seam}
 use Rattle.spec_arithmetic.specs.Fields.{byte_at}
