@@ -2,13 +2,12 @@
 use Rattle.std.specs.Prelude.{ℕ, zero, suc, ◌+◌, ◌-◌, ◌*◌, max, Bool, true, false, cond, not, ◌&&◌, ◌||◌, List, [], ◌∷◌, ◌++◌, eqb, leb, ltb, pos, length, get_or, Float, Option, Some, None, Result, Ok}
 use Rattle.std.specs.Float.{fin}
 use Rattle.std.specs.Float.Ieee.{le}
-use Rattle.tonekit_core.specs.Loop.{Turn, next, stop, range, range_to}
+use Rattle.tonekit_core.specs.Loop.{next, stop, range, range_to}
 use Rattle.tonekit_core.specs.declared.layout.TheConstants.{F32_SIZE, SETTINGS_SIZE, SHEET_SETTINGS_KIND, SHEET_TONE_KIND, SHEET_TONE_SIZE, SHEET_TONE_PRIOR, SHEET_TONE_REGION}
 use Rattle.tonekit_core.specs.declared.layout.TheConstants.{SHEET_ACCENT_KIND, SHEET_ACCENT_SIZE, SHEET_ACCENT_CONTOUR, SHEET_ROW_KIND, SHEET_ROW_SIZE, SHEET_ROW_ACCENT, SHEET_ROW_TONE}
 use Rattle.tonekit_core.specs.declared.layout.TheConstants.{SHEET_ROW_PREV, SHEET_ROW_LIST, SHEET_ROW_FINAL_LIST, SHEET_LIST_KIND, SHEET_LIST_SIZE, SHEET_LIST_OWNER, SHEET_LIST_FORM}
 use Rattle.tonekit_core.specs.declared.layout.TheConstants.{SHEET_LIST_LABEL, SHEET_LIST_COUNT, SHEET_COMPONENT_KIND, SHEET_COMPONENT_SIZE, SHEET_COMPONENT_WEIGHT}
 use Rattle.tonekit_core.specs.declared.layout.TheConstants.{SHEET_COMPONENT_POINTS, SHEET_END_KIND, SHEET_END_SIZE}
-use Rattle.tonekit_core.specs.Layout.{sheet_row_at}
 use Rattle.tonekit_core.specs.declared.Refusal.{Refusal}
 use Rattle.tonekit_core.specs.declared.Refusal.TheVariants.{Loose, Unordered}
 use Rattle.tonekit_core.specs.declared.Rejection.{Rejection}
@@ -35,8 +34,7 @@ rows_due st = row_count (length st.accents) (length st.tones)
 
 -- all rows are there, and all components of the last list: a list, or the end
 unfoldable pub complete : Sst → Bool
-complete st =
-    cond (eqb st.last SHEET_ROW_KIND) (eqb st.rows (rows_due st)) (eqb st.last SHEET_COMPONENT_KIND && eqb st.due 0)
+complete st = cond (eqb st.last SHEET_ROW_KIND) (eqb st.rows (rows_due st)) (eqb st.last SHEET_COMPONENT_KIND && eqb st.due 0)
 
 -- "Kinds, in this order"; "A row or component too few or too many is 1"
 unfoldable pub due_next : Sst → ℕ → Bool
@@ -60,8 +58,7 @@ size_of k =
 
 -- "Fields have the pack's ranges": number, prior, region
 abbrev pub tone_fine : List ℕ → ℕ → Bool
-tone_fine s o =
-    not (eqb (number_at s o) 0) && (probability_fine (f32_at s (o + SHEET_TONE_PRIOR)) && region_fine s (o + SHEET_TONE_REGION))
+tone_fine s o = not (eqb (number_at s o) 0) && (probability_fine (f32_at s (o + SHEET_TONE_PRIOR)) && region_fine s (o + SHEET_TONE_REGION))
 
 unfoldable pub tone_verdict : List ℕ → ℕ → Sst → Result (Unit {0}) Refusal
 tone_verdict s o st = in_turn (leb 8 (length st.tones)) (tone_fine s o) (not (holds s st.tones (number_at s o))) true
@@ -140,25 +137,21 @@ added k o count st =
     (cond (eqb k SHEET_LIST_KIND) (record st { last = k; lists = st.lists ++ (o ∷ []); due = count })
     (cond (eqb k SHEET_COMPONENT_KIND) (record st { last = k; due = st.due - 1; total = st.total + 1 }) (record st { last = k })))))
 
--- where row r stands
+-- where row r stands: behind settings, tones and accents
 abbrev pub row_at : Sst → ℕ → ℕ
-row_at st r = sheet_row_at (length st.tones) (length st.accents) r
+row_at st r = SETTINGS_SIZE + SHEET_TONE_SIZE * length st.tones + SHEET_ACCENT_SIZE * length st.accents + SHEET_ROW_SIZE * r
 
 -- a row's list number is 0, or one that a list record gives as its own
 unfoldable pub loose_row : List ℕ → Sst → Option ℕ
 loose_row s st =
-    range_to
-    (λ r (u : ℕ). cond
+    range_to (λ r (u : ℕ). cond
     (zero_or_held s st.lists (byte_at s (row_at st r + SHEET_ROW_LIST)) && zero_or_held s st.lists (byte_at s (row_at st r + SHEET_ROW_FINAL_LIST)))
-    (next u)
-    (stop (Some (row_at st r))))
-    (λ u. None) 0 st.rows 0
+    (next u) (stop (Some (row_at st r)))) (λ u. None) 0 st.rows 0
 
 -- an accent whose number is not above that of the one before it
 unfoldable pub accent_down : List ℕ → Sst → Option ℕ
 accent_down s st =
-    range_to
-    (λ i before. let n = number_at s (get_or st.accents i 0) in cond (ltb before n) (next n) (stop (Some (get_or st.accents i 0))))
+    range_to (λ i before. let n = number_at s (get_or st.accents i 0) in cond (ltb before n) (next n) (stop (Some (get_or st.accents i 0))))
     (λ n. None) 0 (length st.accents) 0
 
 -- row r is the one due at its place
@@ -181,17 +174,14 @@ row_names s st r m =
 
 unfoldable pub row_wrong : List ℕ → Sst → Option ℕ
 row_wrong s st =
-    range_to
-    (λ r m. cond (row_due s st r && row_names s st r m)
+    range_to (λ r m. cond (row_due s st r && row_names s st r m)
     (next (max (max m (byte_at s (row_at st r + SHEET_ROW_LIST))) (byte_at s (row_at st r + SHEET_ROW_FINAL_LIST))))
-    (stop (Some (row_at st r))))
-    (λ m. None) 0 st.rows 0
+    (stop (Some (row_at st r)))) (λ m. None) 0 st.rows 0
 
 -- a row names list n
 unfoldable pub named : List ℕ → Sst → ℕ → Bool
 named s st n =
-    range
-    (λ r used. used || (eqb (byte_at s (row_at st r + SHEET_ROW_LIST)) n || eqb (byte_at s (row_at st r + SHEET_ROW_FINAL_LIST)) n))
+    range (λ r used. used || (eqb (byte_at s (row_at st r + SHEET_ROW_LIST)) n || eqb (byte_at s (row_at st r + SHEET_ROW_FINAL_LIST)) n))
     0 st.rows false
 
 -- the bytes of a list and its components, and two lists equal but for their numbers
@@ -208,8 +198,7 @@ repeated s lists n o = range (λ i hit. hit || same_lists s o (get_or lists i 0)
 -- list i has its place as its number, from 1, is named by a row, and is equal to none before it
 unfoldable pub list_wrong : List ℕ → Sst → Option ℕ
 list_wrong s st =
-    range_to
-    (λ i (u : ℕ). let o = get_or st.lists i 0 in
+    range_to (λ i (u : ℕ). let o = get_or st.lists i 0 in
     cond (eqb (number_at s o) (i + 1) && (named s st (i + 1) && not (repeated s st.lists i o))) (next u) (stop (Some o)))
     (λ u. None) 0 (length st.lists) 0
 
