@@ -12,10 +12,10 @@ use Rattle.tonekit_core.specs.declared.Refusal.{Refusal}
 use Rattle.tonekit_core.specs.declared.Refusal.TheVariants.{Loose, Unordered}
 use Rattle.tonekit_core.specs.declared.Rejection.{Rejection}
 use Rattle.spec_arithmetic.specs.Fields.{byte_at, u16_at, u32_at, f32_at}
-use Rattle.spec_pack.specs.Ranges.{probability_fine, weight_fine, region_fine, tolerances_fine}
+use Rattle.spec_pack.specs.Ranges.{probability_fine, weight_fine, region_fine}
 use Rattle.spec_arithmetic.specs.Places.{number_at}
-use Rattle.spec_arithmetic.specs.Files.{judged, Out, loaded, refused, Here, Reader, read, singly, said}
-use Rattle.spec_pack.specs.Pack.{holds, zero_or_held, in_turn, settings_verdict}
+use Rattle.spec_arithmetic.specs.Files.{judged, Out, loaded, refused, Reader, read, singly, said}
+use Rattle.spec_pack.specs.Pack.{holds, zero_or_held, in_turn, settings_verdict, accent_fine}
 use Rattle.spec_sheet.specs.Sheet.{row_count, accent_place, tone_place, prev_place}
 
 -- what has been read: the last kind; the offsets of tones and accents; how many rows; the offsets of lists; the components that the last list is still due, and all components
@@ -64,11 +64,8 @@ unfoldable pub tone_verdict : List ℕ → ℕ → Sst → Result (Unit {0}) Ref
 tone_verdict s o st = in_turn (leb 8 (length st.tones)) (tone_fine s o) (not (holds s st.tones (number_at s o))) true
 
 -- number, tolerances
-abbrev pub accent_fine : List ℕ → ℕ → Bool
-accent_fine s o = not (eqb (number_at s o) 0) && tolerances_fine s (o + SHEET_ACCENT_CONTOUR)
-
 unfoldable pub accent_verdict : List ℕ → ℕ → Sst → Result (Unit {0}) Refusal
-accent_verdict s o st = in_turn (leb 8 (length st.accents)) (accent_fine s o) (not (holds s st.accents (number_at s o))) true
+accent_verdict s o st = in_turn (leb 8 (length st.accents)) (accent_fine SHEET_ACCENT_CONTOUR s o) (not (holds s st.accents (number_at s o))) true
 
 -- a row names an accent, a tone, and a tone before it or none, that are held; its two lists are judged at the end
 unfoldable pub row_verdict : List ℕ → ℕ → Sst → Result (Unit {0}) Refusal
@@ -102,15 +99,11 @@ point_fine x = le (fin true 1 (pos 7)) x && le x (fin false 1 (pos 7))
 unfoldable pub points_fine : List ℕ → ℕ → Bool
 points_fine s o = range (λ k ok. ok && point_fine (f32_at s (o + F32_SIZE * k))) 0 10 true
 
--- the offset of the last list
-abbrev pub last_list : Sst → ℕ
-last_list st = get_or st.lists (length st.lists - 1) 0
-
--- "forms 1 and 2 have one component of weight 1"
+-- "forms 1 and 2 have one component of weight 1": the form is that of the last list
 abbrev pub component_fine : List ℕ → ℕ → Sst → Bool
 component_fine s o st =
     weight_fine (u32_at s (o + SHEET_COMPONENT_WEIGHT))
-    && ((eqb (byte_at s (last_list st + SHEET_LIST_FORM)) 3 || eqb (u32_at s (o + SHEET_COMPONENT_WEIGHT)) 0x3f80_0000)
+    && ((eqb (byte_at s (get_or st.lists (length st.lists - 1) 0 + SHEET_LIST_FORM)) 3 || eqb (u32_at s (o + SHEET_COMPONENT_WEIGHT)) 0x3f80_0000)
     && points_fine s (o + SHEET_COMPONENT_POINTS))
 
 unfoldable pub component_verdict : List ℕ → ℕ → Sst → Result (Unit {0}) Refusal
@@ -212,13 +205,10 @@ finished s st e =
     refused_at Loose (loose_row s st)
     (refused_at Unordered (accent_down s st) (refused_at Unordered (row_wrong s st) (refused_at Unordered (list_wrong s st) (loaded st e))))
 
-abbrev pub start : Here Sst
-start = record { at = 0; st = record { last = 0; tones = []; accents = []; rows = 0; lists = []; due = 0; total = 0 } }
-
 -- how a sheet is read
 abbrev pub sheet_reader : Reader Sst
 sheet_reader = record {
-  start = start;
+  start = record { at = 0; st = record { last = 0; tones = []; accents = []; rows = 0; lists = []; due = 0; total = 0 } };
   verdict = record_verdict;
   size = size_of;
   added = λ s o st. added (byte_at s o) o (byte_at s (o + SHEET_LIST_COUNT)) st;
