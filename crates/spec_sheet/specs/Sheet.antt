@@ -80,14 +80,11 @@ settings_bytes x = (SHEET_SETTINGS_KIND ∷ []) ++ (le32 x.temperature ++ le32 x
 
 -- "18 tone, in pack order: number, prior, flag, from, to"
 abbrev pub tone_bytes : Tone → List ℕ
-tone_bytes t =
-    (SHEET_TONE_KIND ∷ t.number ∷ []) ++ (le32 t.prior ++ ((t.flag ∷ []) ++ (le32 t.from ++ le32 t.to)))
+tone_bytes t = (SHEET_TONE_KIND ∷ t.number ∷ []) ++ (le32 t.prior ++ ((t.flag ∷ []) ++ (le32 t.from ++ le32 t.to)))
 
 -- "19 accent: number, tolerances"
 abbrev pub accent_bytes : Accent → List ℕ
-accent_bytes a =
-    (SHEET_ACCENT_KIND ∷ a.number ∷ [])
-    ++ (le32 a.contour ++ (le32 a.onset ++ (le32 a.offset ++ le32 a.turning)))
+accent_bytes a = (SHEET_ACCENT_KIND ∷ a.number ∷ []) ++ (le32 a.contour ++ (le32 a.onset ++ (le32 a.offset ++ le32 a.turning)))
 
 -- "20 row: accent, tone, prev, list when not final, list when final (u8, 0 nothing)"
 abbrev pub row_bytes : Context → ℕ → ℕ → List ℕ

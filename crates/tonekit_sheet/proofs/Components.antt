@@ -1,5 +1,5 @@
 -- The bytes of components: how long they are, and one component more. Assumes nothing.
-use Rattle.std.proofs.Common.{ℕ, ◌+◌, ◌*◌, ◌≡◌, refl, sym, ◌∙◌, ap, List, [], ◌∷◌, ◌++◌, append_assoc, append-nil, arith, length}
+use Rattle.std.proofs.Common.{ℕ, ◌*◌, ◌≡◌, refl, sym, ◌∙◌, ap, List, [], ◌∷◌, ◌++◌, append_assoc, append-nil, arith, length}
 use Rattle.spec_lookup.specs.Source.{Carried}
 use Rattle.spec_sheet.specs.Sheet.{bits_bytes, component_bytes, components_bytes}
 

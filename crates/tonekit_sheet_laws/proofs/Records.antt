@@ -6,7 +6,7 @@ use Rattle.spec_lookup.specs.Source.{Settings, Tone, Accent, Carried}
 use Rattle.spec_lookup.specs.declared.Context.{Context}
 use Rattle.spec_sheet.specs.Sheet.{settings_bytes, tone_bytes, accent_bytes, row_bytes, bits_bytes, component_bytes, components_bytes, no_carried, head_bytes, list_bytes}
 use Rattle.tonekit_sheet.specs.Fit.{Bits}
-use Rattle.tonekit_sheet.proofs.Components.{bits_length, component_length}
+use Rattle.tonekit_sheet.proofs.Components.{component_length}
 use Rattle.tonekit_bytes.proofs.Back.{le16_back, le32_back}
 use Rattle.tonekit_bytes.proofs.Stands.{Stands, field16, field32, kind, stands_first, stands_then}
 
