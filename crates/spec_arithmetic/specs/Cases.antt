@@ -1,8 +1,8 @@
 -- Cases of the definitions, each by computing it.
-use Rattle.std.specs.Prelude.{◌≡◌, ℕ, true, false, pos, negsuc, refl, [], ◌∷◌, Some, None}
+use Rattle.std.specs.Prelude.{◌≡◌, ℕ, true, false, pos, negsuc, refl, [], ◌∷◌, Some, None, from_bits, Float}
 use Rattle.std.specs.Float.{nan, inf, fin, binary32, binary64, float_with_sign}
 use Rattle.std.specs.Float.Ieee.{round, of_int, of_bits, to_bits, is_nan, lt, le, eq}
-use Rattle.spec_arithmetic.specs.Constants.{one32, one64, two}
+use Rattle.spec_arithmetic.specs.Constants.{one32, one64}
 use Rattle.spec_arithmetic.specs.Fields.{byte_at, u16_at, u32_at, f32_at, le16, le32, f32_bytes, f32s_bytes}
 use Rattle.tonekit_core.specs.Loop.{range_to, turns_to}
 use Rattle.spec_arithmetic.specs.Places.{index_of}
@@ -10,6 +10,10 @@ use Rattle.spec_arithmetic.specs.Narrow.{narrowed}
 use Rattle.spec_arithmetic.specs.Pick.{lesser, greater}
 use Rattle.spec_arithmetic.specs.Magnitude.{magnitude, total_le}
 use Rattle.spec_arithmetic.specs.Whole.{whole_part, round_up}
+
+-- 2
+abbrev two : Float
+two = from_bits binary64 0x4000_0000_0000_0000
 
 -- ---- "Integers are little-endian, floats IEEE 754 bits", and past the end 0 is read
 read_numbers : (byte_at (9 ∷ 8 ∷ []) 2 ≡ 0) × (u16_at (9 ∷ 1 ∷ 2 ∷ []) 1 ≡ 0x0201) × (u32_at (9 ∷ 1 ∷ 2 ∷ 3 ∷ 4 ∷ []) 1 ≡ 0x0403_0201)

@@ -10,7 +10,7 @@ zero32 = from_bits binary32 0
 abbrev pub one32 : Float
 one32 = from_bits binary32 0x3F80_0000
 
--- 0, 1/2, 1 and 2 as f64
+-- 0, 1/2 and 1 as f64
 abbrev pub zero64 : Float
 zero64 = from_bits binary64 0
 
@@ -19,9 +19,6 @@ half = from_bits binary64 0x3FE0_0000_0000_0000
 
 abbrev pub one64 : Float
 one64 = from_bits binary64 0x3FF0_0000_0000_0000
-
-abbrev pub two : Float
-two = from_bits binary64 0x4000_0000_0000_0000
 
 -- the whole number n as an f64
 abbrev pub whole64 : ℕ → Float
@@ -34,10 +31,6 @@ LN2 = from_bits binary64 0x3FE6_2E42_FEFA_39EF
 -- "LOG2E the f64 nearest 1.4426950408889634"
 abbrev pub LOG2E : Float
 LOG2E = from_bits binary64 0x3FF7_1547_652B_82FE
-
--- 1.4142135623730951
-abbrev pub ROOT2 : Float
-ROOT2 = from_bits binary64 0x3FF6_A09E_667F_3BCD
 
 -- 708
 abbrev pub bound : Float

@@ -6,10 +6,9 @@ use Rattle.spec_arithmetic.specs.Constants.{LN2, LOG2E, half, one64, bound, whol
 
 -- "floor": the whole number at or below x
 unfoldable pub floor_of : Float → ℤ
-floor_of nan = pos 0
-floor_of (inf s) = pos 0
 floor_of (fin false m e) = pos (m * up e / down e)
 floor_of (fin true m e) = neg_ℤ (pos ((m * up e + (down e - 1)) / down e))
+floor_of x = pos 0
 
 -- "for j from [k] down to 1, q becomes 1 + (r·q)/j"
 unfoldable pub exp_horner : ℕ → Float → Float → Float

@@ -41,12 +41,9 @@ on_verdict f s h (Ok u) =
     cond (eqb (byte_at s h.at) f.end) (stop (f.finish s h.at h.st))
     (next (record { at = h.at + f.size (byte_at s h.at); st = f.added s h.at h.st }))
 
-abbrev pub record_turn : {S : Type 0} → Reader S → List ℕ → Here S → Turn (Here S) (Out S)
-record_turn f s h = on_verdict f s h (f.verdict s h.at h.st)
-
 -- a file at the front of a longer input. A record has at least one byte, so there are no more turns than bytes, and one for what is missing
 abbrev pub read : {S : Type 0} → Reader S → List ℕ → Out S
-read f s = loop_to (record_turn f s) (refused CutShort (length s)) (length s + 1) f.start
+read f s = loop_to (λ h. on_verdict f s h (f.verdict s h.at h.st)) (refused CutShort (length s)) (length s + 1) f.start
 
 -- a single file: 3 at the first byte behind it
 abbrev pub singly : {S : Type 0} → List ℕ → Out S → Out S

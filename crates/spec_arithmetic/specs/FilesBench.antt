@@ -3,9 +3,8 @@ use Rattle.std.specs.Prelude.{ℕ, ◌+◌, ◌≡◌, refl, List, [], ◌∷◌
 use Rattle.tonekit_core.specs.Loop.{loop_to, loop_on}
 use Rattle.tonekit_core.specs.declared.Refusal.{Refusal}
 use Rattle.tonekit_core.specs.declared.Refusal.TheVariants.{Misplaced, CutShort, Overrun, OffScale}
-use Rattle.tonekit_core.specs.declared.Rejection.{Rejection}
 use Rattle.spec_arithmetic.specs.Fields.{byte_at}
-use Rattle.spec_arithmetic.specs.Files.{judged, Out, loaded, refused, Reader, read, singly, said}
+use Rattle.spec_arithmetic.specs.Files.{judged, loaded, refused, Reader, read, singly, said}
 
 abbrev size_of : ℕ → ℕ
 size_of k = cond (eqb k 1) 2 1

@@ -1,8 +1,8 @@
 -- ln and log2 as document 01's Arithmetic section writes them: f64 operations, each rounded once, in its order.
-use Rattle.std.specs.Prelude.{ℕ, zero, suc, ◌+◌, ◌-◌, ◌*◌, ◌/◌, ◌^◌, true, false, cond, Float}
+use Rattle.std.specs.Prelude.{ℕ, zero, suc, ◌+◌, ◌-◌, ◌*◌, ◌/◌, ◌^◌, true, false, cond, from_bits, Float}
 use Rattle.std.specs.Float.{nan, inf, fin, binary64}
 use Rattle.std.specs.Float.Ieee.{add, sub, mul, div, lt, of_int, up, down, size, round, minus}
-use Rattle.spec_arithmetic.specs.Constants.{LN2, LOG2E, ROOT2, half, one64, two, whole64}
+use Rattle.spec_arithmetic.specs.Constants.{LN2, LOG2E, half, one64, whole64}
 use Rattle.spec_arithmetic.specs.declared.Parts.{Parts}
 
 -- 1 / (2 j + 1)
@@ -18,7 +18,7 @@ log_horner (suc j) z p = log_horner j z (add binary64 (mul binary64 p z) (recip 
 unfoldable pub series : Float → Float
 series m =
     let s = div binary64 (sub binary64 m one64) (add binary64 m one64) in
-    mul binary64 (mul binary64 two s) (log_horner 11 (mul binary64 s s) (recip 11))
+    mul binary64 (mul binary64 (from_bits binary64 0x4000_0000_0000_0000) s) (log_horner 11 (mul binary64 s s) (recip 11))
 
 -- "write it m·2^e, m in [1, 2)", for a number of x units of 2 ^ -1074: with d digits in x, m is x / 2 ^ (d - 1) and e is d - 1075. Both are exact.
 unfoldable pub parts_of : ℕ → Parts
@@ -26,16 +26,14 @@ parts_of x = record { m = round binary64 false x (2 ^ (size x - 1)); e = of_int 
 
 -- "if m > 1.4142135623730951, halve m and add 1 to e"
 unfoldable pub centred : Parts → Parts
-centred p = cond (lt ROOT2 p.m) (record { m = mul binary64 p.m half; e = add binary64 p.e one64 }) p
+centred p = cond (lt (from_bits binary64 0x3FF6_A09E_667F_3BCD) p.m) (record { m = mul binary64 p.m half; e = add binary64 p.e one64 }) p
 
 -- "Zero gives −infinity, +infinity itself, negatives and NaN give NaN"; of a number above 0, subnormal or not, m and e are its own
 unfoldable pub log_by : (Parts → Float) → Float → Float
-log_by f nan = nan
-log_by f (inf true) = nan
 log_by f (inf false) = inf false
 log_by f (fin s zero e) = inf true
-log_by f (fin true (suc m) e) = nan
 log_by f (fin false (suc m) e) = f (centred (parts_of (suc m * up e * 2 ^ 1074 / down e)))
+log_by f v = nan
 
 -- "ln is e·LN2 + (2·s)·p"
 unfoldable pub ln_of : Float → Float

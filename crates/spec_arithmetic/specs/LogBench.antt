@@ -1,8 +1,8 @@
 -- Bench cases and worked examples, by computation.
-use Rattle.std.specs.Prelude.{◌≡◌, true, false, pos, negsuc, refl, Float}
+use Rattle.std.specs.Prelude.{◌≡◌, true, false, pos, negsuc, from_bits, refl, Float}
 use Rattle.std.specs.Float.{fin, binary64}
 use Rattle.std.specs.Float.Ieee.{is_nan, neg, add, sub, mul, div, lt, of_bits, of_int, round}
-use Rattle.spec_arithmetic.specs.Constants.{ROOT2, one64, whole64}
+use Rattle.spec_arithmetic.specs.Constants.{one64, whole64}
 use Rattle.spec_arithmetic.specs.Log.{ln_of, log2_of, log_by, parts_of, centred, series, log_horner}
 use Rattle.spec_arithmetic.specs.Exp.{exp_of, exp_by, exp_series, exp_horner, floor_of}
 
@@ -37,7 +37,7 @@ unfolding exp_of is_nan neg add sub mul div lt of_bits of_int round exp_by exp_s
 exp_below_18 = refl
 
 -- "if m > 1.4142135623730951, halve m": not that number itself
-pub bound_not_halved : centred (record { m = ROOT2; e = one64 }) ≡ record { m = ROOT2; e = one64 }
+pub bound_not_halved : let root2 = from_bits binary64 0x3FF6_A09E_667F_3BCD in centred (record { m = root2; e = one64 }) ≡ record { m = root2; e = one64 }
 unfolding centred lt of_bits
 bound_not_halved = refl
 

@@ -22,9 +22,7 @@ root_units x =
 
 -- the root of every f64: of a zero that zero, of +infinity itself, of a negative number and of NaN it is NaN
 unfoldable pub root_of : Float → Float
-root_of nan = nan
-root_of (inf true) = nan
 root_of (inf false) = inf false
 root_of (fin s zero e) = fin s zero e
-root_of (fin true (suc m) e) = nan
 root_of (fin false (suc m) e) = root_units (suc m * up e * 2 ^ 1074 / down e)
+root_of x = nan

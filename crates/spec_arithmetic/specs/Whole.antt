@@ -5,13 +5,10 @@ use Rattle.std.specs.Float.Ieee.{up, down}
 
 -- `x.floor() as usize` of an x that is not negative
 unfoldable pub whole_part : Float → ℕ
-whole_part nan = 0
-whole_part (inf s) = 0
 whole_part (fin s m e) = m * up e / down e
+whole_part x = 0
 
 -- `x.ceil().max(0.0) as usize` of an x below 2 ^ 53
 unfoldable pub round_up : Float → ℕ
-round_up nan = 0
-round_up (inf s) = 0
-round_up (fin true m e) = 0
 round_up (fin false m e) = (m * up e + (down e - 1)) / down e
+round_up x = 0

@@ -32,12 +32,7 @@ kept ds d =
 unfoldable pub offer : Deltas → Float → DeltaKind → Float → Deltas
 offer ds z kind amount =
     cond (finite z && (lt one64 (magnitude z) && finite (narrowed amount)))
-    (kept ds (record { z = magnitude z; kind = kind; amount = narrowed amount }))
-    ds
-
--- σ widened as for scoring
-abbrev pub sigma : Float → Float → Float
-sigma widen v = mul binary64 v widen
+    (kept ds (record { z = magnitude z; kind = kind; amount = narrowed amount })) ds
 
 -- a difference at an end, or in range: below, the first kind; else the second
 unfoldable pub offer_end : Deltas → Float → Float → DeltaKind → DeltaKind → Deltas
@@ -50,16 +45,16 @@ offer_turn ds (Some own) (Some u) duration s =
     offer ds (div binary64 du s) (cond (lt zero64 du) TurnEarlier TurnLater) (mul binary64 (magnitude du) duration)
 offer_turn ds own u duration s = ds
 
--- the two ends, and the two that are read off the contour, of which range is max − min of the points
+-- the two ends, and the two that are read off the contour, of which range is max − min of the points; each by its σ, widened as for scoring
 unfoldable pub end_deltas : ToneShape → List Float → Tolerance → Float → Deltas
 end_deltas x points t widen =
-    let onset = offer_end no_deltas (sub binary64 (get_or x.contour 0 nan) (get_or points 0 nan)) (sigma widen t.onset) StartHigher StartLower in
-    offer_end onset (sub binary64 (get_or x.contour 9 nan) (get_or points 9 nan)) (sigma widen t.offset) EndHigher EndLower
+    let onset = offer_end no_deltas (sub binary64 (get_or x.contour 0 nan) (get_or points 0 nan)) (mul binary64 t.onset widen) StartHigher StartLower in
+    offer_end onset (sub binary64 (get_or x.contour 9 nan) (get_or points 9 nan)) (mul binary64 t.offset widen) EndHigher EndLower
 
 unfoldable pub inner_deltas : Deltas → ToneShape → List Float → Tolerance → Float → Deltas
 inner_deltas ends x points t widen =
-    let turn = offer_turn ends x.turning (turning_point points) x.duration (sigma widen t.turning) in
-    offer_end turn (sub binary64 x.range (range_in binary64 points)) (sigma widen t.contour) WiderRange NarrowerRange
+    let turn = offer_turn ends x.turning (turning_point points) x.duration (mul binary64 t.turning widen) in
+    offer_end turn (sub binary64 x.range (range_in binary64 points)) (mul binary64 t.contour widen) WiderRange NarrowerRange
 
 -- `compute`: onset, offset, turning point and range, in this order; only the ends where the shape is too short
 unfoldable pub deltas_of : ToneShape → List Float → Tolerance → Float → Bool → Deltas

@@ -7,13 +7,11 @@ use Rattle.std.specs.Float.{binary32}
 use Rattle.std.specs.Float.Ieee.{of_bits}
 use Rattle.tonekit_core.specs.Loop.{range}
 use Rattle.spec_lookup.specs.Source.{Tone, Accent, Carried, Source, accent_in, tone_in}
-use Rattle.spec_lookup.specs.Source as source
 use Rattle.spec_lookup.specs.declared.Context.{Context}
 use Rattle.spec_judgement.specs.declared.Region.{Region}
 use Rattle.spec_judgement.specs.declared.Tolerance.{Tolerance}
 use Rattle.spec_judgement.specs.Judge.{Inventory, Listings, listing, no_entry}
 use Rattle.spec_judgement.specs.declared.ToneListing.{ToneListing}
-use Rattle.spec_judgement.specs.declared.Slot.{Slot}
 use Rattle.spec_judgement.specs.declared.ToneEntry.{ToneEntry}
 use Rattle.spec_judgement.specs.declared.Slots.{Slots}
 use Rattle.spec_judgement.specs.declared.Settings.{Settings}
@@ -38,13 +36,9 @@ entry_of tone listing = record { number = tone.number; prior = f32 tone.prior; r
 unfoldable pub with_tone : ToneEntry → Inventory → Inventory
 with_tone entry i = record { items = i.items ++ (cond (ltb (length i.items) 8) entry no_entry ∷ []) }
 
--- components as slots have them: a weight, and ten points
-abbrev pub slot_of : Carried → Slot
-slot_of c = record { weight = f32 c.weight; points = map f32 c.points }
-
--- component j of tone t stands in slot 4 t + j
+-- component j of tone t stands in slot 4 t + j, as a weight and ten points
 unfoldable pub put_in : ℕ → List Carried → Slots → Slots
-put_in t cs s = record { list = sets s.list (4 * t) (map slot_of cs) }
+put_in t cs s = record { list = sets s.list (4 * t) (map (λ c. record { weight = f32 c.weight; points = map f32 c.points }) cs) }
 
 unfoldable pub slotted : ℕ → Tone → List Carried → Listings → Listings
 slotted t tone cs l = listing (with_tone (entry_of tone (named_of cs)) l.inventory) (put_in t cs l.slots)
@@ -72,17 +66,10 @@ list_tone src c t l =
 unfoldable pub listings : Source → Context → Listings
 listings src c = range (list_tone src c) 0 (length src.tones) (listing (record { items = [] }) no_slots)
 
--- "Tolerances are the graded accent's, also for inherited rules."
-abbrev pub tolerance_of : Accent → Tolerance
-tolerance_of a = record { contour = f32 a.contour; onset = f32 a.onset; offset = f32 a.offset; turning = f32 a.turning }
-
--- an accent's tolerances, where it is held
+-- "Tolerances are the graded accent's, also for inherited rules": an accent's, where it is held
 abbrev pub graded_of : math.Option Accent → Option Tolerance
 graded_of none = None
-graded_of (some a) = Some (tolerance_of a)
-
-abbrev pub settings_of : source.Settings → Settings
-settings_of s = record { temperature = f32 s.temperature; threshold = f32 s.threshold }
+graded_of (some a) = Some (record { contour = f32 a.contour; onset = f32 a.onset; offset = f32 a.offset; turning = f32 a.turning })
 
 -- whether what stood before is held, or nothing stood there; the settings; the accent's tolerances, if it is held; the listings
 pub record Gathering : Type 0 where
@@ -94,7 +81,7 @@ pub record Gathering : Type 0 where
 unfoldable pub gathered : Source → Context → Gathering
 gathered src c = record {
   prev = eqb c.prev 0 || tone_in src.tones c.prev;
-  settings = settings_of src.settings;
+  settings = record { temperature = f32 src.settings.temperature; threshold = f32 src.settings.threshold };
   tolerance = graded_of (accent_in src.accents c.accent);
   listed = listings src c;
 }

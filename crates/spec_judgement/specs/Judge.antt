@@ -71,13 +71,7 @@ no_entry = record { number = 0; prior = nan; region = None; listing = None }
 abbrev pub entry_at : Inventory → ℕ → ToneEntry
 entry_at i t = get_or i.items t no_entry
 
-abbrev pub count_at : Inventory → ℕ → ℕ
-count_at i t = count_in (entry_at i t).listing
-
--- the same past the end of a list of targets, and of slots
-abbrev pub target_at : Targets → ℕ → Target
-target_at g k = get_or g.items k (record { place = 0; weight = nan })
-
+-- the same past the end of a list of slots
 abbrev pub slot_at : Slots → ℕ → Slot
 slot_at slots k = get_or slots.list k (record { weight = nan; points = [] })
 
@@ -97,7 +91,7 @@ unfoldable pub loglik_at : Scoring → (ℕ → ℕ → Component) → ℕ → �
 loglik_at s c n t = calibrate s (mixture_log (mixture_of (tone_mixing s c n t)))
 
 unfoldable pub logliks : Scoring → Inventory → (ℕ → ℕ → Component) → List Float
-logliks s i c = range (λ t ll. set ll t (loglik_at s c (count_at i t) t)) 0 (length i.items) (replicate 8 zero32)
+logliks s i c = range (λ t ll. set ll t (loglik_at s c (count_in (entry_at i t).listing) t)) 0 (length i.items) (replicate 8 zero32)
 
 -- background and posterior: score = ln prior + log-likelihood; the first of equal scores is the top
 unfoldable pub ranked : Ranking → ℕ → Float → Ranking
@@ -126,8 +120,8 @@ part_mixing s c n t weight m = range (λ j m. weighed s m (4 * t + j) (mul binar
 
 unfoldable pub target_mixing : Scoring → Inventory → (ℕ → ℕ → Component) → Targets → Mixing
 target_mixing s i c g =
-    let part = λ (target : Target). part_mixing s c (count_at i target.place) target.place target.weight in
-    range (λ k m. part (target_at g k) m) 0 (length g.items) no_mixing
+    let part = λ (target : Target). part_mixing s c (count_in (entry_at i target.place).listing) target.place target.weight in
+    range (λ k m. part (get_or g.items k (record { place = 0; weight = nan })) m) 0 (length g.items) no_mixing
 
 -- the target against the background, both calibrated
 unfoldable pub llr_of : Scoring → Mixture → LogSumExp → Float
@@ -148,29 +142,21 @@ plain_of s threshold i c m issues =
       issues = issues;
     }
 
--- f32's greatest value, as an f64
-abbrev pub greatest32 : Float
-greatest32 = of_bits binary64 0x47ef_ffff_e000_0000
-
--- √d², "uncalibrated"
+-- √d², "uncalibrated"; at most f32's greatest value, here as an f64
 unfoldable pub distance_from : Float → Float
-distance_from d2 = narrowed (lesser (root_of d2) greatest32)
+distance_from d2 = narrowed (lesser (root_of d2) (of_bits binary64 0x47ef_ffff_e000_0000))
 
 -- deltas: "none under `LowSnr`, and only onset/offset ones under `TooShort`"
 unfoldable pub advice_of : ToneShape → Scoring → Tolerance → List Float → ℕ → Deltas
 advice_of x s t points issues =
     cond (has_issue issues LowSnr) no_deltas (deltas_of x points t s.widen (has_issue issues TooShort))
 
--- the component's place in its rule, where that is a mixture
-unfoldable pub slot_part : Name → ℕ → ℕ
-slot_part name slot = cond (eqb name.form MIXTURE_FORM) (slot % 4) 0
-
--- what is said of the best component of the target, which stands at a slot of that tone's entry
+-- what is said of the best component of the target, which stands at a slot of that tone's entry; the part is its place in its rule, where that is a mixture
 unfoldable pub nearest_at : ToneEntry → ℕ → Float → Nearest
 nearest_at e slot d2 = record {
   distance = distance_from d2;
   name = name_in e.listing;
-  part = slot_part (name_in e.listing) slot;
+  part = cond (eqb (name_in e.listing).form MIXTURE_FORM) (slot % 4) 0;
 }
 
 -- the best component, and the deltas against it; nothing of these where there is nothing to score

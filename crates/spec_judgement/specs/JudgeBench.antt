@@ -1,6 +1,6 @@
 -- Worked cases for a judgement and its record, by computing.
 use Rattle.std.specs.Prelude.{ℕ, ◌+◌, ◌≡◌, refl, true, Option, Some, None, is_some, List, [], ◌∷◌, ◌++◌, map, length, replicate, Float}
-use Rattle.std.specs.Float.{binary32}
+use Rattle.std.specs.Float.{binary32, binary64}
 use Rattle.std.specs.Float.Ieee.{is_nan, eq, neg, add, sub, mul, div, lt, le, round, of_int, of_bits, to_bits}
 use Rattle.tonekit_core.specs.Loop.{turns, range}
 use Rattle.spec_arithmetic.specs.Narrow.{narrowed}
@@ -23,17 +23,17 @@ use Rattle.tonekit_core.specs.declared.Name.{Name}
 use Rattle.spec_judgement.specs.declared.Region.{Region}
 use Rattle.spec_judgement.specs.declared.ToneEntry.{ToneEntry}
 use Rattle.spec_judgement.specs.declared.ToneJudgement.{ToneJudgement}
-use Rattle.spec_judgement.specs.Judge.{Inventory, component_at, weighed, part_mixing, ranked, ranking_of, heard_of, greatest32, advice_of, slot_part, not_measured}
-use Rattle.spec_judgement.specs.Record.{delta_count, kind_of, amount_of, nearest_bytes, score_bytes, one_bytes, delta_bytes, judgement_bytes}
+use Rattle.spec_judgement.specs.Judge.{Inventory, component_at, weighed, part_mixing, ranked, ranking_of, heard_of, advice_of, nearest_at, not_measured}
+use Rattle.spec_judgement.specs.Record.{nearest_bytes, score_bytes, one_bytes, delta_bytes, judgement_bytes}
 
 -- "Tone 1, accent 1 with a citation, eight voiced frames of 110 Hz, floor NaN: hexadecimal 31 01 01 00 24 74 C9, 54 zero bytes, 02 40 00"
 pub floor_nan : judgement_bytes 1 1 (not_measured 1)
     ≡ (0x31 ∷ 0x01 ∷ 0x01 ∷ 0x00 ∷ 0x24 ∷ 0x74 ∷ 0xc9 ∷ []) ++ (replicate 54 0 ++ (0x02 ∷ 0x40 ∷ 0x00 ∷ []))
-unfolding judgement_bytes not_measured nearest_bytes score_bytes one_bytes delta_bytes delta_count kind_of amount_of f32s_bytes range turns narrowed round neg of_bits to_bits
+unfolding judgement_bytes not_measured nearest_bytes score_bytes one_bytes delta_bytes f32s_bytes range turns narrowed round neg of_bits to_bits
 floor_nan = refl
 
 -- f32's greatest value is the same number in both formats
-pub greatest_32 : greatest32 ≡ of_bits binary32 0x7f7f_ffff
+pub greatest_32 : of_bits binary64 0x47ef_ffff_e000_0000 ≡ of_bits binary32 0x7f7f_ffff
 unfolding of_bits
 greatest_32 = refl
 
@@ -87,17 +87,17 @@ pub no_advice : advice_of (raised more zero) plain (record { contour = half; ons
 unfolding advice_of
 no_advice = refl
 
--- a name of this form
-abbrev of_form : ℕ → Name
-of_form form = record { owner = 1; form = form; label = 0 }
+-- a tone whose listing has this form
+abbrev of_form : ℕ → ToneEntry
+of_form form = record { number = 1; prior = half; region = None; listing = Some (record { name = record { owner = 1; form = form; label = 0 }; count = 4 }) }
 
 -- a part counts from 0, in a mixture alone
-pub third_part : slot_part (of_form MIXTURE_FORM) 6 ≡ 2
-unfolding slot_part
+pub third_part : (nearest_at (of_form MIXTURE_FORM) 6 half).part ≡ 2
+unfolding nearest_at
 third_part = refl
 
-pub single_part : slot_part (of_form SINGLE_FORM) 4 ≡ 0
-unfolding slot_part
+pub single_part : (nearest_at (of_form SINGLE_FORM) 4 half).part ≡ 0
+unfolding nearest_at
 single_part = refl
 
 -- ---- every field of the record: bytes that are their own offsets behind the kind, but for the distance's flag, the deltas' count and kinds, and measured
@@ -127,7 +127,7 @@ record49 =
     2 ∷ 7 ∷ 52 ∷ 53 ∷ 54 ∷ 55 ∷ 4 ∷ 57 ∷ 58 ∷ 59 ∷ 60 ∷ 1 ∷ 62 ∷ 63 ∷ []
 
 pub fields49 : judgement_bytes 1 2 judgement49 ≡ record49
-unfolding judgement_bytes nearest_bytes score_bytes one_bytes delta_bytes delta_count kind_of amount_of f32s_bytes round of_bits to_bits
+unfolding judgement_bytes nearest_bytes score_bytes one_bytes delta_bytes f32s_bytes round of_bits to_bits
 fields49 = refl
 
 -- read by the names of their offsets

@@ -2,6 +2,7 @@
 use Rattle.std.specs.Prelude.{ℕ, Bool, cond, not, Option, Some, None, ok_or, Result, Ok, Err, List, eqb, length, ltb}
 use Rattle.tonekit_core.specs.Calls.{Outcome, refused, written}
 use Rattle.std.specs.List.{list_all}
+use Rattle.std.specs.Option.{option_map_or}
 use Rattle.tonekit_core.specs.declared.Refusal.{Refusal}
 use Rattle.tonekit_core.specs.declared.Refusal.TheVariants as refusal
 use Rattle.tonekit_core.specs.declared.Rejection.{Rejection}
@@ -23,9 +24,6 @@ use Rattle.spec_judgement.specs.Record.{judgement_bytes}
 use Rattle.spec_judgement.specs.Target.{variants_good, targets_of}
 use Rattle.spec_judgement.specs.Gather.{Gathering, gathered}
 
-abbrev pub context_of : Query → Context
-context_of q = record { accent = q.accent; tone = q.tone; prev = q.prev; last = q.last }
-
 -- "no realisation: some inventory tone has nothing here"
 unfoldable pub tones_verdict : Inventory → Result (Unit {0}) Refusal
 tones_verdict i = cond (not (list_all (λ e. not (eqb (count_in e.listing) 0)) i.items)) (Err refusal.NoRealisation) (Ok tt)
@@ -45,31 +43,25 @@ query_verdict voiced accent prev i s q =
     (and_then (tones_verdict i) (λ u.
     cond (variants_good s q.variants) (Ok t) (Err refusal.BadVariant)))))
 
--- "13 for targets"; or the record: `judge` after `extract`, "issues the union"
-abbrev pub recorded : Gathering → Tolerance → Query → List ℕ → Extent → Option Targets → Outcome
-recorded g t q frames e None = refused refusal.UnknownTone 0
-recorded g t q frames e (Some a) =
-    let x = shape_of frames e q.start q.end q.floor q.ceil in
-    written
-    (judgement_bytes q.tone (length g.listed.inventory.items)
-    (judgement_of x g.settings t g.listed a (united q.issues x.frames)))
-
 abbrev pub unless : Result Tolerance Refusal → (Tolerance → Outcome) → Outcome
 unless (Err r) o = refused r 0
 unless (Ok t) o = o t
 
--- a query that loads, judged by what a station gathered for its context: s is its bytes, and q what they say
+-- a query that loads, judged by what a station gathered for its context: s is its bytes, and q what they say. "13 for targets"; or the record: `judge` after
+-- `extract`, "issues the union"
 unfoldable pub judge_gathered : Gathering → List ℕ → Query → Outcome
 judge_gathered g s q =
     let frames = frames_of s q.count in
     let e = extent_of frames q.count q.start q.end in
     let i = g.listed.inventory in
+    let x = shape_of frames e q.start q.end q.floor q.ceil in
+    let record_of = λ (t : Tolerance) (a : Targets). judgement_bytes q.tone (length i.items) (judgement_of x g.settings t g.listed a (united q.issues x.frames)) in
     unless (query_verdict e.count g.tolerance g.prev i s q)
-    (λ t. recorded g t q frames e (targets_of i s q.tone q.variants))
+    (λ t. option_map_or (λ a. written (record_of t a)) (targets_of i s q.tone q.variants) (refused refusal.UnknownTone 0))
 
 abbrev pub on_query : Source → List ℕ → Result Query Rejection → Outcome
 on_query src s (Err e) = refused e.why e.place
-on_query src s (Ok q) = judge_gathered (gathered src (context_of q)) s q
+on_query src s (Ok q) = judge_gathered (gathered src (record { accent = q.accent; tone = q.tone; prev = q.prev; last = q.last })) s q
 
 -- a query's bytes, judged by what a station holds
 unfoldable pub judgement : Source → List ℕ → Outcome

@@ -10,20 +10,9 @@ use Rattle.spec_judgement.specs.declared.Deltas.{Deltas}
 use Rattle.spec_judgement.specs.declared.Nearest.{Nearest}
 use Rattle.spec_judgement.specs.declared.ToneJudgement.{ToneJudgement}
 
--- a delta's kind and its amount, both 0 where there is none
-unfoldable pub kind_of : Option Delta → ℕ
-kind_of d = option_map_or (λ d. delta_number d.kind) d 0
-
-unfoldable pub amount_of : Option Delta → Float
-amount_of d = option_map_or (λ d. d.amount) d zero32
-
 -- a flag: 1 or 0
 abbrev pub flag_of : Bool → ℕ
 flag_of b = cond b 1 0
-
--- how many there are
-unfoldable pub delta_count : Deltas → ℕ
-delta_count ds = flag_of (is_some ds.first) + flag_of (is_some ds.second)
 
 -- distance, owner, form, label and part: 0 where there is no best component
 abbrev pub no_nearest : Nearest
@@ -37,13 +26,13 @@ nearest_bytes flag n = (flag ∷ []) ++ (f32_bytes n.distance ++ ((n.name.owner 
 unfoldable pub score_bytes : ToneJudgement → List ℕ
 score_bytes j = f32_bytes j.llr ++ (nearest_bytes (flag_of (is_some j.nearest)) (unwrap_or j.nearest no_nearest) ++ (unwrap_or j.heard 0 ∷ []))
 
--- a delta: kind and amount
+-- a delta: kind and amount, both 0 where there is none
 unfoldable pub one_bytes : Option Delta → List ℕ
-one_bytes d = (kind_of d ∷ []) ++ f32_bytes (amount_of d)
+one_bytes d = (option_map_or (λ d. delta_number d.kind) d 0 ∷ []) ++ f32_bytes (option_map_or (λ d. d.amount) d zero32)
 
--- delta count, two deltas
+-- delta count, how many there are, and two deltas
 unfoldable pub delta_bytes : Deltas → List ℕ
-delta_bytes ds = (delta_count ds ∷ []) ++ (one_bytes ds.first ++ one_bytes ds.second)
+delta_bytes ds = ((flag_of (is_some ds.first) + flag_of (is_some ds.second)) ∷ []) ++ (one_bytes ds.first ++ one_bytes ds.second)
 
 -- the record, 64 bytes: kind, expected, tone count; log-likelihoods, scores, deltas; measured, issues
 unfoldable pub judgement_bytes : ℕ → ℕ → ToneJudgement → List ℕ

@@ -85,14 +85,12 @@ unfoldable pub point_weight : Option Region → ℕ → Float → Float
 point_weight r k voiced = cond (excused r k voiced) zero64 (greater voiced (of_bits binary32 0x3e80_0000))
 
 -- `weighted_mean_square` of a component's ten points: Σ w r² and Σ w
-abbrev pub square_turn : List Float → List Float → Option Region → List Float → ℕ → Squares → Squares
-square_turn contour weights r ten k s =
-    let w = point_weight r k (get_or weights k nan) in
-    let d = sub binary64 (get_or contour k nan) (get_or ten k nan) in
-    record { weighted = add binary64 s.weighted (mul binary64 (mul binary64 w d) d); total = add binary64 s.total w }
-
 unfoldable pub squares_of : ToneShape → Option Region → List Float → Squares
-squares_of x r ten = range (square_turn x.contour x.weights r ten) 0 10 (record { weighted = zero64; total = zero64 })
+squares_of x r ten =
+    let w = λ (k : ℕ). point_weight r k (get_or x.weights k nan) in
+    let d = λ (k : ℕ). sub binary64 (get_or x.contour k nan) (get_or ten k nan) in
+    range (λ k s. record { weighted = add binary64 s.weighted (mul binary64 (mul binary64 (w k) (d k)) (d k)); total = add binary64 s.total (w k) }) 0 10
+    (record { weighted = zero64; total = zero64 })
 
 -- ½ (Δ / σ)²
 unfoldable pub end_term : Float → Float → Float

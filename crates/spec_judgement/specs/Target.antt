@@ -1,18 +1,15 @@
 -- The tones that a query asks for, as `expect` of the Rust weighs them: the main tone, then its variants.
 use Rattle.std.specs.Prelude.{ℕ, zero, suc, ◌+◌, Bool, true, cond, not, ◌&&◌, ◌==◌, Option, Some, None, option_map, List, [], ◌∷◌, ◌++◌, position, length, ltb, Float}
+use Rattle.std.specs.Option.{option_map_or}
 use Rattle.std.specs.Float.{binary32}
 use Rattle.std.specs.Float.Ieee.{neg, add, sub, lt, le, of_bits}
 use Rattle.std.specs.Float.Ieee.Scale.{finite}
-use Rattle.tonekit_core.specs.Loop.{Turn, next, stop, range, range_to}
+use Rattle.tonekit_core.specs.Loop.{next, stop, range, range_to}
 use Rattle.spec_arithmetic.specs.Constants.{zero32, one32}
 use Rattle.spec_arithmetic.specs.Pick.{greater}
 use Rattle.spec_query.specs.Query.{variant_tone, variant_weight}
 use Rattle.spec_judgement.specs.Judge.{Inventory, Targets}
 use Rattle.spec_judgement.specs.declared.Target.{Target}
-
--- VARIANT_SUM_SLACK, 1e−6
-abbrev pub slack : Float
-slack = of_bits binary32 0x3586_37bd
 
 -- "weight below 0 or not finite (−0 passes)"
 unfoldable pub variant_weight_good : Float → Bool
@@ -25,9 +22,9 @@ variant_weights_good s n = range (λ i ok. ok && variant_weight_good (variant_we
 unfoldable pub main_weight : List ℕ → ℕ → Float
 main_weight s n = sub binary32 one32 (range (λ i t. add binary32 t (variant_weight s i)) 0 n zero32)
 
--- not "bad variant: weight below 0 or not finite (−0 passes), or 1 − sum < −1e−6, in f32"
+-- not "bad variant: weight below 0 or not finite (−0 passes), or 1 − sum < −1e−6, in f32": VARIANT_SUM_SLACK is 1e−6
 unfoldable pub variants_good : List ℕ → ℕ → Bool
-variants_good s n = variant_weights_good s n && not (lt (main_weight s n) (neg slack))
+variants_good s n = variant_weights_good s n && not (lt (main_weight s n) (neg (of_bits binary32 0x3586_37bd)))
 
 -- the place of a number among the inventory's
 unfoldable pub place_of : Inventory → ℕ → Option ℕ
@@ -50,13 +47,8 @@ target_weight s main (suc i) = variant_weight s i
 unfoldable pub with_target : Target → Targets → Targets
 with_target t g = record { items = cond (ltb (length g.items) 5) (g.items ++ t ∷ []) g.items }
 
--- "unknown tone: .. target tone not held"
-abbrev pub aim_at : Targets → Option Target → Turn Targets (Option Targets)
-aim_at g (Some t) = next (with_target t g)
-aim_at g None = stop None
-
--- the target of a query of this tone and so many variants, among the inventory's tones; none where one of them is not held
+-- the target of a query of this tone and so many variants, among the inventory's tones; "unknown tone: .. target tone not held", where one of them is not
 unfoldable pub targets_of : Inventory → List ℕ → ℕ → ℕ → Option Targets
 targets_of i s tone variants =
-    let turn = λ (k : ℕ) (g : Targets). aim_at g (target_of i (target_tone s tone k) (target_weight s (main_weight s variants) k)) in
-    range_to turn Some 0 (variants + 1) (record { items = [] })
+    let aimed = λ (k : ℕ). target_of i (target_tone s tone k) (target_weight s (main_weight s variants) k) in
+    range_to (λ k (g : Targets). option_map_or (λ t. next (with_target t g)) (aimed k) (stop None)) Some 0 (variants + 1) (record { items = [] })

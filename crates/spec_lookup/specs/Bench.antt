@@ -13,7 +13,7 @@ use Rattle.spec_pack.specs.Pack.{parts_from, PackRead, due_after, size_of, holds
 use Rattle.spec_lookup.specs.declared.Context.{Context}
 use Rattle.spec_lookup.specs.declared.Listing.{Listing}
 use Rattle.spec_arithmetic.specs.Position.{position}
-use Rattle.spec_lookup.specs.Knots.{segment, past_knot, on_line, point_at, first_points, expanded, knots_at, point_most, point_least}
+use Rattle.spec_lookup.specs.Knots.{segment, past_knot, on_line, point_at, first_points, expanded, knots_at, Point}
 use Rattle.spec_lookup.specs.Lookup.{meets, matches, specificity, better_of, best_rule, climb_turn, find_rule, rule_listing, listed, look_up, tone_knots_at, part_knots_at, component_of}
 use Rattle.spec_lookup.specs.Source.{settings_at, tone_at, accent_at}
 
@@ -35,9 +35,9 @@ unfolding on_line add sub mul of_bits narrowed
 difference = refl
 
 -- knots of size 100 are points within the bounds
-bounds : (le (of_bits binary32 0x42c8_0000) point_most ≡ true) × (le point_least (of_bits binary32 0xc2c8_0000) ≡ true)
+bounds : Point (of_bits binary32 0x42c8_0000) × Point (of_bits binary32 0xc2c8_0000)
 unfolding le of_bits
-bounds = (refl, refl)
+bounds = (record { low = tt; high = tt }, record { low = tt; high = tt })
 
 -- ---- a pack: tone 1 with a citation, tone 2 for contexts only. Accent 5 has a rule for tone 1 at the end of a phrase, and one for tone 2
 -- after tone 1. Accent 3, its child, has two rules for tone 1, equally specific

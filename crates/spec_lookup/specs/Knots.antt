@@ -43,19 +43,12 @@ unfoldable pub knots_at : List ℕ → ℕ → ℕ → List Float
 knots_at s o zero = []
 knots_at s o (suc n) = knots_at s o n ++ (f32_at s (o + F32_SIZE * n) ∷ [])
 
--- the greatest point, and the least
-abbrev pub point_most : Float
-point_most = fin false 1 (pos 7)
-
-abbrev pub point_least : Float
-point_least = fin true 1 (pos 7)
-
 -- of size at most 100, and at most 128
 abbrev pub Knot : Float → Type 0
 Knot x = In (fin true 25 (pos 2)) (fin false 25 (pos 2)) x
 
 abbrev pub Point : Float → Type 0
-Point x = In point_least point_most x
+Point x = In (fin true 1 (pos 7)) (fin false 1 (pos 7)) x
 
 -- one to ten knots of size at most 100
 pub record Knots (knots : List Float) : Type 0 where

@@ -40,28 +40,21 @@ unfoldable pub better_of : List ℕ → Context → Option ℕ → ℕ → Optio
 better_of s c best r = cond (matches s c r && more_than s best r) (Some r) best
 
 -- the rules of accent i: from those that stood before it to those before the next accent
-abbrev pub from_rule : PackRead → ℕ → ℕ
-from_rule st i = get_or st.firsts i 0
-
 abbrev pub to_rule : PackRead → ℕ → ℕ
 to_rule st i = cond (ltb (i + 1) (length st.accents)) (get_or st.firsts (i + 1) 0) (length st.rules)
 
 -- the best of them that match
 unfoldable pub best_rule : List ℕ → PackRead → Context → ℕ → Option ℕ
-best_rule s st c i = range (λ k best. better_of s c best (get_or st.rules k 0)) (from_rule st i) (to_rule st i) None
+best_rule s st c i = range (λ k best. better_of s c best (get_or st.rules k 0)) (get_or st.firsts i 0) (to_rule st i) None
 
 -- "from the graded accent up its parents, the first accent with any matching rule gives its most specific one"
 abbrev pub to_parent : Option ℕ → Turn ℕ (Option Winner)
 to_parent None = stop None
 to_parent (Some j) = next j
 
--- the place of accent i's parent
-abbrev pub parent_of : List ℕ → PackRead → ℕ → Option ℕ
-parent_of s st i = index_of s st.accents (byte_at s (get_or st.accents i 0 + ACCENT_PARENT))
-
 abbrev pub or_parent : List ℕ → PackRead → ℕ → Option ℕ → Turn ℕ (Option Winner)
 or_parent s st i (Some r) = stop (Some (record { accent = i; rule = r }))
-or_parent s st i None = to_parent (parent_of s st i)
+or_parent s st i None = to_parent (index_of s st.accents (byte_at s (get_or st.accents i 0 + ACCENT_PARENT)))
 
 unfoldable pub climb_turn : List ℕ → PackRead → Context → ℕ → Turn ℕ (Option Winner)
 climb_turn s st c i = or_parent s st i (best_rule s st c i)

@@ -10,7 +10,7 @@ use Rattle.tonekit_core.specs.declared.Refusal.TheVariants.{Crowded, OffScale, D
 use Rattle.tonekit_core.specs.declared.Rejection.{Rejection}
 use Rattle.spec_arithmetic.specs.Fields.{byte_at, u32_at, f32_at}
 use Rattle.spec_arithmetic.specs.Places.{number_at}
-use Rattle.spec_arithmetic.specs.Files.{judged, Out, loaded, Here, Reader, read, singly, said}
+use Rattle.spec_arithmetic.specs.Files.{judged, Out, loaded, Reader, read, singly, said}
 use Rattle.spec_pack.specs.Ranges.{above_zero, probability_fine, weight_fine, knots_fine, region_fine, tolerances_fine}
 
 -- what has been read: the last kind; the offsets of tones, accents and rules, in order; for each accent how many rules stood before it;
@@ -64,26 +64,24 @@ unfoldable pub settings_verdict : List ℕ → ℕ → Result Unit Refusal
 settings_verdict s o = in_turn false (above_zero (f32_at s (o + SETTINGS_TEMPERATURE)) && probability_fine (f32_at s (o + SETTINGS_THRESHOLD))) true true
 
 -- number, prior, knot count, ten slots, region
-abbrev pub tone_crowded : List ℕ → ℕ → PackRead → Bool
-tone_crowded s o st = leb 8 (length st.tones) || ltb 10 (byte_at s (o + TONE_KNOT_COUNT))
-
 abbrev pub tone_fine : List ℕ → ℕ → Bool
 tone_fine s o =
     not (eqb (number_at s o) 0)
     && (probability_fine (f32_at s (o + TONE_PRIOR)) && (knots_fine s (o + TONE_KNOTS) (byte_at s (o + TONE_KNOT_COUNT)) && region_fine s (o + TONE_REGION)))
 
 unfoldable pub tone_verdict : List ℕ → ℕ → PackRead → Result Unit Refusal
-tone_verdict s o st = in_turn (tone_crowded s o st) (tone_fine s o) (not (holds s st.tones (number_at s o))) true
+tone_verdict s o st =
+    in_turn (leb 8 (length st.tones) || ltb 10 (byte_at s (o + TONE_KNOT_COUNT))) (tone_fine s o) (not (holds s st.tones (number_at s o))) true
 
--- number, parent ("A parent stands earlier in the file"), tolerances
-abbrev pub accent_fine : List ℕ → ℕ → Bool
-accent_fine s o = not (eqb (number_at s o) 0) && tolerances_fine s (o + ACCENT_CONTOUR)
+-- number, parent ("A parent stands earlier in the file"), tolerances: they stand elsewhere in a sheet
+abbrev pub accent_fine : ℕ → List ℕ → ℕ → Bool
+accent_fine contour s o = not (eqb (number_at s o) 0) && tolerances_fine s (o + contour)
 
 abbrev pub accent_held : List ℕ → ℕ → PackRead → Bool
 accent_held s o st = zero_or_held s st.accents (byte_at s (o + ACCENT_PARENT))
 
 unfoldable pub accent_verdict : List ℕ → ℕ → PackRead → Result Unit Refusal
-accent_verdict s o st = in_turn (leb 8 (length st.accents)) (accent_fine s o) (not (holds s st.accents (number_at s o))) (accent_held s o st)
+accent_verdict s o st = in_turn (leb 8 (length st.accents)) (accent_fine ACCENT_CONTOUR s o) (not (holds s st.accents (number_at s o))) (accent_held s o st)
 
 -- label, tone, prev, final ("0 any, 1 no, 2 yes"), form ("2 is single, 3 mixture")
 abbrev pub rule_fine : List ℕ → ℕ → Bool
@@ -95,19 +93,11 @@ rule_held s o st = zero_or_held s st.tones (byte_at s (o + RULE_TONE)) && zero_o
 unfoldable pub rule_verdict : List ℕ → ℕ → PackRead → Result Unit Refusal
 rule_verdict s o st = in_turn (leb 64 (length st.rules)) (rule_fine s o) true (rule_held s o st)
 
--- the offset of the last rule
-abbrev pub last_rule : PackRead → ℕ
-last_rule st = get_or st.rules (length st.rules - 1) 0
-
--- "Form 2 is single"
+-- "Form 2 is single": that of the last rule
 abbrev pub single : List ℕ → PackRead → Bool
-single s st = eqb (byte_at s (last_rule st + RULE_FORM)) 2
+single s st = eqb (byte_at s (get_or st.rules (length st.rules - 1) 0 + RULE_FORM)) 2
 
 -- weight, knot count, ten slots. Of a single rule "its part's weight is 1, else 5; a second part is 4"
-abbrev pub part_crowded : List ℕ → ℕ → PackRead → Bool
-part_crowded s o st =
-    leb 4 st.parts || (leb 128 st.total || ((single s st && leb 1 st.parts) || ltb 10 (byte_at s (o + PART_KNOT_COUNT))))
-
 abbrev pub part_fine : Bool → List ℕ → ℕ → Bool
 part_fine one s o =
     weight_fine (u32_at s (o + PART_WEIGHT))
@@ -115,7 +105,9 @@ part_fine one s o =
     && (not (eqb (byte_at s (o + PART_KNOT_COUNT)) 0) && knots_fine s (o + PART_KNOTS) (byte_at s (o + PART_KNOT_COUNT))))
 
 unfoldable pub part_verdict : List ℕ → ℕ → PackRead → Result Unit Refusal
-part_verdict s o st = in_turn (part_crowded s o st) (part_fine (single s st) s o) true true
+part_verdict s o st =
+    in_turn (leb 4 st.parts || (leb 128 st.total || ((single s st && leb 1 st.parts) || ltb 10 (byte_at s (o + PART_KNOT_COUNT)))))
+    (part_fine (single s st) s o) true true
 
 unfoldable pub body_verdict : ℕ → List ℕ → ℕ → PackRead → Result Unit Refusal
 body_verdict k s o st =
@@ -141,13 +133,10 @@ unfoldable pub parts_from : ℕ → List ℕ → ℕ → ℕ
 parts_from zero s o = 0
 parts_from (suc n) s o = cond (eqb (byte_at s o) PART_KIND) (suc (parts_from n s (o + PART_SIZE))) 0
 
-abbrev pub start : Here PackRead
-start = record { at = 0; st = record { last = 0; tones = []; accents = []; firsts = []; rules = []; parts = 0; total = 0 } }
-
 -- how a pack is read: its End, of one byte, is all there is to its end
 abbrev pub pack_reader : Reader PackRead
 pack_reader = record {
-  start = start;
+  start = record { at = 0; st = record { last = 0; tones = []; accents = []; firsts = []; rules = []; parts = 0; total = 0 } };
   verdict = record_verdict;
   size = size_of;
   added = λ s o st. added (byte_at s o) o st;

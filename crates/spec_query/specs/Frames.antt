@@ -10,13 +10,8 @@ use Rattle.spec_query.specs.declared.Voiced.{Voiced}
 abbrev pub pitch : Float → Bool
 pitch hz = lt (fin false 0 (pos 0)) hz && lt hz (inf false)
 
--- whether the frame at an offset is voiced
-abbrev pub voiced_at : List ℕ → ℕ → Bool
-voiced_at frames at = eqb (byte_at frames (at + FRAME_VOICED)) 1 && pitch (f32_at frames (at + FRAME_HZ))
-
--- frame i of the part that holds the frames: its hz and voiced_p
+-- frame i of the part that holds the frames, if it is voiced: its hz and voiced_p
 unfoldable pub frame_at : List ℕ → ℕ → Option Voiced
 frame_at frames i =
-    cond (voiced_at frames (FRAME_SIZE * i))
-    (Some (record { hz = f32_at frames (FRAME_SIZE * i + FRAME_HZ); voiced_p = f32_at frames (FRAME_SIZE * i + FRAME_VOICED_P) }))
-    None
+    cond (eqb (byte_at frames (FRAME_SIZE * i + FRAME_VOICED)) 1 && pitch (f32_at frames (FRAME_SIZE * i + FRAME_HZ)))
+    (Some (record { hz = f32_at frames (FRAME_SIZE * i + FRAME_HZ); voiced_p = f32_at frames (FRAME_SIZE * i + FRAME_VOICED_P) })) None

@@ -59,15 +59,9 @@ abbrev pub after_frame : ℕ → Result Unit Refusal → Turn ℕ (Result Query 
 after_frame at (Ok u) = next (at + FRAME_SIZE)
 after_frame at (Err r) = stop (Err (record { why = r; place = at }))
 
-abbrev pub frame_turn : List ℕ → ℕ → ℕ → Turn ℕ (Result Query Rejection)
-frame_turn s i at = after_frame at (frame_verdict s at)
-
-abbrev pub read_frames : List ℕ → ℕ → Result Query Rejection
-read_frames s count = range_to (frame_turn s) (λ at. Ok (fields_of s)) 0 count QUERY_SIZE
-
 -- a query at the front of a longer input: its fixed record, then as many frames as that counts
 abbrev pub after_record : List ℕ → Result Unit Refusal → Result Query Rejection
-after_record s (Ok u) = read_frames s (u16_at s QUERY_FRAME_COUNT)
+after_record s (Ok u) = range_to (λ i at. after_frame at (frame_verdict s at)) (λ at. Ok (fields_of s)) 0 (u16_at s QUERY_FRAME_COUNT) QUERY_SIZE
 after_record s (Err r) = Err (record { why = r; place = 0 })
 
 unfoldable pub read_query : List ℕ → Result Query Rejection

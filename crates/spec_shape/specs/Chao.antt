@@ -1,13 +1,11 @@
 -- chao.rs: semitones, Chao values, and the definition of a voiced frame. The operations are the Rust's, in its order.
-use Rattle.std.specs.Prelude.{ℕ, Bool, cond, ◌&&◌, List, is_some, Float, Option}
-use Rattle.std.specs.Option.{option_map_or}
+use Rattle.std.specs.Prelude.{ℕ, Bool, cond, ◌&&◌, List, is_some, Float}
 use Rattle.std.specs.Float.{binary64}
 use Rattle.std.specs.Float.Ieee.{add, sub, mul, div, lt}
 use Rattle.std.specs.Float.Ieee.Scale.{finite}
 use Rattle.spec_arithmetic.specs.Constants.{zero64, one64, whole64}
 use Rattle.spec_arithmetic.specs.Log.{log2_of}
 use Rattle.spec_query.specs.Frames.{frame_at}
-use Rattle.spec_query.specs.declared.Voiced.{Voiced}
 
 -- `hz_to_st_f64`: semitones re 55 Hz
 unfoldable pub hz_to_st : Float → Float
@@ -23,9 +21,6 @@ width_of floor ceil =
 unfoldable pub st_to_chao : Float → Float → Float → Float
 st_to_chao floor width st = add binary64 one64 (div binary64 (mul binary64 (whole64 4) (sub binary64 st floor)) width)
 
--- a frame's semitones, +0 where it is unvoiced; and whether it is voiced
-abbrev pub semitones_of : Option Voiced → Float
-semitones_of frame = option_map_or (λ v. hz_to_st v.hz) frame zero64
-
+-- whether a frame is voiced
 abbrev pub voiced : List ℕ → ℕ → Bool
 voiced frames i = is_some (frame_at frames i)

@@ -6,11 +6,10 @@ use Rattle.std.specs.Float.Ieee.{add, sub, mul, div, of_int}
 use Rattle.tonekit_core.specs.Loop.{range}
 use Rattle.spec_arithmetic.specs.Constants.{zero32, zero64, whole64}
 use Rattle.spec_arithmetic.specs.Narrow.{narrowed}
-use Rattle.spec_arithmetic.specs.Constants.{whole64}
 use Rattle.spec_query.specs.Frames.{frame_at}
-use Rattle.spec_shape.specs.Chao.{semitones_of, voiced, width_of, st_to_chao}
+use Rattle.spec_shape.specs.Chao.{hz_to_st, voiced, width_of, st_to_chao}
 use Rattle.spec_shape.specs.Fit.{Part, line_slope, quadratic_coefficient}
-use Rattle.spec_shape.specs.Window.{contour_at, weight_at}
+use Rattle.spec_shape.specs.Window.{span_at, mean_over, weight_at}
 use Rattle.spec_shape.specs.Range.{range_in}
 use Rattle.spec_shape.specs.Turning.{turning_point}
 use Rattle.spec_shape.specs.declared.Extent.{Extent}
@@ -47,10 +46,10 @@ holes_filled frames first l =
     (range (λ j (s : Filled). cond (voiced frames (first + j)) (record { curve = gap_filled s.prev j s.curve; prev = j }) s) 1 (length l)
     (record { curve = l; prev = 0 })).curve
 
--- the curve of n frames from the first on, drawn over its holes: semitones frame by frame, then Chao values
+-- the curve of n frames from the first on, drawn over its holes: semitones frame by frame, +0 where it is unvoiced, then Chao values
 unfoldable pub drawn : List ℕ → ℕ → ℕ → Float → Float → List Float
 drawn frames first n floor ceil =
-    let st = list_of (λ j. semitones_of (frame_at frames (first + j))) n in
+    let st = list_of (λ j. option_map_or (λ v. hz_to_st v.hz) (frame_at frames (first + j)) zero64) n in
     map (st_to_chao floor (width_of floor ceil)) (holes_filled frames first st)
 
 -- the 3-frame-smoothed curve: a frame's mean with its neighbours, two at the ends; `before` is the value of the frame before
@@ -59,9 +58,6 @@ mean_with l j before =
     cond (eqb j 0) (div binary64 (add binary64 (add binary64 zero64 (get_or l j nan)) (get_or l (j + 1) nan)) (whole64 2))
     (cond (eqb j (length l - 1)) (div binary64 (add binary64 (add binary64 zero64 before) (get_or l j nan)) (whole64 2))
     (div binary64 (add binary64 (add binary64 (add binary64 zero64 before) (get_or l j nan)) (get_or l (j + 1) nan)) (whole64 3)))
-
-abbrev pub smoothed : List Float → List Float
-smoothed l = list_of (λ j. mean_with l j (get_or l (j - 1) nan)) (length l)
 
 -- u32 to f32
 abbrev pub whole32 : ℕ → Float
@@ -81,7 +77,7 @@ confidence frames e =
 unfoldable pub shape_of : List ℕ → Extent → ℕ → ℕ → Float → Float → ToneShape
 shape_of frames e start end floor ceil =
     let p : Part = record { frames = frames; first = e.first; chao = drawn frames e.first (frames_in e) floor ceil } in
-    let contour = list_of (contour_at p.chao) 10 in
+    let contour = list_of (λ k. narrowed (mean_over p.chao (span_at (length p.chao) k))) 10 in
     let span = whole32 (end - start) in
     record {
       contour = contour;
@@ -89,7 +85,7 @@ shape_of frames e start end floor ceil =
       mean = mean_of contour;
       slope = narrowed (line_slope p e.count);
       curvature = narrowed (quadratic_coefficient p e.count);
-      turning = option_map narrowed (turning_point (smoothed p.chao));
+      turning = option_map narrowed (turning_point (list_of (λ j. mean_with p.chao j (get_or p.chao (j - 1) nan)) (length p.chao)));
       range = range_in binary32 contour;
       duration = mul binary32 span (whole32 10);
       fraction = div binary32 (whole32 e.count) span;

@@ -42,57 +42,49 @@ power x (suc k) = mul binary64 (power x k) x
 
 -- one point more: s_k sums x ^ k, and t_k sums x ^ k · y
 unfoldable pub point_added : Float → Float → Moments → Moments
-point_added x y m =
-    record {
-      s = range (λ k s. set s k (add binary64 (get_or s k nan) (power x k))) 0 5 m.s;
-      t = range (λ k t. set t k (add binary64 (get_or t k nan) (mul binary64 (power x k) y))) 0 3 m.t;
-    }
+point_added x y m = record {
+  s = range (λ k s. set s k (add binary64 (get_or s k nan) (power x k))) 0 5 m.s;
+  t = range (λ k t. set t k (add binary64 (get_or t k nan) (mul binary64 (power x k) y))) 0 3 m.t;
+}
 
 -- x is the place in the part as a fraction, whose last frame is given, measured from the mean mx
 unfoldable pub moments_of : Part → Float → Float → Moments
 moments_of p last mx =
     walk p (λ m j y. point_added (sub binary64 (div binary64 (whole64 j) last) mx) y m) (record { s = replicate 5 zero64; t = replicate 3 zero64 })
 
--- "The fit is a 3 by 4 grid of numbers whose rows change places": the normal equations for (a, b, c)
-abbrev pub Grid : Type 0
-Grid = List (List Float)
-
-abbrev pub cell_of : Grid → ℕ → ℕ → Float
+-- "The fit is a 3 by 4 grid of numbers whose rows change places": a list of rows, and the normal equations for (a, b, c)
+abbrev pub cell_of : List (List Float) → ℕ → ℕ → Float
 cell_of m i j = get_or (get_or m i []) j nan
 
-unfoldable pub normal_equations : Moments → Grid
+unfoldable pub normal_equations : Moments → List (List Float)
 normal_equations m =
     let row = λ (k : ℕ). get_or m.s (k + 2) nan ∷ get_or m.s (k + 1) nan ∷ get_or m.s k nan ∷ get_or m.t k nan ∷ [] in
     row 2 ∷ row 1 ∷ row 0 ∷ []
 
 -- partial pivoting: the row with the greatest size in the column, the later of equals
-abbrev pub pivot_of : Grid → ℕ → ℕ
+abbrev pub pivot_of : List (List Float) → ℕ → ℕ
 pivot_of m col = range (λ i best. cond (total_le (magnitude (cell_of m best col)) (magnitude (cell_of m i col))) i best) (col + 1) 3 col
 
-abbrev pub swap_rows : ℕ → ℕ → Grid → Grid
-swap_rows i j m = set (set m i (get_or m j [])) j (get_or m i [])
-
-abbrev pub row_cleared : ℕ → ℕ → Grid → Grid
+abbrev pub row_cleared : ℕ → ℕ → List (List Float) → List (List Float)
 row_cleared col row m =
     let f = div binary64 (cell_of m row col) (cell_of m col col) in
     range (λ k t. set t row (set (get_or t row []) k (sub binary64 (cell_of t row k) (mul binary64 f (cell_of t col k))))) col 4 m
 
-abbrev pub below_cleared : ℕ → Grid → Grid
-below_cleared col m = range (row_cleared col) (col + 1) 3 m
-
 -- back-substitution for the first unknown
-unfoldable pub first_unknown : Grid → Float
+unfoldable pub first_unknown : List (List Float) → Float
 first_unknown m =
     let c = div binary64 (cell_of m 2 3) (cell_of m 2 2) in
     let b = div binary64 (sub binary64 (cell_of m 1 3) (mul binary64 (cell_of m 1 2) c)) (cell_of m 1 1) in
     div binary64 (sub binary64 (sub binary64 (cell_of m 0 3) (mul binary64 (cell_of m 0 2) c)) (mul binary64 (cell_of m 0 1) b)) (cell_of m 0 0)
 
--- a column without a pivot of 1e-12 at least: the points do not determine a parabola
-unfoldable pub lead_of : Grid → Float
+-- column by column the pivot's row changes places with the column's, and the rows below are cleared; a column without a pivot of 1e-12 at least: the points
+-- do not determine a parabola
+unfoldable pub lead_of : List (List Float) → Float
 lead_of m =
     range_to
-    (λ col t. cond (lt (magnitude (cell_of t (pivot_of t col) col)) (of_bits binary64 0x3d71_9799_812d_ea11)) (stop zero64)
-    (next (below_cleared col (swap_rows col (pivot_of t col) t))))
+    (λ col t. let p = pivot_of t col in
+    cond (lt (magnitude (cell_of t p col)) (of_bits binary64 0x3d71_9799_812d_ea11)) (stop zero64)
+    (next (range (row_cleared col) (col + 1) 3 (set (set t col (get_or t p [])) p (get_or t col [])))))
     first_unknown 0 3 m
 
 -- `quadratic_coefficient`: x is the fraction, measured from its mean

@@ -18,10 +18,6 @@ use Rattle.spec_shape.specs.declared.ToneShape.{ToneShape}
 unfoldable pub united : ℕ → ℕ → ℕ
 united issues n = cond (ltb n 8) (with_issue issues issue.TooShort) issues
 
--- "Kind 51: span start, end u32"
-abbrev pub span_bytes : ℕ → ℕ → List ℕ
-span_bytes start end = (SHAPE_KIND ∷ []) ++ (le32 start ++ le32 end)
-
 -- "mean, slope, curvature f32; turning flag u8 and f32": the flag is 1 and the value the place, or both are 0
 unfoldable pub fit_bytes : ToneShape → List ℕ
 fit_bytes x =
@@ -31,10 +27,11 @@ fit_bytes x =
 unfoldable pub measure_bytes : ToneShape → ℕ → List ℕ
 measure_bytes x issues = f32_bytes x.range ++ (f32_bytes x.duration ++ (f32_bytes x.fraction ++ (f32_bytes x.confidence ++ le16 issues)))
 
--- the record, with "contour, weights 10 f32 each" behind the span, and the issues' union
+-- the record: "Kind 51: span start, end u32", behind them "contour, weights 10 f32 each", and the issues' union
 unfoldable pub shape_bytes : ℕ → ℕ → ℕ → ToneShape → List ℕ
 shape_bytes start end issues x =
-    span_bytes start end ++ (f32s_bytes x.contour ++ (f32s_bytes x.weights ++ (fit_bytes x ++ measure_bytes x (united issues x.frames))))
+    ((SHAPE_KIND ∷ []) ++ (le32 start ++ le32 end))
+    ++ (f32s_bytes x.contour ++ (f32s_bytes x.weights ++ (fit_bytes x ++ measure_bytes x (united issues x.frames))))
 
 -- "Fewer than 3 voiced frames: 11", place 0
 abbrev pub shaped : List ℕ → Query → Extent → Outcome

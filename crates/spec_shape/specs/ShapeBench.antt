@@ -1,5 +1,5 @@
 -- Shapes of a few frames, and what the call answers, each by computing.
-use Rattle.std.specs.Prelude.{ℕ, ◌≡◌, refl, true, false, List, [], ◌∷◌, ◌++◌, map, pos, negsuc, length, replicate, Float, Some, None}
+use Rattle.std.specs.Prelude.{ℕ, ◌-◌, ◌≡◌, refl, true, false, List, [], ◌∷◌, ◌++◌, map, pos, negsuc, length, get_or, replicate, Float, Some, None}
 use Rattle.std.specs.Float.{nan, inf, fin, binary32, binary64, float_with_sign}
 use Rattle.std.specs.Float.Ieee.{add, sub, mul, div, lt, le, eq, neg, of_bits, to_bits, of_int, round, is_nan}
 use Rattle.spec_shape.specs.Range.{range_in}
@@ -19,7 +19,7 @@ use Rattle.spec_query.specs.Query.{variant_fine, variants_fine, record_verdict, 
 use Rattle.spec_shape.specs.Chao.{hz_to_st, width_of, st_to_chao}
 use Rattle.spec_shape.specs.Fit.{line_slope, power, point_added, moments_of, normal_equations, first_unknown, lead_of, quadratic_coefficient}
 use Rattle.spec_shape.specs.Window.{half_width, reach, curve_at, step_of, mean_over, rounded, frames_at}
-use Rattle.spec_shape.specs.Extract.{extent_of, holes_filled, drawn, mean_with, list_of, smoothed, mean_of, confidence, shape_of}
+use Rattle.spec_shape.specs.Extract.{extent_of, holes_filled, drawn, mean_with, list_of, mean_of, confidence, shape_of}
 use Rattle.spec_arithmetic.specs.Fields.{byte_at, u16_at, u32_at, f32s_bytes}
 use Rattle.tonekit_core.specs.declared.layout.TheConstants.{SHAPE_SIZE, SHAPE_START, SHAPE_END, SHAPE_CONTOUR, SHAPE_WEIGHTS, SHAPE_MEAN, SHAPE_SLOPE, SHAPE_CURVATURE}
 use Rattle.tonekit_core.specs.declared.layout.TheConstants.{SHAPE_TURNS, SHAPE_TURNING, SHAPE_RANGE, SHAPE_DURATION, SHAPE_FRACTION, SHAPE_CONFIDENCE, SHAPE_ISSUES}
@@ -56,7 +56,7 @@ drawn_line : drawn (rest ++ (tone ++ (rest ++ (rest ++ low)))) 1 4 (num 0) (fin 
 unfolding drawn list_of holes_filled hz_to_st width_of st_to_chao log2_of range frame_at add sub mul div lt of_int of_bits round log_by parts_of centred series log_horner
 drawn_line = refl
 
-smoothed_curve : smoothed (num 1 ∷ num 2 ∷ num 6 ∷ []) ≡ fin false 3 (negsuc 0) ∷ num 3 ∷ fin false 1 (pos 2) ∷ []
+smoothed_curve : let l = num 1 ∷ num 2 ∷ num 6 ∷ [] in list_of (λ j. mean_with l j (get_or l (j - 1) nan)) 3 ≡ fin false 3 (negsuc 0) ∷ num 3 ∷ fin false 1 (pos 2) ∷ []
 unfolding list_of mean_with add div of_int of_bits
 smoothed_curve = refl
 

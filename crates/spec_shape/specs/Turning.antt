@@ -5,22 +5,14 @@ use Rattle.std.specs.Float.Ieee.{neg, sub, mul, div, lt, le, of_bits}
 use Rattle.tonekit_core.specs.Loop.{stop, next, range, range_to}
 use Rattle.spec_arithmetic.specs.Constants.{half, one64, whole64}
 use Rattle.spec_arithmetic.specs.Pick.{lesser, greater}
-use Rattle.spec_arithmetic.specs.Constants.{whole64}
 use Rattle.spec_shape.specs.declared.Extreme.{Extreme}
 use Rattle.spec_shape.specs.declared.Excursion.{Excursion}
-
--- TURN_MIN_EXCURSION is one half, TURN_INTERIOR (0.1, 0.9), PLATEAU_EPS 1e-9
-abbrev pub tenth : Float
-tenth = of_bits binary64 0x3fb9_9999_9999_999a
-
-abbrev pub nine_tenths : Float
-nine_tenths = of_bits binary64 0x3fec_cccc_cccc_cccd
 
 -- the greatest of sign · v, from −infinity, in order
 unfoldable pub greatest : List Float → Float → Float
 greatest l sign = range (λ j best. greater best (mul binary64 sign (get_or l j nan))) 0 (length l) (inf true)
 
--- close enough to the greatest to be the same plateau
+-- close enough to the greatest to be the same plateau: PLATEAU_EPS 1e-9
 abbrev pub near : Float → Float → Float → Bool
 near sign best v = le (sub binary64 best (of_bits binary64 0x3e11_2e0b_e826_d695)) (mul binary64 sign v)
 
@@ -39,16 +31,14 @@ extremum l sign =
     let first = first_near l sign best in
     record { value = mul binary64 sign best; index = mul binary64 half (whole64 (first + last_near l sign best first)) }
 
--- a candidate: how far it stands beyond the nearer end, and where
+-- a candidate: how far it stands beyond the nearer end, and where. TURN_MIN_EXCURSION is one half, TURN_INTERIOR (0.1, 0.9)
 unfoldable pub stands : Excursion → Bool
-stands e = le half e.size && lt tenth e.at && lt e.at nine_tenths
+stands e = le half e.size && lt (of_bits binary64 0x3fb9_9999_9999_999a) e.at && lt e.at (of_bits binary64 0x3fec_cccc_cccc_cccd)
 
 -- "max_by keeps the last": of equal excursions the maximum's, which stands second
 unfoldable pub chosen : Excursion → Excursion → Option Float
 chosen low high =
-    cond (stands high)
-    (cond (stands low && lt high.size low.size) (Some low.at) (Some high.at))
-    (cond (stands low) (Some low.at) None)
+    cond (stands high) (cond (stands low && lt high.size low.size) (Some low.at) (Some high.at)) (cond (stands low) (Some low.at) None)
 
 unfoldable pub turning_point : List Float → Option Float
 turning_point l =

@@ -9,7 +9,6 @@ use Rattle.spec_arithmetic.specs.Whole.{whole_part, round_up}
 use Rattle.spec_arithmetic.specs.Narrow.{narrowed}
 use Rattle.spec_arithmetic.specs.Position.{position}
 use Rattle.spec_shape.specs.Chao.{voiced}
-use Rattle.spec_arithmetic.specs.Constants.{whole64}
 use Rattle.spec_shape.specs.declared.Sweep.{Sweep}
 use Rattle.spec_shape.specs.declared.Span.{Span}
 use Rattle.spec_shape.specs.declared.FrameRange.{FrameRange}
@@ -37,13 +36,12 @@ curve_at l t =
 
 -- one trapezoid: to a time, and the curve there
 abbrev pub moved_to : Sweep → Float → Float → Sweep
-moved_to s t1 v1 =
-    record {
-      t0 = t1;
-      v0 = v1;
-      next = add binary64 s.next one64;
-      area = add binary64 s.area (mul binary64 (mul binary64 half (add binary64 s.v0 v1)) (sub binary64 t1 s.t0));
-    }
+moved_to s t1 v1 = record {
+  t0 = t1;
+  v0 = v1;
+  next = add binary64 s.next one64;
+  area = add binary64 s.area (mul binary64 (mul binary64 half (add binary64 s.v0 v1)) (sub binary64 t1 s.t0));
+}
 
 unfoldable pub step_of : List Float → Float → Sweep → Sweep
 step_of l b s = let t1 = lesser s.next b in moved_to s t1 (curve_at l t1)
@@ -60,10 +58,6 @@ mean_over l s =
     cond (lt (sub binary64 s.high s.low) edge) (curve_at l s.low)
     (div binary64 (walk_of l s.low s.high).area (sub binary64 s.high s.low))
 
--- contour point k
-abbrev pub contour_at : List Float → ℕ → Float
-contour_at l k = narrowed (mean_over l (span_at (length l) k))
-
 -- `x.round() as usize` of an x that is not negative: a half goes up
 unfoldable pub rounded : Float → ℕ
 rounded x = let w = whole_part x in cond (lt (sub binary64 x (whole64 w)) half) w (w + 1)
@@ -77,10 +71,7 @@ frames_at n k =
     cond (leb low high) (record { from = low; to = high }) (record { from = nearest; to = nearest })
 
 -- voiced weight k: the share of those frames that are truly voiced
-abbrev pub voiced_in : List ℕ → ℕ → FrameRange → ℕ
-voiced_in frames first r = range (λ j c. cond (voiced frames (first + j)) (c + 1) c) r.from (r.to + 1) 0
-
 abbrev pub weight_at : List ℕ → ℕ → ℕ → ℕ → Float
 weight_at frames first n k =
     let r = frames_at n k in
-    narrowed (div binary64 (whole64 (voiced_in frames first r)) (whole64 (r.to - r.from + 1)))
+    narrowed (div binary64 (whole64 (range (λ j c. cond (voiced frames (first + j)) (c + 1) c) r.from (r.to + 1) 0)) (whole64 (r.to - r.from + 1)))

@@ -1,6 +1,6 @@
 -- Windows, computed; the patterns are those of a run in another language.
 use Rattle.std.proofs.Common.{sym, ◌∙◌}
-use Rattle.std.specs.Prelude.{◌≡◌, refl, false, List, [], ◌∷◌, pos, negsuc, Float}
+use Rattle.std.specs.Prelude.{ℕ, ◌≡◌, refl, false, List, [], ◌∷◌, pos, negsuc, length, Float}
 use Rattle.std.specs.Float.{fin, binary64}
 use Rattle.std.specs.Float.Ieee.{of_bits, add, sub, mul, div, of_int, lt, is_nan, round}
 use Rattle.tonekit_core.specs.Loop.{while}
@@ -8,7 +8,7 @@ use Rattle.spec_arithmetic.specs.Pick.{lesser, greater}
 use Rattle.spec_arithmetic.specs.Whole.{whole_part, round_up}
 use Rattle.spec_arithmetic.specs.Narrow.{narrowed}
 use Rattle.spec_arithmetic.specs.Position.{position}
-use Rattle.spec_shape.specs.Window.{span_at, reach, half_width, frames_at, rounded, contour_at, mean_over, curve_at, step_of, walk_of}
+use Rattle.spec_shape.specs.Window.{span_at, reach, half_width, frames_at, rounded, mean_over, curve_at, step_of, walk_of}
 
 span_8 : span_at 8 3 ≡ record { low = of_bits binary64 0x3ffd_5555_5555_5554; high = of_bits binary64 0x4006_aaaa_aaaa_aaaa }
 unfolding position reach half_width lesser greater add sub mul div of_int of_bits lt is_nan
@@ -48,24 +48,28 @@ two_trapezoids = refl
 rising : List Float
 rising = of_int binary64 (pos 1) ∷ of_int binary64 (pos 2) ∷ of_int binary64 (pos 3) ∷ of_int binary64 (pos 4) ∷ []
 
+-- contour point k of it
+abbrev rising_at : ℕ → Float
+rising_at k = narrowed (mean_over rising (span_at (length rising) k))
+
 -- both sides are computed to their value: antt does not end comparing the two roundings with each other
-first_point : contour_at rising 0 ≡ of_int binary64 (pos 1)
+first_point : rising_at 0 ≡ of_int binary64 (pos 1)
 unfolding rising position reach half_width mean_over while step_of curve_at narrowed whole_part lesser greater add sub mul div of_int of_bits lt is_nan round
 first_point =
-    let here : contour_at rising 0 ≡ fin false 1 (pos 0) = refl in
+    let here : rising_at 0 ≡ fin false 1 (pos 0) = refl in
     let there : of_int binary64 (pos 1) ≡ fin false 1 (pos 0) = refl in
     here ∙ sym there
 
-third_point : contour_at rising 3 ≡ of_int binary64 (pos 2)
+third_point : rising_at 3 ≡ of_int binary64 (pos 2)
 unfolding rising position reach half_width mean_over while step_of curve_at narrowed whole_part lesser greater add sub mul div of_int of_bits lt is_nan round
 third_point =
-    let here : contour_at rising 3 ≡ fin false 1 (pos 1) = refl in
+    let here : rising_at 3 ≡ fin false 1 (pos 1) = refl in
     let there : of_int binary64 (pos 2) ≡ fin false 1 (pos 1) = refl in
     here ∙ sym there
 
-last_point : contour_at rising 9 ≡ of_int binary64 (pos 4)
+last_point : rising_at 9 ≡ of_int binary64 (pos 4)
 unfolding rising position reach half_width mean_over while step_of curve_at narrowed whole_part lesser greater add sub mul div of_int of_bits lt is_nan round
 last_point =
-    let here : contour_at rising 9 ≡ fin false 1 (pos 2) = refl in
+    let here : rising_at 9 ≡ fin false 1 (pos 2) = refl in
     let there : of_int binary64 (pos 4) ≡ fin false 1 (pos 2) = refl in
     here ∙ sym there

@@ -6,7 +6,7 @@ use Rattle.tonekit_core.specs.declared.layout.TheConstants.{SHEET_ACCENT_CONTOUR
 use Rattle.tonekit_core.specs.declared.layout.TheConstants.{SHEET_LIST_SIZE, SHEET_LIST_OWNER, SHEET_LIST_FORM, SHEET_LIST_LABEL, SHEET_LIST_COUNT}
 use Rattle.tonekit_core.specs.declared.layout.TheConstants.{SHEET_COMPONENT_SIZE, SHEET_COMPONENT_WEIGHT, SHEET_COMPONENT_POINTS}
 use Rattle.spec_arithmetic.specs.Fields.{byte_at, u16_at, u32_at}
-use Rattle.spec_arithmetic.specs.Places.{number_at, index_of}
+use Rattle.spec_arithmetic.specs.Places.{index_of}
 use Rattle.spec_lookup.specs.Source.{Carried, Source, settings_at, tone_at, accent_at}
 use Rattle.spec_lookup.specs.declared.Context.{Context}
 use Rattle.spec_sheet.specs.Reader.{Sst, row_at}

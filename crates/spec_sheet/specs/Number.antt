@@ -3,24 +3,21 @@ use Rattle.std.specs.Prelude.{ℕ, zero, suc, Bool, true, false, cond, ◌&&◌,
 use Rattle.std.proofs.Math.Option.{Option, none, some}
 use Rattle.spec_lookup.specs.Source.{Carried}
 
--- equal in every bit: numbers one by one, components in all that they carry, lists one by one
-unfoldable pub same_numbers : List ℕ → List ℕ → Bool
-same_numbers [] [] = true
-same_numbers [] (y ∷ ys) = false
-same_numbers (x ∷ xs) [] = false
-same_numbers (x ∷ xs) (y ∷ ys) = eqb x y && same_numbers xs ys
+-- equal in every bit: lists one by one, by a test of two; components in all that they carry
+unfoldable pub same_by : {A : Type 0} → (A → A → Bool) → List A → List A → Bool
+same_by test [] [] = true
+same_by test [] (y ∷ ys) = false
+same_by test (x ∷ xs) [] = false
+same_by test (x ∷ xs) (y ∷ ys) = test x y && same_by test xs ys
 
 unfoldable pub same_carried : Carried → Carried → Bool
 same_carried a b =
     eqb a.owner b.owner
     && (eqb a.form b.form
-    && (eqb a.label b.label && (eqb a.part b.part && (eqb a.weight b.weight && same_numbers a.points b.points))))
+    && (eqb a.label b.label && (eqb a.part b.part && (eqb a.weight b.weight && same_by eqb a.points b.points))))
 
-unfoldable pub same : List Carried → List Carried → Bool
-same [] [] = true
-same [] (y ∷ ys) = false
-same (x ∷ xs) [] = false
-same (x ∷ xs) (y ∷ ys) = same_carried x y && same xs ys
+abbrev pub same : List Carried → List Carried → Bool
+same xs ys = same_by same_carried xs ys
 
 -- whether a list is there already, and the place of the first that is the same
 unfoldable pub seen_in : List Carried → List (List Carried) → Bool

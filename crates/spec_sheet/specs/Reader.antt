@@ -2,21 +2,20 @@
 use Rattle.std.specs.Prelude.{ℕ, zero, suc, ◌+◌, ◌-◌, ◌*◌, max, Bool, true, false, cond, not, ◌&&◌, ◌||◌, List, [], ◌∷◌, ◌++◌, eqb, leb, ltb, pos, length, get_or, Float, Option, Some, None, Result, Ok}
 use Rattle.std.specs.Float.{fin}
 use Rattle.std.specs.Float.Ieee.{le}
-use Rattle.tonekit_core.specs.Loop.{Turn, next, stop, range, range_to}
+use Rattle.tonekit_core.specs.Loop.{next, stop, range, range_to}
 use Rattle.tonekit_core.specs.declared.layout.TheConstants.{F32_SIZE, SETTINGS_SIZE, SHEET_SETTINGS_KIND, SHEET_TONE_KIND, SHEET_TONE_SIZE, SHEET_TONE_PRIOR, SHEET_TONE_REGION}
 use Rattle.tonekit_core.specs.declared.layout.TheConstants.{SHEET_ACCENT_KIND, SHEET_ACCENT_SIZE, SHEET_ACCENT_CONTOUR, SHEET_ROW_KIND, SHEET_ROW_SIZE, SHEET_ROW_ACCENT, SHEET_ROW_TONE}
 use Rattle.tonekit_core.specs.declared.layout.TheConstants.{SHEET_ROW_PREV, SHEET_ROW_LIST, SHEET_ROW_FINAL_LIST, SHEET_LIST_KIND, SHEET_LIST_SIZE, SHEET_LIST_OWNER, SHEET_LIST_FORM}
 use Rattle.tonekit_core.specs.declared.layout.TheConstants.{SHEET_LIST_LABEL, SHEET_LIST_COUNT, SHEET_COMPONENT_KIND, SHEET_COMPONENT_SIZE, SHEET_COMPONENT_WEIGHT}
 use Rattle.tonekit_core.specs.declared.layout.TheConstants.{SHEET_COMPONENT_POINTS, SHEET_END_KIND, SHEET_END_SIZE}
-use Rattle.tonekit_core.specs.Layout.{sheet_row_at}
 use Rattle.tonekit_core.specs.declared.Refusal.{Refusal}
 use Rattle.tonekit_core.specs.declared.Refusal.TheVariants.{Loose, Unordered}
 use Rattle.tonekit_core.specs.declared.Rejection.{Rejection}
 use Rattle.spec_arithmetic.specs.Fields.{byte_at, u16_at, u32_at, f32_at}
-use Rattle.spec_pack.specs.Ranges.{probability_fine, weight_fine, region_fine, tolerances_fine}
+use Rattle.spec_pack.specs.Ranges.{probability_fine, weight_fine, region_fine}
 use Rattle.spec_arithmetic.specs.Places.{number_at}
-use Rattle.spec_arithmetic.specs.Files.{judged, Out, loaded, refused, Here, Reader, read, singly, said}
-use Rattle.spec_pack.specs.Pack.{holds, zero_or_held, in_turn, settings_verdict}
+use Rattle.spec_arithmetic.specs.Files.{judged, Out, loaded, refused, Reader, read, singly, said}
+use Rattle.spec_pack.specs.Pack.{holds, zero_or_held, in_turn, settings_verdict, accent_fine}
 use Rattle.spec_sheet.specs.Sheet.{row_count, accent_place, tone_place, prev_place}
 
 -- what has been read: the last kind; the offsets of tones and accents; how many rows; the offsets of lists; the components that the last list is still due, and all components
@@ -35,8 +34,7 @@ rows_due st = row_count (length st.accents) (length st.tones)
 
 -- all rows are there, and all components of the last list: a list, or the end
 unfoldable pub complete : Sst → Bool
-complete st =
-    cond (eqb st.last SHEET_ROW_KIND) (eqb st.rows (rows_due st)) (eqb st.last SHEET_COMPONENT_KIND && eqb st.due 0)
+complete st = cond (eqb st.last SHEET_ROW_KIND) (eqb st.rows (rows_due st)) (eqb st.last SHEET_COMPONENT_KIND && eqb st.due 0)
 
 -- "Kinds, in this order"; "A row or component too few or too many is 1"
 unfoldable pub due_next : Sst → ℕ → Bool
@@ -60,18 +58,14 @@ size_of k =
 
 -- "Fields have the pack's ranges": number, prior, region
 abbrev pub tone_fine : List ℕ → ℕ → Bool
-tone_fine s o =
-    not (eqb (number_at s o) 0) && (probability_fine (f32_at s (o + SHEET_TONE_PRIOR)) && region_fine s (o + SHEET_TONE_REGION))
+tone_fine s o = not (eqb (number_at s o) 0) && (probability_fine (f32_at s (o + SHEET_TONE_PRIOR)) && region_fine s (o + SHEET_TONE_REGION))
 
 unfoldable pub tone_verdict : List ℕ → ℕ → Sst → Result (Unit {0}) Refusal
 tone_verdict s o st = in_turn (leb 8 (length st.tones)) (tone_fine s o) (not (holds s st.tones (number_at s o))) true
 
 -- number, tolerances
-abbrev pub accent_fine : List ℕ → ℕ → Bool
-accent_fine s o = not (eqb (number_at s o) 0) && tolerances_fine s (o + SHEET_ACCENT_CONTOUR)
-
 unfoldable pub accent_verdict : List ℕ → ℕ → Sst → Result (Unit {0}) Refusal
-accent_verdict s o st = in_turn (leb 8 (length st.accents)) (accent_fine s o) (not (holds s st.accents (number_at s o))) true
+accent_verdict s o st = in_turn (leb 8 (length st.accents)) (accent_fine SHEET_ACCENT_CONTOUR s o) (not (holds s st.accents (number_at s o))) true
 
 -- a row names an accent, a tone, and a tone before it or none, that are held; its two lists are judged at the end
 unfoldable pub row_verdict : List ℕ → ℕ → Sst → Result (Unit {0}) Refusal
@@ -105,15 +99,11 @@ point_fine x = le (fin true 1 (pos 7)) x && le x (fin false 1 (pos 7))
 unfoldable pub points_fine : List ℕ → ℕ → Bool
 points_fine s o = range (λ k ok. ok && point_fine (f32_at s (o + F32_SIZE * k))) 0 10 true
 
--- the offset of the last list
-abbrev pub last_list : Sst → ℕ
-last_list st = get_or st.lists (length st.lists - 1) 0
-
--- "forms 1 and 2 have one component of weight 1"
+-- "forms 1 and 2 have one component of weight 1": the form is that of the last list
 abbrev pub component_fine : List ℕ → ℕ → Sst → Bool
 component_fine s o st =
     weight_fine (u32_at s (o + SHEET_COMPONENT_WEIGHT))
-    && ((eqb (byte_at s (last_list st + SHEET_LIST_FORM)) 3 || eqb (u32_at s (o + SHEET_COMPONENT_WEIGHT)) 0x3f80_0000)
+    && ((eqb (byte_at s (get_or st.lists (length st.lists - 1) 0 + SHEET_LIST_FORM)) 3 || eqb (u32_at s (o + SHEET_COMPONENT_WEIGHT)) 0x3f80_0000)
     && points_fine s (o + SHEET_COMPONENT_POINTS))
 
 unfoldable pub component_verdict : List ℕ → ℕ → Sst → Result (Unit {0}) Refusal
@@ -140,25 +130,21 @@ added k o count st =
     (cond (eqb k SHEET_LIST_KIND) (record st { last = k; lists = st.lists ++ (o ∷ []); due = count })
     (cond (eqb k SHEET_COMPONENT_KIND) (record st { last = k; due = st.due - 1; total = st.total + 1 }) (record st { last = k })))))
 
--- where row r stands
+-- where row r stands: behind settings, tones and accents
 abbrev pub row_at : Sst → ℕ → ℕ
-row_at st r = sheet_row_at (length st.tones) (length st.accents) r
+row_at st r = SETTINGS_SIZE + SHEET_TONE_SIZE * length st.tones + SHEET_ACCENT_SIZE * length st.accents + SHEET_ROW_SIZE * r
 
 -- a row's list number is 0, or one that a list record gives as its own
 unfoldable pub loose_row : List ℕ → Sst → Option ℕ
 loose_row s st =
-    range_to
-    (λ r (u : ℕ). cond
+    range_to (λ r (u : ℕ). cond
     (zero_or_held s st.lists (byte_at s (row_at st r + SHEET_ROW_LIST)) && zero_or_held s st.lists (byte_at s (row_at st r + SHEET_ROW_FINAL_LIST)))
-    (next u)
-    (stop (Some (row_at st r))))
-    (λ u. None) 0 st.rows 0
+    (next u) (stop (Some (row_at st r)))) (λ u. None) 0 st.rows 0
 
 -- an accent whose number is not above that of the one before it
 unfoldable pub accent_down : List ℕ → Sst → Option ℕ
 accent_down s st =
-    range_to
-    (λ i before. let n = number_at s (get_or st.accents i 0) in cond (ltb before n) (next n) (stop (Some (get_or st.accents i 0))))
+    range_to (λ i before. let n = number_at s (get_or st.accents i 0) in cond (ltb before n) (next n) (stop (Some (get_or st.accents i 0))))
     (λ n. None) 0 (length st.accents) 0
 
 -- row r is the one due at its place
@@ -181,17 +167,14 @@ row_names s st r m =
 
 unfoldable pub row_wrong : List ℕ → Sst → Option ℕ
 row_wrong s st =
-    range_to
-    (λ r m. cond (row_due s st r && row_names s st r m)
+    range_to (λ r m. cond (row_due s st r && row_names s st r m)
     (next (max (max m (byte_at s (row_at st r + SHEET_ROW_LIST))) (byte_at s (row_at st r + SHEET_ROW_FINAL_LIST))))
-    (stop (Some (row_at st r))))
-    (λ m. None) 0 st.rows 0
+    (stop (Some (row_at st r)))) (λ m. None) 0 st.rows 0
 
 -- a row names list n
 unfoldable pub named : List ℕ → Sst → ℕ → Bool
 named s st n =
-    range
-    (λ r used. used || (eqb (byte_at s (row_at st r + SHEET_ROW_LIST)) n || eqb (byte_at s (row_at st r + SHEET_ROW_FINAL_LIST)) n))
+    range (λ r used. used || (eqb (byte_at s (row_at st r + SHEET_ROW_LIST)) n || eqb (byte_at s (row_at st r + SHEET_ROW_FINAL_LIST)) n))
     0 st.rows false
 
 -- the bytes of a list and its components, and two lists equal but for their numbers
@@ -208,8 +191,7 @@ repeated s lists n o = range (λ i hit. hit || same_lists s o (get_or lists i 0)
 -- list i has its place as its number, from 1, is named by a row, and is equal to none before it
 unfoldable pub list_wrong : List ℕ → Sst → Option ℕ
 list_wrong s st =
-    range_to
-    (λ i (u : ℕ). let o = get_or st.lists i 0 in
+    range_to (λ i (u : ℕ). let o = get_or st.lists i 0 in
     cond (eqb (number_at s o) (i + 1) && (named s st (i + 1) && not (repeated s st.lists i o))) (next u) (stop (Some o)))
     (λ u. None) 0 (length st.lists) 0
 
@@ -223,13 +205,10 @@ finished s st e =
     refused_at Loose (loose_row s st)
     (refused_at Unordered (accent_down s st) (refused_at Unordered (row_wrong s st) (refused_at Unordered (list_wrong s st) (loaded st e))))
 
-abbrev pub start : Here Sst
-start = record { at = 0; st = record { last = 0; tones = []; accents = []; rows = 0; lists = []; due = 0; total = 0 } }
-
 -- how a sheet is read
 abbrev pub sheet_reader : Reader Sst
 sheet_reader = record {
-  start = start;
+  start = record { at = 0; st = record { last = 0; tones = []; accents = []; rows = 0; lists = []; due = 0; total = 0 } };
   verdict = record_verdict;
   size = size_of;
   added = λ s o st. added (byte_at s o) o (byte_at s (o + SHEET_LIST_COUNT)) st;

@@ -80,14 +80,11 @@ settings_bytes x = (SHEET_SETTINGS_KIND ∷ []) ++ (le32 x.temperature ++ le32 x
 
 -- "18 tone, in pack order: number, prior, flag, from, to"
 abbrev pub tone_bytes : Tone → List ℕ
-tone_bytes t =
-    (SHEET_TONE_KIND ∷ t.number ∷ []) ++ (le32 t.prior ++ ((t.flag ∷ []) ++ (le32 t.from ++ le32 t.to)))
+tone_bytes t = (SHEET_TONE_KIND ∷ t.number ∷ []) ++ (le32 t.prior ++ ((t.flag ∷ []) ++ (le32 t.from ++ le32 t.to)))
 
 -- "19 accent: number, tolerances"
 abbrev pub accent_bytes : Accent → List ℕ
-accent_bytes a =
-    (SHEET_ACCENT_KIND ∷ a.number ∷ [])
-    ++ (le32 a.contour ++ (le32 a.onset ++ (le32 a.offset ++ le32 a.turning)))
+accent_bytes a = (SHEET_ACCENT_KIND ∷ a.number ∷ []) ++ (le32 a.contour ++ (le32 a.onset ++ (le32 a.offset ++ le32 a.turning)))
 
 -- "20 row: accent, tone, prev, list when not final, list when final (u8, 0 nothing)"
 abbrev pub row_bytes : Context → ℕ → ℕ → List ℕ
@@ -98,22 +95,17 @@ unfoldable pub bits_bytes : List ℕ → List ℕ
 bits_bytes [] = []
 bits_bytes (x ∷ xs) = le32 x ++ bits_bytes xs
 
-abbrev pub component_bytes : Carried → List ℕ
-component_bytes c = (SHEET_COMPONENT_KIND ∷ []) ++ (le32 c.weight ++ bits_bytes c.points)
-
 unfoldable pub components_bytes : List Carried → List ℕ
 components_bytes [] = []
-components_bytes (c ∷ cs) = component_bytes c ++ components_bytes cs
+components_bytes (c ∷ cs) = ((SHEET_COMPONENT_KIND ∷ []) ++ (le32 c.weight ++ bits_bytes c.points)) ++ components_bytes cs
 
 -- "21 list: number u8, owner u8, form u8, label u16, count u8, followed by its 22 components"; owner, form and label are those of its first
 abbrev pub no_carried : Carried
 no_carried = record { owner = 0; form = 0; label = 0; part = 0; weight = 0; points = [] }
 
-abbrev pub head_bytes : ℕ → Carried → ℕ → List ℕ
-head_bytes n c count = (SHEET_LIST_KIND ∷ n ∷ c.owner ∷ c.form ∷ []) ++ (le16 c.label ++ (count ∷ []))
-
 abbrev pub list_bytes : ℕ → List Carried → List ℕ
-list_bytes n cs = head_bytes n (get_or cs 0 no_carried) (length cs) ++ components_bytes cs
+list_bytes n cs =
+    let c = get_or cs 0 no_carried in ((SHEET_LIST_KIND ∷ n ∷ c.owner ∷ c.form ∷ []) ++ (le16 c.label ++ (length cs ∷ []))) ++ components_bytes cs
 
 unfoldable pub bytes_with : View → List (List Carried) → List ℕ
 bytes_with v lists =

@@ -1,5 +1,5 @@
 -- Worked examples, computed: what is one list and what are two, and the sheet of a small source.
-use Rattle.std.specs.Prelude.{ℕ, ◌≡◌, refl, Bool, true, false, cond, List, [], ◌∷◌, ◌++◌, eqb, replicate}
+use Rattle.std.specs.Prelude.{ℕ, ◌≡◌, refl, Bool, true, false, cond, List, [], ◌∷◌, ◌++◌, eqb, take, replicate}
 use Rattle.std.proofs.Math.Option.{Option, none, some}
 use Rattle.std.proofs.Common.{inl, inr}
 use Rattle.tonekit_core.specs.declared.layout.TheConstants.{SHEET_ACCENT_CONTOUR, SHEET_TONE_REGION}
@@ -8,10 +8,10 @@ use Rattle.spec_lookup.specs.Source.{Settings, Tone, Accent, Carried, Source, ac
 use Rattle.spec_arithmetic.specs.Places.{index_of}
 use Rattle.spec_lookup.specs.declared.Context.{Context}
 use Rattle.spec_sheet.specs.Agree.{Held}
-use Rattle.spec_sheet.specs.Number.{same_numbers, same_carried, same, seen_in, place_in, noted, number_in}
+use Rattle.spec_sheet.specs.Number.{same_carried, same, seen_in, place_in, noted, number_in, same_by}
 use Rattle.spec_sheet.specs.Pieces.{pieces, gather}
 use Rattle.spec_sheet.specs.Sheet.{asc_from, ascending, row_context, view_of, lists_of, bits_bytes, components_bytes, bytes_with, sheet}
-use Rattle.spec_sheet.specs.Sheet.{settings_bytes, tone_bytes, accent_bytes, row_bytes, head_bytes, component_bytes, list_bytes}
+use Rattle.spec_sheet.specs.Sheet.{settings_bytes, tone_bytes, accent_bytes, row_bytes, list_bytes}
 use Rattle.spec_sheet.specs.Reader.{Sst, row_due, row_names, list_size}
 use Rattle.spec_sheet.specs.FromSheet.{bits_at, carried_at, carried_from, list_numbered, look_sheet, source_of_sheet}
 
@@ -24,28 +24,28 @@ lone owner label weight point = curve owner label weight point ∷ []
 
 -- "Lists equal in every bit are one": another owner, another label, a weight's or a point's sign make two
 same_list : same (lone 3 7 0 0) (lone 3 7 0 0) ≡ true
-unfolding same same_carried same_numbers
+unfolding same_by same_carried
 same_list = refl
 
 another_owner : same (lone 3 7 0 0) (lone 5 7 0 0) ≡ false
-unfolding same same_carried same_numbers
+unfolding same_by same_carried
 another_owner = refl
 
 another_label : same (lone 3 7 0 0) (lone 3 8 0 0) ≡ false
-unfolding same same_carried same_numbers
+unfolding same_by same_carried
 another_label = refl
 
 weight_sign : same (lone 3 7 0 0) (lone 3 7 0x8000_0000 0) ≡ false
-unfolding same same_carried same_numbers
+unfolding same_by same_carried
 weight_sign = refl
 
 point_sign : same (lone 3 7 0 0) (lone 3 7 0 0x8000_0000) ≡ false
-unfolding same same_carried same_numbers
+unfolding same_by same_carried
 point_sign = refl
 
 -- and so does the second of two components
 another_second : same (curve 3 7 0 0 ∷ lone 3 7 0 0) (curve 3 7 0 0 ∷ lone 3 7 0 1) ≡ false
-unfolding same same_carried same_numbers
+unfolding same_by same_carried
 another_second = refl
 
 -- a source of one tone and of accents 5 and 3, in this order. With nothing before it, not at the end of a phrase, the tone takes the list of label 7; else
@@ -74,7 +74,7 @@ small_sheet : sheet small
     ++ ((20 ∷ 5 ∷ 1 ∷ 1 ∷ 2 ∷ 2 ∷ [])
     ++ ((21 ∷ 1 ∷ 3 ∷ 2 ∷ 7 ∷ 0 ∷ 1 ∷ 22 ∷ replicate 44 0)
     ++ ((21 ∷ 2 ∷ 3 ∷ 2 ∷ 8 ∷ 0 ∷ 1 ∷ 22 ∷ replicate 44 0) ++ (23 ∷ []))))))))))
-unfolding sheet bytes_with view_of ascending asc_from accent_in lists_of row_context noted number_in seen_in place_in same same_carried same_numbers bits_bytes components_bytes gather pieces range turns
+unfolding sheet bytes_with view_of ascending asc_from accent_in lists_of row_context noted number_in seen_in place_in same_by same_carried bits_bytes components_bytes gather pieces range turns
 small_sheet = refl
 
 -- a source of tones 7 and 4, in this order, and of accent 3. After tone 4, tone 7 takes the list of label 9, and nothing at the end of
@@ -106,7 +106,7 @@ pair_sheet : sheet pair
     ++ ((21 ∷ 1 ∷ 3 ∷ 2 ∷ 7 ∷ 0 ∷ 1 ∷ 22 ∷ replicate 44 0)
     ++ ((21 ∷ 2 ∷ 3 ∷ 2 ∷ 9 ∷ 0 ∷ 1 ∷ 22 ∷ replicate 44 0)
     ++ ((21 ∷ 3 ∷ 3 ∷ 2 ∷ 8 ∷ 0 ∷ 1 ∷ 22 ∷ replicate 44 0) ++ (23 ∷ [])))))))))))))
-unfolding sheet bytes_with view_of ascending asc_from accent_in lists_of row_context noted number_in seen_in place_in same same_carried same_numbers bits_bytes components_bytes gather pieces range turns
+unfolding sheet bytes_with view_of ascending asc_from accent_in lists_of row_context noted number_in seen_in place_in same_by same_carried bits_bytes components_bytes gather pieces range turns
 pair_sheet = refl
 
 -- "A lookup takes accent, tone, prev (a held tone or 0) and final (0 or 1)": after none at the end of a phrase, after tone 4 elsewhere
@@ -225,9 +225,9 @@ list21 = record21 ++ (replicate 45 0 ++ record22)
 
 fields22 : (carried_at list21 0 1 ≡ carried22)
     × (list_size list21 0 ≡ 277)
-    × (head_bytes 1 carried22 6 ≡ record21)
-    × (component_bytes carried22 ≡ record22)
-unfolding carried_at bits_at bits_bytes
+    × (take 7 (list_bytes 1 (replicate 6 carried22)) ≡ record21)
+    × (components_bytes (carried22 ∷ []) ≡ record22)
+unfolding carried_at bits_at bits_bytes components_bytes
 fields22 = (refl, refl, refl, refl)
 
 -- ---- lists of one component and of two, written one behind the other and read by number

@@ -5,7 +5,7 @@ use lib.ListN.{get_or-append}
 use Rattle.std.specs.Prelude.{Ok}
 use Rattle.spec_arithmetic.specs.Fields.{byte_at}
 use Rattle.spec_arithmetic.specs.Places.{number_at}
-use Rattle.spec_pack.specs.Pack.{PackRead, size_of, rule_fine, part_fine, added, start}
+use Rattle.spec_pack.specs.Pack.{PackRead, size_of, rule_fine, part_fine, added, pack_reader}
 use Rattle.tonekit_core.proofs.Split.{split, both, either, neither}
 use Rattle.tonekit_pack.proofs.Records.{passed, size_pos}
 use Rattle.spec_lookup.specs.Lookup.{to_rule}
@@ -205,10 +205,10 @@ module _ (s tail : List ℕ) where
       (other_step s at fin (length st.accents) (length st.rules) r (grouped rs) bytes (kind r) refl (eqb-false (kind r) 5 k5) some x1)))))
 
 pub accents_own : {u : Tally} {rs : List (List ℕ)} (tail : List ℕ) → ReadsOn no_tally rs u
-    → (book_of (records_bytes rs ++ (6 ∷ tail)) (added_all start.st 0 rs)).accents ≡ map accent_of_group (grouped rs).accents
+    → (book_of (records_bytes rs ++ (6 ∷ tail)) (added_all pack_reader.start.st 0 rs)).accents ≡ map accent_of_group (grouped rs).accents
 unfolding book_of
 accents_own {rs = rs} tail x =
-    let fin = added_all start.st 0 rs in
-    let come = from_records (records_bytes rs ++ (6 ∷ tail)) tail x 0 start.st refl refl (omega arith) in
+    let fin = added_all pack_reader.start.st 0 rs in
+    let come = from_records (records_bytes rs ++ (6 ∷ tail)) tail x 0 pack_reader.start.st refl refl (omega arith) in
     let z : length fin.accents ≡ length fin.accents - 0 = omega arith in
     ap (λ n. tabulate (pack_accent (records_bytes rs ++ (6 ∷ tail)) fin) n 0) z ∙ come.accents

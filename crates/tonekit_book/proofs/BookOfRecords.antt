@@ -2,7 +2,7 @@
 -- its sheet (`records_sheet`). Assumes nothing.
 use Rattle.std.proofs.Common.{ℕ, ◌≡◌, refl, sym, ◌∙◌, ap, ap₂, true, List, ◌∷◌, ◌++◌, append_assoc, arith, length, drop}
 use Rattle.spec_arithmetic.specs.Files.{loaded}
-use Rattle.spec_pack.specs.Pack.{PackRead, due_after, size_of, start, read_pack}
+use Rattle.spec_pack.specs.Pack.{PackRead, due_after, size_of, read_pack, pack_reader}
 use Rattle.tonekit_core.proofs.Split.{absurd_bool}
 use Rattle.tonekit_pack.proofs.Records.{Due, due_is, settings, tone, accent, rule, part, finish}
 use Rattle.spec_lookup.specs.Source.{settings_at, source_of_pack}
@@ -40,7 +40,7 @@ settings_own tail (more {r = r} {rs = rs} w n fine x) d =
 
 -- ---- the book
 pub book_of_records_lem : {u : Tally} {rs : List (List ℕ)} (tail : List ℕ) → ReadsOn no_tally rs u → due_after u.last 6 ≡ true
-    → book_of (records_bytes rs ++ (6 ∷ tail)) (added_all start.st 0 rs) ≡ book_of_records rs
+    → book_of (records_bytes rs ++ (6 ∷ tail)) (added_all pack_reader.start.st 0 rs) ≡ book_of_records rs
 unfolding book_of book_of_records
 book_of_records_lem tail x d =
     let a = settings_own tail x d in

@@ -11,7 +11,7 @@ use Rattle.spec_pack.specs.Pack.{PackRead, parts_from}
 use Rattle.tonekit_core.proofs.Split.{split}
 use Rattle.spec_lookup.specs.declared.Context.{Context}
 use Rattle.std.specs.Prelude.{Some, None}
-use Rattle.spec_lookup.specs.Lookup.{matches, specificity, more_than, better_of, from_rule, to_rule, best_rule, parent_of, or_parent, climb_turn, find_rule, rule_listing, listed, look_at, look_up}
+use Rattle.spec_lookup.specs.Lookup.{matches, specificity, more_than, better_of, to_rule, best_rule, or_parent, climb_turn, find_rule, rule_listing, listed, look_at, look_up}
 use Rattle.spec_lookup.specs.Source.{Carried, components, carried_of, settings_at, tone_at, accent_at, source_of_pack}
 use Rattle.tonekit_book.specs.Book.{Rule, BookAccent, BookTone, first_with, book_accent_in, rule_matches, conditions, better_rule, best_of, given_or, from_parent, climb, or_citation, look_with, look_in, source_of, tabulate, book_tone_at, rule_at, pack_tone, pack_accent, book_of}
 use Rattle.tonekit_book.proofs.Tabulate.{tabulate_length, map_tabulate, tabulate_all}
@@ -63,9 +63,9 @@ module _ (s : List ℕ) (owner : ℕ) (rules : List ℕ) (c : Context) where
   best_from (suc k) i f = best_from k (i + 1) (best_turn i f) ∙ ap (λ o. fold (better_rule c) o (tabulate (λ k. rule (get_or rules k 0)) k (i + 1))) (better_same f (get_or rules i 0))
 
 pub best_same : (s : List ℕ) (st : PackRead) (c : Context) (i owner : ℕ)
-    → at_found (rule_at s owner) (best_rule s st c i) ≡ best_of c (tabulate (λ k. rule_at s owner (get_or st.rules k 0)) (to_rule st i - from_rule st i) (from_rule st i))
+    → at_found (rule_at s owner) (best_rule s st c i) ≡ best_of c (tabulate (λ k. rule_at s owner (get_or st.rules k 0)) (to_rule st i - get_or st.firsts i 0) (get_or st.firsts i 0))
 unfolding best_rule range best_of
-best_same s st c i owner = best_from s owner st.rules c (to_rule st i - from_rule st i) (from_rule st i) None
+best_same s st c i owner = best_from s owner st.rules c (to_rule st i - get_or st.firsts i 0) (get_or st.firsts i 0) None
 
 -- ---- the walk up the parents
 stops : {S R : Type 0} (f : S → Turn S R) (d : R) (n : ℕ) (r : R) → loop_on f d n (stop r) ≡ r
@@ -76,6 +76,10 @@ stops f d (suc n) r = refl
 module _ (s : List ℕ) (st : PackRead) (c : Context) where
   abbrev accents : List BookAccent
   accents = tabulate (pack_accent s st) (length st.accents) 0
+
+  -- the place of accent i's parent
+  abbrev parent_of : List ℕ → PackRead → ℕ → Found ℕ
+  parent_of s st i = index_of s st.accents (byte_at s (get_or st.accents i 0 + 2))
 
   -- the components of the rule that the walk ends with
   abbrev its_list : Found Winner → Option (List Carried)

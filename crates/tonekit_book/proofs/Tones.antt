@@ -5,7 +5,7 @@ use Rattle.std.specs.Prelude.{Ok}
 use Rattle.spec_arithmetic.specs.Fields.{byte_at}
 use Rattle.spec_arithmetic.specs.Places.{number_at}
 use Rattle.spec_arithmetic.specs.Constants.{one32}
-use Rattle.spec_pack.specs.Pack.{PackRead, size_of, tone_fine, added, start}
+use Rattle.spec_pack.specs.Pack.{PackRead, size_of, tone_fine, added, pack_reader}
 use Rattle.tonekit_core.proofs.Split.{split, neither}
 use Rattle.tonekit_pack.proofs.Records.{passed}
 use Rattle.spec_lookup.specs.Knots.{knots_at, expanded}
@@ -76,10 +76,10 @@ module _ (s tail : List ℕ) where
       (λ k2. rw k2 (ap (λ m. tabulate (pack_tone s fin) (length fin.tones - m) m) (sym (ap length (tone_kept (kind r) at st k2))) ∙ ih))
 
 pub tones_own : {u : Tally} {rs : List (List ℕ)} (tail : List ℕ) → ReadsOn no_tally rs u
-    → (book_of (records_bytes rs ++ (6 ∷ tail)) (added_all start.st 0 rs)).tones ≡ map tone_of_record (tone_records rs)
+    → (book_of (records_bytes rs ++ (6 ∷ tail)) (added_all pack_reader.start.st 0 rs)).tones ≡ map tone_of_record (tone_records rs)
 unfolding book_of
 tones_own {rs = rs} tail x =
     let s = records_bytes rs ++ (6 ∷ tail) in
-    let fin = added_all start.st 0 rs in
+    let fin = added_all pack_reader.start.st 0 rs in
     let z : length fin.tones ≡ length fin.tones - 0 = omega arith in
-    ap (λ n. tabulate (pack_tone s fin) n 0) z ∙ from_records s tail x 0 start.st refl (omega arith)
+    ap (λ n. tabulate (pack_tone s fin) n 0) z ∙ from_records s tail x 0 pack_reader.start.st refl (omega arith)

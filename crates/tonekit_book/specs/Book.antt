@@ -9,7 +9,7 @@ use Rattle.spec_arithmetic.specs.Fields.{byte_at}
 use Rattle.spec_arithmetic.specs.Places.{number_at}
 use Rattle.spec_pack.specs.Pack.{PackRead, parts_from}
 use Rattle.spec_lookup.specs.declared.Context.{Context}
-use Rattle.spec_lookup.specs.Lookup.{final_of, meets, stated, from_rule, to_rule, rule_listing, citation}
+use Rattle.spec_lookup.specs.Lookup.{final_of, meets, stated, to_rule, rule_listing, citation}
 use Rattle.spec_lookup.specs.Source.{Settings, Tone, Accent, Carried, Source, components, settings_at, tone_at, accent_at}
 
 -- what a rule asks for, and the components that it gives: its parts, under the number of the accent whose rule it is
@@ -122,7 +122,7 @@ pack_tone s st i = book_tone_at s (get_or st.tones i 0)
 abbrev pub pack_accent : List ℕ → PackRead → ℕ → BookAccent
 pack_accent s st i =
     let o = get_or st.accents i 0 in
-    record { accent = accent_at ACCENT_CONTOUR s o; parent = byte_at s (o + ACCENT_PARENT); rules = tabulate (λ k. rule_at s (number_at s o) (get_or st.rules k 0)) (to_rule st i - from_rule st i) (from_rule st i) }
+    record { accent = accent_at ACCENT_CONTOUR s o; parent = byte_at s (o + ACCENT_PARENT); rules = tabulate (λ k. rule_at s (number_at s o) (get_or st.rules k 0)) (to_rule st i - get_or st.firsts i 0) (get_or st.firsts i 0) }
 
 unfoldable pub book_of : List ℕ → PackRead → Book
 unfolding tabulate

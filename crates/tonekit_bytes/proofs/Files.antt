@@ -9,8 +9,8 @@ use Rattle.tonekit_core.specs.declared.Refusal.TheVariants.{Misplaced, CutShort,
 use Rattle.std.specs.Prelude.{Result, Ok, Err}
 use Rattle.tonekit_core.proofs.Split.{split}
 use Rattle.spec_arithmetic.specs.Fields.{byte_at}
-use Rattle.spec_arithmetic.specs.Files.{judged, Out, loaded, refused, Reader, record_turn, read, singly}
-use Rattle.tonekit_bytes.specs.Onward.{Onward}
+use Rattle.spec_arithmetic.specs.Files.{judged, Out, loaded, refused, Reader, read, singly}
+use Rattle.tonekit_bytes.specs.Onward.{Onward, record_turn}
 
 pub not_fine : {P : Type 0} (r : Refusal) → ◌≡◌ {A = Result Unit Refusal} (Err r) (Ok tt) → P
 not_fine r h = absurd (cc)

@@ -1,10 +1,14 @@
 -- What the loop of a reader of files keeps: from here it gives what it gives of the whole.
 use Rattle.std.specs.Prelude.{ℕ, ◌+◌, ◌≤◌, ◌<◌, ◌≡◌, List, length, Err}
 use Rattle.std.proofs.Common.{arith}
-use Rattle.tonekit_core.specs.Loop.{loop_to, loop_stop}
+use Rattle.tonekit_core.specs.Loop.{Turn, loop_to, loop_stop}
 use Rattle.tonekit_core.specs.declared.Refusal.{Refusal}
 use Rattle.tonekit_core.specs.declared.Refusal.TheVariants.{CutShort}
-use Rattle.spec_arithmetic.specs.Files.{refused, Reader, record_turn, read}
+use Rattle.spec_arithmetic.specs.Files.{Out, refused, Here, Reader, on_verdict, read}
+
+-- one record
+abbrev pub record_turn : {S : Type 0} → Reader S → List ℕ → Here S → Turn (Here S) (Out S)
+record_turn f s h = on_verdict f s h (f.verdict s h.at h.st)
 
 -- from this place on reading gives what it gives of the whole
 pub record Onward {S : Type 0} (f : Reader S) (s : List ℕ) (at : ℕ) (st : S) : Type 0 where

@@ -16,12 +16,14 @@ use Rattle.spec_lookup.specs.Source as source
 use Rattle.spec_lookup.specs.declared.Context.{Context}
 use Rattle.spec_judgement.specs.Score.{scoring_of}
 use Rattle.std.specs.Prelude.{Some}
-use Rattle.spec_judgement.specs.Judge.{Targets, count_in, name_in, entry_at, slot_at, component_at, slot_part, nearest_at, judgement_of}
+use Rattle.spec_judgement.specs.Judge.{Targets, count_in, name_in, entry_at, slot_at, component_at, nearest_at, judgement_of}
+use Rattle.tonekit_judge.specs.Terms.{slot_part}
 use Rattle.spec_judgement.specs.Asked.{TargetsHeld}
 use Rattle.spec_judgement.specs.declared.Slot.{Slot}
 use Rattle.tonekit_core.specs.declared.Name.{Name}
 use Rattle.tonekit_judge.proofs.Winner.{winner_among, winner_named}
-use Rattle.spec_judgement.specs.Gather.{f32, named_of, slot_of, given_of, listings}
+use Rattle.spec_judgement.specs.Gather.{f32, named_of, given_of, listings}
+use Rattle.tonekit_inventory.specs.Fields.{slot_of}
 use Rattle.std.proofs.lemmas.List.{get_or-map}
 use Rattle.tonekit_inventory.proofs.Listed.{Entered, components_at, listings_enter, listed_tones}
 use Rattle.tonekit_inventory.proofs.Alike.{Alike, named_count, pack_alike}
@@ -54,7 +56,7 @@ module _ (src : Source) (few : length src.tones ≤ 8) (alike : (c : Context) (c
     placed g p = rw (listed_tones src c) p
 
   pub source_names : NamesWinner src
-  unfolding slot_part nearest_at
+  unfolding nearest_at
   source_names c x settings t g issues ok p ll d2 slot e =
       let l = listings src c in
       let s = scoring_of settings.temperature t issues in

@@ -10,7 +10,7 @@ use lib.Ieee.Scale.{finite}
 use Rattle.tonekit_float.proofs.Order.{yes, no}
 use Rattle.spec_arithmetic.specs.Narrow.{narrowed}
 use Rattle.spec_arithmetic.specs.Position.{position}
-use Rattle.spec_lookup.specs.Knots.{segment, past_knot, on_line, point_at, first_points, expanded, knots_at, point_least, point_most, Knot, Point, Knots}
+use Rattle.spec_lookup.specs.Knots.{segment, past_knot, on_line, point_at, first_points, expanded, knots_at, Knot, Point, Knots}
 use Rattle.spec_arithmetic.specs.Bounds.{In}
 use Rattle.tonekit_float.proofs.Monotone.{zero_f}
 use Rattle.tonekit_float.proofs.Bounds.{finite4, about0, in_wider, in_cut, in_add, in_sub, in_scale, in_narrow}
@@ -40,7 +40,7 @@ highest lo hi = add binary64 hi (mul binary64 one_f (most lo))
 
 module _ (a b t : Float) (B : Knot b) (F : In zero_f one_f t) where
   part : (lo hi : Float) → T (finite4 minus100 plus100 lo hi) → T (about0 (least hi) (most lo) one_f) → T (finite4 lo hi (mul binary64 one_f (least hi)) (mul binary64 one_f (most lo)))
-      → T (finite (lowest lo hi) && finite (highest lo hi)) → T (le point_least (narrowed (lowest lo hi)) && le (narrowed (highest lo hi)) point_most) → In lo hi a → Point (on_line a b t)
+      → T (finite (lowest lo hi) && finite (highest lo hi)) → T (le (fin true 1 (pos 7)) (narrowed (lowest lo hi)) && le (narrowed (highest lo hi)) (fin false 1 (pos 7))) → In lo hi a → Point (on_line a b t)
   unfolding on_line
   part lo hi t1 t2 t3 t4 t5 A = in_wider t5 (in_narrow t4 (in_add binary64 t3 A (in_scale binary64 t2 F (in_sub binary32 t1 B A))))
 

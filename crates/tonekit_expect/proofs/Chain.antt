@@ -4,7 +4,7 @@ use Rattle.tonekit_core.specs.declared.layout.TheConstants.{ACCENT_PARENT}
 use Rattle.spec_arithmetic.specs.Fields.{byte_at}
 use Rattle.spec_arithmetic.specs.Places.{number_at}
 use Rattle.spec_pack.specs.Pack.{PackRead}
-use Rattle.spec_lookup.specs.Lookup.{parent_of}
+use Rattle.tonekit_expect.specs.Pieces.{parent_of}
 
 -- "A parent stands earlier in the file": each accent's parent is 0 or the number of an earlier one; no number is 0
 pub record Earlier (s accents : List ℕ) : Type 0 where

@@ -13,11 +13,12 @@ use Rattle.spec_pack.specs.Pack.{PackRead, read_pack}
 use Rattle.tonekit_bytes.specs.Places.{index_turn}
 use Rattle.std.specs.Prelude.{Some, None}
 use Rattle.spec_lookup.specs.declared.Context.{Context}
-use Rattle.spec_lookup.specs.Lookup.{best_rule, parent_of, climb_turn, find_rule}
+use Rattle.spec_lookup.specs.Lookup.{best_rule, climb_turn, find_rule}
 use Rattle.tonekit_expect.proofs.Chain.{Earlier, Ends, top, up}
 use Rattle.tonekit_core.proofs.Split.{split}
 use Rattle.tonekit_pack.proofs.Loads.{loads, parent_before}
 use Rattle.tonekit_expect.proofs.Walk.{index_found, climb_hit, climb_top, climb_on}
+use Rattle.tonekit_expect.specs.Pieces.{parent_of}
 
 -- ---- a limit past the chain's end changes nothing
 module _ (s : List ℕ) (st : PackRead) (c : Context) where

@@ -9,8 +9,8 @@ use Rattle.tonekit_core.proofs.Split.{split}
 use Rattle.std.specs.Prelude.{Some, None}
 use Rattle.spec_lookup.specs.declared.Winner.{Winner}
 use Rattle.spec_lookup.specs.declared.Context.{Context}
-use Rattle.spec_lookup.specs.Lookup.{matches, more_than, better_of, from_rule, to_rule, best_rule, parent_of, or_parent, to_parent, climb_turn, find_rule, listed, look_at, look_up}
-use Rattle.tonekit_expect.specs.Pieces.{best_turn, won}
+use Rattle.spec_lookup.specs.Lookup.{matches, more_than, better_of, to_rule, best_rule, or_parent, to_parent, climb_turn, find_rule, listed, look_at, look_up}
+use Rattle.tonekit_expect.specs.Pieces.{best_turn, won, parent_of}
 
 -- ---- the search
 module _ (s os : List ℕ) (n : ℕ) where
@@ -58,18 +58,18 @@ loop_out f d zero s z r h = r
 loop_out f d (suc n) s z r h = absurd (omega arith)
 
 -- ---- what a walk ends with: a rule of one of the accents, of which P holds if it holds of every accent's own rules
-module _ (s : List ℕ) (st : PackRead) (c : Context) (P : ℕ → ℕ → Type 0) (each : (i k : ℕ) → from_rule st i ≤ k → k < to_rule st i → P i (get_or st.rules k 0)) where
+module _ (s : List ℕ) (st : PackRead) (c : Context) (P : ℕ → ℕ → Type 0) (each : (i k : ℕ) → get_or st.firsts i 0 ≤ k → k < to_rule st i → P i (get_or st.rules k 0)) where
   Best : ℕ → Option ℕ → Type 0
   Best i f = (r : ℕ) → f ≡ Some r → P i r
 
-  better_is : (i k : ℕ) (f : Option ℕ) → from_rule st i ≤ k → k < to_rule st i → Best i f → Best i (best_turn s st.rules c k f)
+  better_is : (i k : ℕ) (f : Option ℕ) → get_or st.firsts i 0 ≤ k → k < to_rule st i → Best i f → Best i (best_turn s st.rules c k f)
   unfolding Best better_of
   better_is i k f l h b =
       split (matches s c (get_or st.rules k 0) && more_than s f (get_or st.rules k 0))
       (λ t r e. let q : get_or st.rules k 0 ≡ r = let e' = rw t at e in cc in subst (P i) q (each i k l h))
       (λ t r e. b r (rw t at e))
 
-  best_turns : (i k j : ℕ) (f : Option ℕ) → from_rule st i ≤ j → (0 < k → k + j ≤ to_rule st i) → Best i f → Best i (turns (best_turn s st.rules c) k j f)
+  best_turns : (i k j : ℕ) (f : Option ℕ) → get_or st.firsts i 0 ≤ j → (0 < k → k + j ≤ to_rule st i) → Best i f → Best i (turns (best_turn s st.rules c) k j f)
   unfolding turns
   best_turns i zero j f l h b = b
   best_turns i (suc k) j f l h b =
@@ -78,7 +78,7 @@ module _ (s : List ℕ) (st : PackRead) (c : Context) (P : ℕ → ℕ → Type 
 
   best_is : (i r : ℕ) → best_rule s st c i ≡ Some r → P i r
   unfolding best_rule range Best
-  best_is i r e = best_turns i (to_rule st i - from_rule st i) (from_rule st i) None (omega arith) (λ p. omega arith) (λ r q. let z : ◌≡◌ {A = ℕ} 0 1 = cc in absurd (omega arith)) r e
+  best_is i r e = best_turns i (to_rule st i - get_or st.firsts i 0) (get_or st.firsts i 0) None (omega arith) (λ p. omega arith) (λ r q. let z : ◌≡◌ {A = ℕ} 0 1 = cc in absurd (omega arith)) r e
 
   -- a turn goes on to an accent, or stops with such a rule
   record Right (t : Turn ℕ (Option Winner)) : Type 0 where

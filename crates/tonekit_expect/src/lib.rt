@@ -10,8 +10,8 @@ ghost use Rattle.spec_arithmetic.specs.Places.{index_of};
 ghost use Rattle.tonekit_pack.specs.Held.{shown};
 ghost use Rattle.spec_lookup.specs.Knots.{on_line, point_at, expanded, knots_at, Point, Knots};
 ghost use Rattle.spec_pack.specs.Pack.{parts_from};
-ghost use Rattle.spec_lookup.specs.Lookup.{final_of, meets, matches, stated, specificity, better_of, best_rule, parent_of, find_rule, rule_listing, citation, listed, look_up, component_of};
-ghost use Rattle.tonekit_expect.specs.Pieces.{best_turn, Placed, Listed, knot_before};
+ghost use Rattle.spec_lookup.specs.Lookup.{final_of, meets, matches, stated, specificity, better_of, best_rule, find_rule, rule_listing, citation, listed, look_up, component_of};
+ghost use Rattle.tonekit_expect.specs.Pieces.{best_turn, Placed, Listed, knot_before, parent_of};
 
 pub use spec_lookup::{Component, Context, Listing, Winner};
 use tonekit_bytes::places::index_of;

@@ -4,8 +4,10 @@
 
 ghost use Rattle.std.specs.Prelude.{◌≡◌, ℕ, ◌+◌, ◌≤◌, ◌<◌, ◌^◌, length};
 ghost use Rattle.spec_query.specs.Frames.{frame_at};
-ghost use Rattle.spec_shape.specs.Chao.{hz_to_st, width_of, st_to_chao, voiced, semitones_of};
-ghost use Rattle.spec_shape.specs.Fit.{seconds, point_added, normal_equations, pivot_of, row_cleared, below_cleared, first_unknown, lead_of};
+ghost use Rattle.spec_shape.specs.Chao.{hz_to_st, width_of, st_to_chao, voiced};
+ghost use Rattle.tonekit_fit.specs.Steps.{semitones_of};
+ghost use Rattle.spec_shape.specs.Fit.{seconds, point_added, normal_equations, pivot_of, row_cleared, first_unknown, lead_of};
+ghost use Rattle.tonekit_fit.specs.Steps.{below_cleared};
 
 pub use spec_shape::{Moments, Sums};
 

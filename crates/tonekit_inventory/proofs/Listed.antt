@@ -10,7 +10,8 @@ use Rattle.spec_lookup.specs.declared.Context.{Context}
 use Rattle.spec_judgement.specs.Judge.{Listings, no_entry, entry_at, slot_at}
 use Rattle.spec_judgement.specs.declared.Slot.{Slot}
 use Rattle.spec_judgement.specs.declared.ToneEntry.{ToneEntry}
-use Rattle.spec_judgement.specs.Gather.{entry_of, named_of, with_tone, put_in, slot_of, slotted, given_of, list_tone, listings, absent_tone}
+use Rattle.spec_judgement.specs.Gather.{entry_of, named_of, with_tone, put_in, slotted, given_of, list_tone, listings, absent_tone}
+use Rattle.tonekit_inventory.specs.Fields.{slot_of}
 use Rattle.std.proofs.lemmas.List.{get_or-map}
 use Rattle.tonekit_inventory.proofs.Going.{nothing_yet}
 

@@ -15,7 +15,8 @@ use Rattle.spec_lookup.specs.Source.{Tone, Accent, accent_at, accent_in, tone_in
 use Rattle.tonekit_expect.proofs.Walk.{index_found}
 use Rattle.spec_judgement.specs.declared.Tolerance.{Tolerance}
 use Rattle.tonekit_inventory.specs.Fields.{tolerance_at}
-use Rattle.spec_judgement.specs.Gather.{tolerance_of, graded_of}
+use Rattle.spec_judgement.specs.Gather.{graded_of}
+use Rattle.tonekit_inventory.specs.Fields.{tolerance_of}
 
 -- accents and tones that are held by their records' offsets, under the numbers there
 module _ (s os : List ℕ) (n : ℕ) (accent_of : ℕ → Accent) (number : (o : ℕ) → (accent_of o).number ≡ number_at s o) where

@@ -9,7 +9,8 @@ use Rattle.spec_lookup.specs.Source.{Carried, carried, components}
 use Rattle.spec_lookup.specs.declared.Listing.{Listing}
 use Rattle.spec_judgement.specs.declared.Slot.{Slot}
 use Rattle.spec_judgement.specs.declared.Slots.{Slots}
-use Rattle.spec_judgement.specs.Gather.{slot_of, put_in}
+use Rattle.spec_judgement.specs.Gather.{put_in}
+use Rattle.tonekit_inventory.specs.Fields.{slot_of}
 use Rattle.tonekit_inventory.proofs.Floats.{weight_back, points_back}
 
 slots_snoc : (cs : List Carried) (c : Carried) → map slot_of (cs ++ (c ∷ [])) ≡ map slot_of cs ++ (slot_of c ∷ [])

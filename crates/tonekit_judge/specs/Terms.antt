@@ -1,16 +1,31 @@
 -- Mixtures in the parts that their loop has, and components in the list that it takes them from.
-use Rattle.std.specs.Prelude.{ℕ, ◌+◌, ◌*◌, ◌<◌, ◌≡◌, cond, Option, Some, None, List, get_or, Float}
+use Rattle.std.specs.Prelude.{ℕ, ◌+◌, ◌*◌, ◌%◌, ◌<◌, ◌≡◌, cond, Option, Some, None, List, eqb, get_or, Float}
 use Rattle.std.specs.Float.{nan, binary32}
 use Rattle.std.specs.Float.Ieee.{mul, lt}
 use Rattle.tonekit_core.specs.Loop.{range}
+use Rattle.tonekit_core.specs.declared.Name.{Name}
+use Rattle.tonekit_core.specs.declared.layout.TheConstants.{MIXTURE_FORM}
 use Rattle.spec_arithmetic.specs.Constants.{zero32}
 use Rattle.spec_judgement.specs.Score.{mix_turn}
-use Rattle.spec_judgement.specs.Judge.{Inventory, count_at, weighed}
+use Rattle.spec_judgement.specs.Judge.{Inventory, Targets, count_in, entry_at, weighed}
 use Rattle.tonekit_score.specs.Terms.{term_of}
 use Rattle.spec_judgement.specs.declared.Scoring.{Scoring}
 use Rattle.spec_judgement.specs.declared.Mixing.{Mixing}
+use Rattle.spec_judgement.specs.declared.Target.{Target}
 use Rattle.spec_judgement.specs.declared.Term.{Term}
 use Rattle.spec_judgement.specs.declared.Component.{Component}
+
+-- how many components tone t has
+abbrev pub count_at : Inventory → ℕ → ℕ
+count_at i t = count_in (entry_at i t).listing
+
+-- target k
+abbrev pub target_at : Targets → ℕ → Target
+target_at g k = get_or g.items k (record { place = 0; weight = nan })
+
+-- the place in its rule of the component at a slot, where that is a mixture
+abbrev pub slot_part : Name → ℕ → ℕ
+slot_part name slot = cond (eqb name.form MIXTURE_FORM) (slot % 4) 0
 
 -- a turn of `tone_mixing`, and one of `part_mixing`
 abbrev pub tone_turn : Scoring → (ℕ → ℕ → Component) → ℕ → ℕ → Mixing → Mixing

@@ -12,7 +12,8 @@ ghost use Rattle.spec_judgement.specs.Asked.{Counted, TargetsHeld};
 ghost use Rattle.spec_judgement.specs.Judge.{count_in, name_in, entry_at, listing, component_at};
 ghost use Rattle.spec_judgement.specs.Judge.{tone_mixing, loglik_at, logliks, ranking_of, heard_of};
 ghost use Rattle.spec_judgement.specs.Judge.{part_mixing, target_mixing, llr_of, plain_of};
-ghost use Rattle.spec_judgement.specs.Judge.{distance_from, advice_of, slot_part, nearest_at, judged_of};
+ghost use Rattle.spec_judgement.specs.Judge.{distance_from, advice_of, nearest_at, judged_of};
+ghost use Rattle.tonekit_judge.specs.Terms.{slot_part};
 ghost use Rattle.spec_judgement.specs.Judge.{usable, not_measured, judgement_of};
 ghost use Rattle.tonekit_judge.specs.Terms.{Filled, cell, weighed_term, term_at, mixed_terms};
 
@@ -307,7 +308,6 @@ fn advice_of(x: ToneShape, s: Scoring, t: Tolerance, points: &[f32; 10], issues:
 
 // The place of a slot's component in its rule, where that is a mixture.
 // Stays: beside tonekit_expect's `part_number`; this takes a slot and has the definition `slot_part`, that a part's place.
-#[tactic(auto, unfolding(spec_judgement::specs::Judge::slot_part))]
 fn slot_part(name: Name, slot: usize) -> u8
     ensures { result ≡ slot_part name slot }
 {

@@ -1,5 +1,6 @@
 -- How large the logarithms of positive numbers can be. Assumes nothing.
 use Rattle.std.proofs.Common.{◌≡◌, ℕ, zero, suc, ◌+◌, ◌-◌, ◌*◌, ◌^◌, ◌<◌, ◌≤◌, Bool, true, false, cond, not, ◌&&◌, T, leb, pos, negsuc, sym, refl, ap, ◌∙◌, subst, ⊎_elim, le_of_eq, lt_of_lt_of_le, mul-le-mul_right, mul_assoc, mul_comm, add-mul, mul-pos, mul_left_comm, arith, lit<, leb→le, pow_pos, pow-add, Float}
+use Rattle.std.specs.Prelude.{from_bits}
 use lib.Dec.{nleb→lt}
 use lib.Ieee.{nan, inf, fin, binary64, size, round, neg, sum, add, sub, mul, div, lt, le, eq, of_int, of_bits, fits, minus}
 use lib.Ieee.Digits.{size-lt, size-le, size_reaches}
@@ -18,10 +19,17 @@ use Rattle.tonekit_float.proofs.Size.{within_lit, in_within}
 use Rattle.tonekit_float.proofs.Patterns.{units_in, units_pos, units_lt}
 use Rattle.tonekit_float.proofs.Signs as signs
 use Rattle.spec_arithmetic.specs.declared.Parts.{Parts}
-use Rattle.spec_arithmetic.specs.Constants.{LN2, LOG2E, ROOT2, half, one64, two}
+use Rattle.spec_arithmetic.specs.Constants.{LN2, LOG2E, half, one64}
 use Rattle.spec_arithmetic.specs.Log.{recip, log_horner, series, parts_of, centred, log_by}
 use Rattle.tonekit_log.proofs.Powers.{minus_is, from_above}
 use Rattle.tonekit_log.proofs.LogCases.{number_is, ln_at, log2_at}
+
+-- 1.4142135623730951, and 2
+abbrev pub ROOT2 : Float
+ROOT2 = from_bits binary64 0x3FF6_A09E_667F_3BCD
+
+abbrev pub two : Float
+two = from_bits binary64 0x4000_0000_0000_0000
 
 at_itself : (x : Float) → T (finite x) → In x x x
 at_itself x f = record { low = le_refl_finite x f; high = le_refl_finite x f }

@@ -9,7 +9,7 @@ use Rattle.tonekit_bytes.proofs.Agreeing.{Agree, taken_agrees, four, float}
 use Rattle.spec_pack.specs.Ranges.{slot_fine, knots_fine, region_fine, tolerances_fine}
 use Rattle.tonekit_pack.proofs.SlotTurn.{slot_turn}
 use Rattle.spec_arithmetic.specs.Places.{number_at}
-use Rattle.spec_pack.specs.Pack.{PackRead, size_of, holds, zero_or_held, last_rule, settings_verdict, tone_verdict, accent_verdict, rule_verdict, part_verdict, body_verdict, due_after, record_verdict, added, start, pack_reader, read_pack, load_pack}
+use Rattle.spec_pack.specs.Pack.{PackRead, size_of, holds, zero_or_held, settings_verdict, tone_verdict, accent_verdict, rule_verdict, part_verdict, body_verdict, due_after, record_verdict, added, pack_reader, read_pack, load_pack}
 use Rattle.tonekit_core.proofs.Split.{split}
 use Rattle.tonekit_pack.proofs.Each.{each_snoc}
 use Rattle.tonekit_pack.proofs.Records.{Due, due_is, settings, tone, accent, rule, part, finish, sound, tone_room, accent_room, rule_room, part_room}
@@ -81,7 +81,7 @@ module _ (n : ℕ) (t s : List ℕ) (a : Agree n t s) (at : ℕ) (st : PackRead)
   seen : (os : List ℕ) → ((i : ℕ) → i < length os → get_or os i 0 + 7 ≤ at) → (i : ℕ) → i < length os → get_or os i 0 + 7 ≤ n
   seen os h i l = omega (arith, h i l)
 
-  last_seen : last_rule st + 7 ≤ n
+  last_seen : get_or st.rules (length st.rules - 1) 0 + 7 ≤ n
   last_seen =
       split (eqb (length st.rules) 0)
       (λ e. let z : length st.rules ≡ 0 = eqb-true (length st.rules) 0 e in
@@ -100,7 +100,7 @@ module _ (n : ℕ) (t s : List ℕ) (a : Agree n t s) (at : ℕ) (st : PackRead)
   body_same (rule l u) =
       rw (a.bytes (at + 5) (omega arith), a.bytes (at + 6) (omega arith), a.bytes (at + 3) (omega arith), a.bytes (at + 4) (omega arith), zero_or_same n t s a st.tones (byte_at s (at + 3)) (seen st.tones p.tones), zero_or_same n t s a st.tones (byte_at s (at + 4)) (seen st.tones p.tones))
   body_same (part l u) =
-      rw (four n t s a (at + 1) (omega arith), a.bytes (at + 5) (omega arith), knots_same n t s a (at + 6) (byte_at s (at + 5)) (omega arith), a.bytes (last_rule st + 6) (omega (arith, last_seen)))
+      rw (four n t s a (at + 1) (omega arith), a.bytes (at + 5) (omega arith), knots_same n t s a (at + 6) (byte_at s (at + 5)) (omega arith), a.bytes (get_or st.rules (length st.rules - 1) 0 + 6) (omega (arith, last_seen)))
   body_same (finish l u) = refl
 
   room_for : {k : ℕ} → Due st.last k → at + size_of k ≤ n
@@ -120,7 +120,7 @@ module _ (n : ℕ) (t s : List ℕ) (a : Agree n t s) (at : ℕ) (st : PackRead)
       rw (a.ends at (omega arith), a.bytes at (omega arith), a.cuts (at + size_of (byte_at s at)) (room_for q), body_same q))
       (λ d. rw (a.ends at (omega arith), a.bytes at (omega arith), d))
 
-low_start : Low 0 start.st
+low_start : Low 0 pack_reader.start.st
 low_start = record {
   near = record { first = λ q. refl; early = λ q. omega arith; near = omega arith };
   few_tones = omega arith;

@@ -5,7 +5,7 @@ use Rattle.spec_arithmetic.specs.Fields.{byte_at}
 use Rattle.tonekit_pack.specs.declared.Pack.{Pack}
 use Rattle.spec_arithmetic.specs.Files.{Out, loaded, singly, said}
 use Rattle.tonekit_bytes.proofs.Files as files
-use Rattle.spec_pack.specs.Pack.{PackRead, size_of, added, record_verdict, start, pack_reader, read_pack, load_pack, check_pack}
+use Rattle.spec_pack.specs.Pack.{PackRead, size_of, added, record_verdict, pack_reader, read_pack, load_pack, check_pack}
 use Rattle.tonekit_pack.specs.Held.{shown, answered}
 use Rattle.tonekit_core.proofs.Split.{split}
 use Rattle.tonekit_pack.specs.Going.{Near, Going}
@@ -56,7 +56,7 @@ module _ (s : List ℕ) (st : Pack) (at : ℕ) (g : Going s st at) where
     }
 
 -- before the first record
-pub begins : (s : List ℕ) (p : Pack) → shown p ≡ start.st → Going s p 0
+pub begins : (s : List ℕ) (p : Pack) → shown p ≡ pack_reader.start.st → Going s p 0
 begins s p e = record {
   near = rw e (record { first = λ q. refl; early = λ q. omega arith; near = omega arith });
   onward = files.begins pack_reader refl s (shown p) e;

@@ -5,7 +5,7 @@ use Rattle.std.specs.Prelude.{Ok}
 use Rattle.spec_arithmetic.specs.Fields.{byte_at}
 use Rattle.spec_arithmetic.specs.Places.{number_at}
 use Rattle.tonekit_bytes.proofs.Files.{not_fine, fine}
-use Rattle.spec_pack.specs.Pack.{PackRead, due_after, size_of, holds, zero_or_held, in_turn, tone_crowded, tone_fine, tone_verdict, accent_fine, accent_verdict, rule_fine, rule_held, rule_verdict, single, part_crowded, part_fine, part_verdict, body_verdict, record_verdict}
+use Rattle.spec_pack.specs.Pack.{PackRead, due_after, size_of, holds, zero_or_held, in_turn, tone_fine, tone_verdict, accent_fine, accent_verdict, rule_fine, rule_held, rule_verdict, single, part_fine, part_verdict, body_verdict, record_verdict}
 use Rattle.tonekit_core.proofs.Split.{split, absurd_bool, either, neither}
 
 -- which kind is due
@@ -61,6 +61,13 @@ passed false true false d h = not_fine Doubled h
 passed false true true false h = not_fine Loose h
 passed false true true true h = record { room = refl; ranges = refl; once = refl; there = refl }
 
+-- no room for a tone, for a part
+abbrev tone_crowded : List ℕ → ℕ → PackRead → Bool
+tone_crowded s o st = leb 8 (length st.tones) || ltb 10 (byte_at s (o + 6))
+
+abbrev part_crowded : List ℕ → ℕ → PackRead → Bool
+part_crowded s o st = leb 4 st.parts || (leb 128 st.total || ((single s st && leb 1 st.parts) || ltb 10 (byte_at s (o + 5))))
+
 module _ (s : List ℕ) (at : ℕ) (st : PackRead) where
   pub record Sound : Type 0 where
     pub inside : at < length s
@@ -79,9 +86,9 @@ module _ (s : List ℕ) (at : ℕ) (st : PackRead) where
   tone_passed h = passed (tone_crowded s at st) (tone_fine s at) (not (holds s st.tones (number_at s at))) true h
 
   pub accent_passed : body_verdict 3 s at st ≡ Ok tt
-      → Passed (leb 8 (length st.accents)) (accent_fine s at) (not (holds s st.accents (number_at s at))) (zero_or_held s st.accents (byte_at s (at + 2)))
+      → Passed (leb 8 (length st.accents)) (accent_fine 3 s at) (not (holds s st.accents (number_at s at))) (zero_or_held s st.accents (byte_at s (at + 2)))
   unfolding body_verdict accent_verdict
-  accent_passed h = passed (leb 8 (length st.accents)) (accent_fine s at) (not (holds s st.accents (number_at s at))) (zero_or_held s st.accents (byte_at s (at + 2))) h
+  accent_passed h = passed (leb 8 (length st.accents)) (accent_fine 3 s at) (not (holds s st.accents (number_at s at))) (zero_or_held s st.accents (byte_at s (at + 2))) h
 
   pub rule_passed : body_verdict 4 s at st ≡ Ok tt → Passed (leb 64 (length st.rules)) (rule_fine s at) true (rule_held s at st)
   unfolding body_verdict rule_verdict

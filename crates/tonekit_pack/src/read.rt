@@ -3,7 +3,7 @@ ghost use Rattle.std.specs.Prelude.{◌≡◌, ◌+◌, ◌<◌, ◌≤◌, eqb,
 ghost use Rattle.tonekit_core.specs.declared.layout.TheConstants.{TONE_SIZE, ACCENT_SIZE, PART_SIZE, TONE_KIND, ACCENT_KIND, RULE_KIND, PART_KIND, END_KIND};
 ghost use Rattle.spec_arithmetic.specs.Fields.{byte_at};
 ghost use Rattle.tonekit_pack.specs.Kinds.{number, last_of};
-ghost use Rattle.spec_pack.specs.Pack.{due_after, size_of, holds, zero_or_held, in_turn, settings_verdict, tone_verdict, accent_verdict, rule_verdict, single, part_verdict, body_verdict, record_verdict, added, start, read_pack};
+ghost use Rattle.spec_pack.specs.Pack.{due_after, size_of, holds, zero_or_held, in_turn, settings_verdict, tone_verdict, accent_verdict, rule_verdict, single, part_verdict, body_verdict, record_verdict, added, read_pack, pack_reader};
 ghost use Rattle.tonekit_pack.specs.Held.{shown, answered};
 ghost use Rattle.tonekit_pack.specs.Going.{Going, judges, refuses};
 
@@ -66,7 +66,7 @@ impl Pack {
     // Before the first record.
     #[tactic(auto, unfolding(tonekit_bytes::specs::Places::in_order))]
     pub fn nothing() -> Pack
-        ensures read { shown result ≡ start.st }
+        ensures read { shown result ≡ pack_reader.start.st }
         ensures tones { result.tones.at ≡ replicate 8 0 }
         ensures accents { (result.accents.at ≡ replicate 8 0) × (result.firstrule ≡ replicate 8 0) }
         ensures rules { result.rules.at ≡ replicate 64 0 }

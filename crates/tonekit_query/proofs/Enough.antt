@@ -8,9 +8,10 @@ use Rattle.tonekit_core.proofs.LoopLaws.{range_same}
 use Rattle.spec_arithmetic.specs.Fields.{u16_at}
 use Rattle.tonekit_bytes.proofs.Agreeing.{Agree, taken_agrees, two, four, float}
 use Rattle.spec_query.specs.declared.Query.{Query}
-use Rattle.spec_query.specs.Query.{variant_fine, variants_fine, record_verdict, frame_verdict, fields_of, after_frame, frame_turn, read_frames, after_record, read_query, single, load_query, end_of}
+use Rattle.spec_query.specs.Query.{variant_fine, variants_fine, record_verdict, frame_verdict, fields_of, after_frame, after_record, read_query, single, load_query, end_of}
 use Rattle.tonekit_query.proofs.VariantTurn.{variant_turn}
 use Rattle.tonekit_query.proofs.Laws.{read_holds, fixed}
+use Rattle.tonekit_query.specs.Parts.{frame_turn, read_frames}
 
 -- two inputs whose first 10,287 bytes are the same
 module _ (n : ℕ) (t s : List ℕ) (a : Agree n t s) (room : 10287 ≤ n) where

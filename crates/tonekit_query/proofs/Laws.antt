@@ -9,7 +9,8 @@ use Rattle.std.specs.Prelude.{Result, Ok, Err}
 use Rattle.spec_arithmetic.specs.Fields.{byte_at, u16_at}
 use Rattle.tonekit_bytes.proofs.Files.{not_fine, fine}
 use Rattle.spec_query.specs.declared.Query.{Query}
-use Rattle.spec_query.specs.Query.{variants_fine, record_verdict, frame_verdict, fields_of, after_frame, frame_turn, after_record, read_query, single, load_query, end_of, frames_of}
+use Rattle.spec_query.specs.Query.{variants_fine, record_verdict, frame_verdict, fields_of, after_frame, after_record, read_query, single, load_query, end_of, frames_of}
+use Rattle.tonekit_query.specs.Parts.{frame_turn}
 
 no_query : (e : Rejection) (q : Query) → Err e ≡ Ok q → ⊥
 no_query r q e = cc

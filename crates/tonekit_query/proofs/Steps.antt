@@ -8,7 +8,8 @@ use Rattle.spec_query.specs.declared.Query.{Query}
 use Rattle.spec_query.specs.declared.Voiced.{Voiced}
 use Rattle.std.specs.Prelude.{is_some, Ok, Err, Some, None}
 use Rattle.spec_query.specs.Query.{end_of, read_query, load_query}
-use Rattle.spec_query.specs.Frames.{frame_at, voiced_at}
+use Rattle.spec_query.specs.Frames.{frame_at}
+use Rattle.tonekit_query.specs.Parts.{voiced_at}
 
 -- whether a frame is voiced, by its flag and hz
 voiced_way : (b : Bool) (hz p : Float) → is_some {T = Voiced} (cond b (Some (record { hz = hz; voiced_p = p })) None) ≡ b

@@ -6,8 +6,9 @@ ghost use Rattle.std.specs.Float.{binary32};
 ghost use Rattle.std.specs.Float.Ieee.{of_bits};
 ghost use Rattle.tonekit_core.specs.declared.layout.TheConstants.{FRAME_SIZE, FRAME_HZ, FRAME_VOICED_P};
 ghost use Rattle.spec_arithmetic.specs.Fields.{u32_at, f32_at};
-ghost use Rattle.spec_query.specs.Query.{variant_fine, variants_fine, record_verdict, frame_verdict, fields_of, read_frames, read_query, load_query, check_query, end_of, frames_of, variant_tone, variant_weight};
-ghost use Rattle.spec_query.specs.Frames.{pitch, voiced_at, frame_at};
+ghost use Rattle.spec_query.specs.Query.{variant_fine, variants_fine, record_verdict, frame_verdict, fields_of, read_query, load_query, check_query, end_of, frames_of, variant_tone, variant_weight};
+ghost use Rattle.spec_query.specs.Frames.{pitch, frame_at};
+ghost use Rattle.tonekit_query.specs.Parts.{read_frames, voiced_at};
 
 pub use spec_query::{Query, Voiced};
 use tonekit_bytes::{byte_at, f32_at, u16_at, u32_at, u32_in};

@@ -8,7 +8,8 @@ use Rattle.spec_arithmetic.specs.Fields.{le16, f32_bytes, f32s_bytes}
 use Rattle.tonekit_bytes.proofs.Write.{more, f32s_length}
 use Rattle.spec_judgement.specs.declared.Delta.{Delta}
 use Rattle.spec_judgement.specs.declared.Deltas.{Deltas}
-use Rattle.spec_judgement.specs.Record.{kind_of, amount_of, nearest_bytes, score_bytes, one_bytes, delta_bytes, judgement_bytes}
+use Rattle.spec_judgement.specs.Record.{nearest_bytes, score_bytes, one_bytes, delta_bytes, judgement_bytes}
+use Rattle.tonekit_record.specs.Fields.{kind_of, amount_of}
 use Rattle.spec_judgement.specs.declared.ToneJudgement.{ToneJudgement}
 
 -- kind, expected, tone count; measured, issues

@@ -5,7 +5,8 @@ ghost use Rattle.std.specs.Prelude.{◌≡◌, ◌+◌, ◌≤◌, [], ◌∷◌
 ghost use Rattle.std.proofs.lemmas.List.Edits.{sets};
 ghost use Rattle.tonekit_core.specs.declared.layout.TheConstants.{JUDGEMENT_KIND, JUDGEMENT_LLR, JUDGEMENT_DISTANCED, JUDGEMENT_DELTA_COUNT, JUDGEMENT_MEASURED, DELTA_SIZE};
 ghost use Rattle.spec_arithmetic.specs.Fields.{le16};
-ghost use Rattle.spec_judgement.specs.Record.{kind_of, amount_of, delta_count, flag_of, no_nearest, nearest_bytes, score_bytes, one_bytes, delta_bytes, judgement_bytes};
+ghost use Rattle.spec_judgement.specs.Record.{flag_of, no_nearest, nearest_bytes, score_bytes, one_bytes, delta_bytes, judgement_bytes};
+ghost use Rattle.tonekit_record.specs.Fields.{kind_of, amount_of, delta_count};
 ghost use Rattle.tonekit_core.specs.Words.{measured_number};
 
 pub use spec_judgement::{Delta, Deltas, Nearest, ToneJudgement};
@@ -23,7 +24,6 @@ const NO_NEAREST: Nearest = Nearest {
 };
 
 // The number of a delta's kind, 0 where there is none.
-#[tactic(auto, unfolding(spec_judgement::specs::Record::kind_of))]
 fn kind_of(d: Option<Delta>) -> u8
     ensures { result ≡ kind_of d }
 {
@@ -34,7 +34,6 @@ fn kind_of(d: Option<Delta>) -> u8
 }
 
 // A delta's amount, 0 where there is none.
-#[tactic(auto, unfolding(spec_judgement::specs::Record::amount_of))]
 fn amount_of(d: Option<Delta>) -> f32
     ensures { result ≡ amount_of d }
 {
@@ -45,7 +44,6 @@ fn amount_of(d: Option<Delta>) -> f32
 }
 
 // How many deltas there are.
-#[tactic(auto, unfolding(spec_judgement::specs::Record::delta_count))]
 fn delta_count(ds: Deltas) -> u8
     ensures { result ≡ delta_count ds }
 {

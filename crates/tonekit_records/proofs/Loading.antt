@@ -8,7 +8,7 @@ use Rattle.tonekit_core.specs.declared.Refusal.TheVariants.{Misplaced, CutShort}
 use Rattle.std.specs.Prelude.{Ok}
 use Rattle.spec_arithmetic.specs.Fields.{byte_at}
 use Rattle.spec_arithmetic.specs.Files.{Out, loaded, refused}
-use Rattle.spec_pack.specs.Pack.{PackRead, due_after, size_of, record_verdict, added, start, pack_reader, read_pack}
+use Rattle.spec_pack.specs.Pack.{PackRead, due_after, size_of, record_verdict, added, pack_reader, read_pack}
 use Rattle.tonekit_core.proofs.Split.{split}
 use Rattle.tonekit_bytes.proofs.Files.{not_fine, by_verdict, run, run_refused, run_end, run_on, not_loaded, no_turns}
 use Rattle.tonekit_pack.proofs.Records.{sound, size_pos}
@@ -64,13 +64,13 @@ module _ (s : List ℕ) (d : Out PackRead) (tail : List ℕ) where
 
 -- records that read, with End behind them, are a pack
 pub reads_load : {u : Tally} {rs : List (List ℕ)} (tail : List ℕ) → ReadsOn no_tally rs u → due_after u.last 6 ≡ true
-    → read_pack (records_bytes rs ++ (6 ∷ tail)) ≡ loaded (added_all start.st 0 rs) (length (records_bytes rs) + 1)
+    → read_pack (records_bytes rs ++ (6 ∷ tail)) ≡ loaded (added_all pack_reader.start.st 0 rs) (length (records_bytes rs) + 1)
 reads_load {u} {rs} tail x due =
     let s = records_bytes rs ++ (6 ∷ tail) in
     let d = refused CutShort 0 in
     let n = length s + length rs + 1 in
     let z : 0 + length (records_bytes rs) + 1 ≡ length (records_bytes rs) + 1 = omega arith in
-    sym (limit_idle s d n (omega arith)) ∙ run_reads s d tail x n 0 start.st (tally_start s) refl (omega arith) (omega arith) due ∙ ap (loaded (added_all start.st 0 rs)) z
+    sym (limit_idle s d n (omega arith)) ∙ run_reads s d tail x n 0 pack_reader.start.st (tally_start s) refl (omega arith) (omega arith) due ∙ ap (loaded (added_all pack_reader.start.st 0 rs)) z
 
 -- ---- and back
 -- from an offset on, and from the state and the tally there, s is records that read, and End, which ends at e; then the reader has read what fin says
@@ -155,12 +155,12 @@ load_from (suc f) s r place at st t fin e o l h =
     (load_from f s r place (at + length rec) (added (kind rec) at st) (tallied rec t) fin e (tally_next s at st rec t g w o was-due no) g.fits goes)))
     (λ q v. not_loaded q at e fin (sym (run_refused pack_reader s (refused r place) (suc f) at st (omega arith) q v) ∙ h))
 
-pub load_reads : (s : List ℕ) (st : PackRead) (e : ℕ) → read_pack s ≡ loaded st e → AsRecords s 0 start.st no_tally st e
+pub load_reads : (s : List ℕ) (st : PackRead) (e : ℕ) → read_pack s ≡ loaded st e → AsRecords s 0 pack_reader.start.st no_tally st e
 unfolding read_pack
-load_reads s st e h = load_from (length s + 1) s CutShort (length s) 0 start.st no_tally st e (tally_start s) (omega arith) h
+load_reads s st e h = load_from (length s + 1) s CutShort (length s) 0 pack_reader.start.st no_tally st e (tally_start s) (omega arith) h
 
 -- ---- both
-pub loads_exactly : (s : List ℕ) (st : PackRead) (e : ℕ) → (read_pack s ≡ loaded st e) ↔ AsRecords s 0 start.st no_tally st e
+pub loads_exactly : (s : List ℕ) (st : PackRead) (e : ℕ) → (read_pack s ≡ loaded st e) ↔ AsRecords s 0 pack_reader.start.st no_tally st e
 loads_exactly s st e = (
   load_reads s st e,
   λ x. let z : length (records_bytes x.records) + 1 ≡ e = omega (arith, x.end) in

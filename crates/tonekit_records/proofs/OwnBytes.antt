@@ -58,7 +58,7 @@ module _ (s : List ℕ) (at : ℕ) (r : List ℕ) (h : Stands s at r) where
         region_same (at + 47) 47 refl (omega arith),
       )
 
-  pub accent_same : length r ≡ size_of 3 → accent_fine s at ≡ accent_fine r 0
+  pub accent_same : length r ≡ size_of 3 → accent_fine 3 s at ≡ accent_fine 3 r 0
   unfolding size_of
   accent_same n = rw (byte_same (at + 1) 1 refl (omega arith), tolerances_same (at + 3) 3 refl (omega arith))
 

@@ -1,13 +1,13 @@
 -- The reader's verdict on a record is the one from its own bytes and the tally (`verdict_same`), and the tally goes along with the reader's state
 -- (`tally_next`). Assumes nothing.
-use Rattle.std.proofs.Common.{ℕ, ◌+◌, ◌-◌, ◌≤◌, ◌<◌, ◌≡◌, refl, sym, ◌∙◌, ap, ap₂, Bool, true, false, not, ◌&&◌, ◌||◌, List, [], ◌∷◌, ◌++◌, map, arith, eqb, leb, ltb, le-ltb, length, length-append}
+use Rattle.std.proofs.Common.{ℕ, ◌+◌, ◌-◌, ◌≤◌, ◌<◌, ◌≡◌, refl, sym, ◌∙◌, ap, ap₂, Bool, true, false, not, ◌&&◌, ◌||◌, List, [], ◌∷◌, ◌++◌, map, arith, eqb, leb, ltb, le-ltb, length, length-append, get_or}
 use mathlib.Core.List.{map-append}
 use borrow.Author.Tests.{lt-leb}
 use lib.ListN.{length-map}
 use lib.Seq.{get_or_at}
 use Rattle.spec_arithmetic.specs.Fields.{byte_at}
 use Rattle.spec_arithmetic.specs.Places.{number_at}
-use Rattle.spec_pack.specs.Pack.{PackRead, in_turn, due_after, size_of, holds, zero_or_held, last_rule, tone_verdict, accent_verdict, rule_verdict, part_verdict, body_verdict, record_verdict, part_fine, added, start}
+use Rattle.spec_pack.specs.Pack.{PackRead, in_turn, due_after, size_of, holds, zero_or_held, tone_verdict, accent_verdict, rule_verdict, part_verdict, body_verdict, record_verdict, part_fine, added, pack_reader}
 use Rattle.tonekit_core.proofs.Split.{split}
 use Rattle.tonekit_pack.proofs.Records.{Due, due_is, settings, tone, accent, rule, part, finish}
 use Rattle.tonekit_records.specs.Records.{Tally, no_tally, among, zero_or_among, kind, tone_verdict_of, accent_verdict_of, rule_verdict_of, last_single, part_verdict_of, body_verdict_of, record_verdict_of, tallied}
@@ -21,11 +21,11 @@ pub record TallyOf (s : List ℕ) (st : PackRead) (t : Tally) : Type 0 where
   pub accents : map (number_at s) st.accents ≡ t.accents
   pub rules : length st.rules ≡ t.rules
   pub some_rule : 4 ≤ st.last → 1 ≤ length st.rules
-  pub form : 1 ≤ length st.rules → byte_at s (last_rule st + 6) ≡ t.form
+  pub form : 1 ≤ length st.rules → byte_at s (get_or st.rules (length st.rules - 1) 0 + 6) ≡ t.form
   pub parts : st.parts ≡ t.parts
   pub total : st.total ≡ t.total
 
-pub tally_start : (s : List ℕ) → TallyOf s start.st no_tally
+pub tally_start : (s : List ℕ) → TallyOf s pack_reader.start.st no_tally
 tally_start s = record { last = refl; tones = refl; accents = refl; rules = refl; some_rule = λ l. absurd (omega arith); form = λ l. absurd (omega arith); parts = refl; total = refl }
 
 -- ---- the verdict

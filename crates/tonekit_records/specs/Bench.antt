@@ -7,7 +7,7 @@ use Rattle.tonekit_core.specs.declared.Refusal.TheVariants.{Misplaced, Crowded, 
 use Rattle.tonekit_core.specs.declared.Refusal.{Refusal}
 use Rattle.spec_pack.specs.Ranges.{above_zero, probability_fine, knot_fine, weight_fine, slot_fine, knots_fine, region_fine, tolerances_fine}
 use Rattle.spec_arithmetic.specs.Files.{loaded}
-use Rattle.spec_pack.specs.Pack.{PackRead, due_after, size_of, holds, zero_or_held, settings_verdict, tone_verdict, accent_verdict, rule_verdict, part_verdict, body_verdict, record_verdict, added, start, read_pack}
+use Rattle.spec_pack.specs.Pack.{PackRead, due_after, size_of, holds, zero_or_held, settings_verdict, tone_verdict, accent_verdict, rule_verdict, part_verdict, body_verdict, record_verdict, added, read_pack, pack_reader}
 use Rattle.tonekit_records.specs.Records.{Tally, no_tally, among, zero_or_among, body_verdict_of, record_verdict_of, tallied, ReadsOn, none, more, records_bytes, added_all}
 
 -- ---- the records of a small pack
@@ -97,7 +97,7 @@ reads =
 abbrev kept : PackRead
 kept = record { last = 5; tones = 9 ∷ []; accents = 65 ∷ []; firsts = 0 ∷ []; rules = 84 ∷ []; parts = 2; total = 2 }
 
-offsets : added_all start.st 0 records ≡ kept
+offsets : added_all pack_reader.start.st 0 records ≡ kept
 unfolding added_all added
 offsets = refl
 

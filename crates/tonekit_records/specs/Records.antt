@@ -41,7 +41,7 @@ abbrev pub tone_verdict_of : List ℕ → Tally → Result Unit Refusal
 tone_verdict_of r t = in_turn (leb 8 (length t.tones) || ltb 10 (byte_at r TONE_KNOT_COUNT)) (tone_fine r 0) (not (among t.tones (number_at r 0))) true
 
 abbrev pub accent_verdict_of : List ℕ → Tally → Result Unit Refusal
-accent_verdict_of r t = in_turn (leb 8 (length t.accents)) (accent_fine r 0) (not (among t.accents (number_at r 0))) (zero_or_among t.accents (byte_at r ACCENT_PARENT))
+accent_verdict_of r t = in_turn (leb 8 (length t.accents)) (accent_fine 3 r 0) (not (among t.accents (number_at r 0))) (zero_or_among t.accents (byte_at r ACCENT_PARENT))
 
 abbrev pub rule_verdict_of : List ℕ → Tally → Result Unit Refusal
 rule_verdict_of r t = in_turn (leb 64 t.rules) (rule_fine r 0) true (zero_or_among t.tones (byte_at r RULE_TONE) && zero_or_among t.tones (byte_at r RULE_PREV))

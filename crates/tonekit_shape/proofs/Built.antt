@@ -7,10 +7,12 @@ use Rattle.spec_arithmetic.specs.Narrow.{narrowed}
 use Rattle.spec_shape.specs.Turning.{turning_point}
 use Rattle.spec_shape.specs.Range.{range_in}
 use Rattle.spec_shape.specs.Fit.{line_slope, quadratic_coefficient}
-use Rattle.spec_shape.specs.Window.{contour_at, weight_at}
+use Rattle.spec_shape.specs.Window.{weight_at}
+use Rattle.tonekit_window.specs.Promises.{contour_at}
 use Rattle.spec_shape.specs.declared.Extent.{Extent}
 use Rattle.spec_shape.specs.declared.ToneShape.{ToneShape}
-use Rattle.spec_shape.specs.Extract.{frames_in, list_of, drawn, smoothed, whole32, mean_of, confidence, shape_of}
+use Rattle.spec_shape.specs.Extract.{frames_in, list_of, drawn, whole32, mean_of, confidence, shape_of}
+use Rattle.tonekit_shape.specs.Promises.{smoothed}
 
 pub built : (frames : List ℕ) (e : Extent) (start end : ℕ) (floor ceil : Float) {chao contour weights : List Float} {mean s slope q curvature range voiced span conf : Float} {turn turning : Option Float}
     → chao ≡ drawn frames e.first (frames_in e) floor ceil

@@ -7,7 +7,8 @@ use Rattle.spec_shape.specs.declared.ToneShape.{ToneShape}
 use mir.Val.{bool_byte}
 use Rattle.std.specs.Prelude.{Option, Some, None}
 use Rattle.std.specs.Option.{is_some}
-use Rattle.spec_shape.specs.Record.{united, span_bytes, fit_bytes, measure_bytes, shape_bytes}
+use Rattle.spec_shape.specs.Record.{united, fit_bytes, measure_bytes, shape_bytes}
+use Rattle.tonekit_shape.specs.Promises.{span_bytes}
 
 -- stores from index 0 on that are as many as the list replace all of it
 pub whole : (l bs : List ℕ) → length l ≡ length bs → sets l 0 bs ≡ bs

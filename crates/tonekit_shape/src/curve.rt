@@ -2,7 +2,8 @@
 // filled between voiced ones, Chao values, and the 3-frame mean for the turning point.
 ghost use Rattle.std.specs.Prelude.{◌≡◌, ◌≤◌, ◌<◌, length, map};
 ghost use Rattle.spec_shape.specs.Chao.{width_of, st_to_chao};
-ghost use Rattle.spec_shape.specs.Extract.{list_of, gap_filled, holes_filled, mean_with, smoothed};
+ghost use Rattle.spec_shape.specs.Extract.{list_of, gap_filled, holes_filled, mean_with};
+ghost use Rattle.tonekit_shape.specs.Promises.{smoothed};
 ghost use Rattle.tonekit_shape.specs.Promises.{semitone};
 
 use tonekit_fit::Frames;

@@ -5,8 +5,10 @@ ghost use Rattle.std.specs.Prelude.{◌≡◌, ℕ, ◌+◌, ◌-◌, ◌≤◌,
 ghost use Rattle.spec_shape.specs.Turning.{turning_point};
 ghost use Rattle.tonekit_core.specs.Calls.{Delivers};
 ghost use Rattle.spec_shape.specs.Record.{united, shaped, shape_outcome};
-ghost use Rattle.spec_shape.specs.Window.{contour_at, weight_at};
-ghost use Rattle.spec_shape.specs.Extract.{extent_of, list_of, mean_of, confidence, whole32, frames_in, drawn, smoothed, shape_of};
+ghost use Rattle.spec_shape.specs.Window.{weight_at};
+ghost use Rattle.tonekit_window.specs.Promises.{contour_at};
+ghost use Rattle.spec_shape.specs.Extract.{extent_of, list_of, mean_of, confidence, whole32, frames_in, drawn, shape_of};
+ghost use Rattle.tonekit_shape.specs.Promises.{smoothed};
 ghost use Rattle.tonekit_shape.specs.Promises.{extent_turn, confidence_added, Lists, Extended, Voiced3};
 
 mod curve;

@@ -2,7 +2,8 @@
 ghost use Rattle.std.specs.Prelude.{◌≡◌};
 ghost use Rattle.std.proofs.lemmas.List.Edits.{sets};
 ghost use Rattle.tonekit_core.specs.declared.layout.TheConstants.{SHAPE_MEAN, SHAPE_RANGE};
-ghost use Rattle.spec_shape.specs.Record.{span_bytes, fit_bytes, measure_bytes, shape_bytes};
+ghost use Rattle.spec_shape.specs.Record.{fit_bytes, measure_bytes, shape_bytes};
+ghost use Rattle.tonekit_shape.specs.Promises.{span_bytes};
 
 use crate::{ToneShape, united};
 use tonekit_core::layout::{self, SHAPE_SIZE};

@@ -1,7 +1,8 @@
 -- The bytes of components: how long they are, and one component more. Assumes nothing.
-use Rattle.std.proofs.Common.{ℕ, ◌+◌, ◌*◌, ◌≡◌, refl, sym, ◌∙◌, ap, List, [], ◌∷◌, ◌++◌, append_assoc, append-nil, arith, length}
+use Rattle.std.proofs.Common.{ℕ, ◌*◌, ◌≡◌, refl, sym, ◌∙◌, ap, List, [], ◌∷◌, ◌++◌, append_assoc, append-nil, arith, length}
 use Rattle.spec_lookup.specs.Source.{Carried}
-use Rattle.spec_sheet.specs.Sheet.{bits_bytes, component_bytes, components_bytes}
+use Rattle.spec_sheet.specs.Sheet.{bits_bytes, components_bytes}
+use Rattle.tonekit_sheet.specs.Parts.{component_bytes}
 
 pub bits_length : (xs : List ℕ) → length (bits_bytes xs) ≡ 4 * length xs
 unfolding bits_bytes

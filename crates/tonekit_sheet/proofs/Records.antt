@@ -6,15 +6,15 @@ use mathlib.Core.List.{List}
 use native.Mathlib.Omega.{arith}
 use lib.ListN.{length}
 use lib.Dec.{eqb, leb, ltb}
-use borrow.Author.Tests.{eqb-true, eqb-false, leb-false, ltb-true, ltb-false, not-true}
+use borrow.Author.Tests.{eqb-true, leb-false, ltb-true, ltb-false, not-true}
 use Rattle.std.specs.Prelude.{Ok}
 use Rattle.spec_arithmetic.specs.Fields.{byte_at}
 use Rattle.spec_arithmetic.specs.Places.{number_at}
-use Rattle.spec_pack.specs.Pack.{holds}
+use Rattle.spec_pack.specs.Pack.{holds, accent_fine}
 use Rattle.tonekit_core.proofs.Split.{split, either, neither, both, not_zero}
 use Rattle.tonekit_pack.proofs.Records.{Passed, passed}
 use Rattle.tonekit_bytes.proofs.Files.{fine}
-use Rattle.spec_sheet.specs.Reader.{Sst, rows_due, complete, due_next, size_of, tone_fine, tone_verdict, accent_fine, accent_verdict, list_crowded, list_fine, list_verdict, component_fine, component_verdict, body_verdict, record_verdict}
+use Rattle.spec_sheet.specs.Reader.{Sst, rows_due, complete, due_next, size_of, tone_fine, tone_verdict, accent_verdict, list_crowded, list_fine, list_verdict, component_fine, component_verdict, body_verdict, record_verdict}
 
 -- a list or the end is due: after the last row, or after the last component of a list
 pub data Complete (st : Sst) : Type 0 where
@@ -97,9 +97,9 @@ module _ (s : List ℕ) (at : ℕ) (st : Sst) where
   unfolding body_verdict tone_verdict
   tone_passed h = passed (leb 8 (length st.tones)) (tone_fine s at) (not (holds s st.tones (number_at s at))) true h
 
-  pub accent_passed : body_verdict 19 s at st ≡ Ok tt → Passed (leb 8 (length st.accents)) (accent_fine s at) (not (holds s st.accents (number_at s at))) true
+  pub accent_passed : body_verdict 19 s at st ≡ Ok tt → Passed (leb 8 (length st.accents)) (accent_fine 2 s at) (not (holds s st.accents (number_at s at))) true
   unfolding body_verdict accent_verdict
-  accent_passed h = passed (leb 8 (length st.accents)) (accent_fine s at) (not (holds s st.accents (number_at s at))) true h
+  accent_passed h = passed (leb 8 (length st.accents)) (accent_fine 2 s at) (not (holds s st.accents (number_at s at))) true h
 
   pub list_passed : body_verdict 21 s at st ≡ Ok tt → Passed (list_crowded s at st) (list_fine s at) true (holds s st.accents (byte_at s (at + 2)))
   unfolding body_verdict list_verdict

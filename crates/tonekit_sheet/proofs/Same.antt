@@ -8,17 +8,18 @@ use lib.ListN.{length}
 use borrow.Author.Tests.{eq-eqb, eqb-true}
 use Rattle.tonekit_core.proofs.Split.{split, absurd_bool, both}
 use Rattle.spec_lookup.specs.Source.{Carried}
-use Rattle.spec_sheet.specs.Number.{same_numbers, same_carried, same, seen_in, place_in}
+use Rattle.spec_sheet.specs.Number.{same_carried, same, seen_in, place_in, same_by}
+use Rattle.tonekit_sheet.specs.Parts.{same_numbers}
 
 numbers_is : (xs ys : List ℕ) → same_numbers xs ys ≡ true → xs ≡ ys
-unfolding same_numbers
+unfolding same_by
 numbers_is [] [] h = refl
 numbers_is [] (y ∷ ys) h = absurd_bool h
 numbers_is (x ∷ xs) [] h = absurd_bool h
 numbers_is (x ∷ xs) (y ∷ ys) h = let b = both (eqb x y) (same_numbers xs ys) h in ap₂ ◌∷◌ (eqb-true x y b.0) (numbers_is xs ys b.1)
 
 numbers_refl : (xs : List ℕ) → same_numbers xs xs ≡ true
-unfolding same_numbers
+unfolding same_by
 numbers_refl [] = refl
 numbers_refl (x ∷ xs) = rw (eq-eqb x x refl) (numbers_refl xs)
 
@@ -46,14 +47,14 @@ carried_refl a =
     (numbers_refl a.points)
 
 pub same_is : (a b : List Carried) → same a b ≡ true → a ≡ b
-unfolding same
+unfolding same_by
 same_is [] [] h = refl
 same_is [] (y ∷ ys) h = absurd_bool h
 same_is (x ∷ xs) [] h = absurd_bool h
 same_is (x ∷ xs) (y ∷ ys) h = let b = both (same_carried x y) (same xs ys) h in ap₂ ◌∷◌ (carried_is x y b.0) (same_is xs ys b.1)
 
 pub same_refl : (a : List Carried) → same a a ≡ true
-unfolding same
+unfolding same_by
 same_refl [] = refl
 same_refl (x ∷ xs) = rw (carried_refl x) (same_refl xs)
 

@@ -6,13 +6,13 @@ use Rattle.tonekit_core.specs.declared.Refusal.TheVariants.{Loose, Unordered}
 use Rattle.spec_arithmetic.specs.Files.{Out, loaded}
 use Rattle.tonekit_bytes.proofs.Files as files
 use Rattle.tonekit_bytes.proofs.Files.{Steady, run, not_loaded, same_loaded, single}
-use Rattle.spec_sheet.specs.Reader.{Sst, finished, loose_row, accent_down, row_wrong, list_wrong, refused_at, start, sheet_reader, read_sheet, load_sheet}
+use Rattle.spec_sheet.specs.Reader.{Sst, finished, loose_row, accent_down, row_wrong, list_wrong, refused_at, sheet_reader, read_sheet, load_sheet}
 use Rattle.tonekit_sheet.proofs.Records.{sound, size_pos}
 
 pub steady : Steady sheet_reader
 steady = record { some = size_pos; whole = λ s at st v. (sound s at st v).whole }
 
-pub limit_idle : (s : List ℕ) (d : Out Sst) (n : ℕ) → length s < n → run sheet_reader s d n 0 start.st ≡ read_sheet s
+pub limit_idle : (s : List ℕ) (d : Out Sst) (n : ℕ) → length s < n → run sheet_reader s d n 0 sheet_reader.start.st ≡ read_sheet s
 unfolding read_sheet
 limit_idle s d n h = files.limit_idle sheet_reader steady refl s d n h
 

@@ -1,15 +1,15 @@
 -- Parts of spec_sheet's definitions under names of their own, for contracts and proofs: the turns of the loops that read and plan a sheet, the
 -- pieces of which one is written, and the place of a row. There they are written out.
-use Rattle.std.specs.Prelude.{ℕ, ◌+◌, ◌*◌, max, Bool, true, false, cond, not, ◌&&◌, ◌||◌, List, [], eqb, ltb, length, get_or, Option, Some}
+use Rattle.std.specs.Prelude.{ℕ, ◌+◌, ◌*◌, max, Bool, true, false, cond, not, ◌&&◌, ◌||◌, List, [], ◌∷◌, ◌++◌, eqb, ltb, length, get_or, Option, Some}
 use Rattle.tonekit_core.specs.Loop.{Turn, next, stop}
-use Rattle.tonekit_core.specs.declared.layout.TheConstants.{F32_SIZE, SHEET_ROW_ACCENT, SHEET_ROW_TONE, SHEET_ROW_PREV, SHEET_ROW_LIST, SHEET_ROW_FINAL_LIST}
-use Rattle.spec_arithmetic.specs.Fields.{byte_at, f32_at}
+use Rattle.tonekit_core.specs.declared.layout.TheConstants.{F32_SIZE, SHEET_ROW_ACCENT, SHEET_ROW_TONE, SHEET_ROW_PREV, SHEET_ROW_LIST, SHEET_ROW_FINAL_LIST, SHEET_COMPONENT_KIND}
+use Rattle.spec_arithmetic.specs.Fields.{byte_at, f32_at, le32}
 use Rattle.spec_arithmetic.specs.Places.{number_at}
 use Rattle.spec_pack.specs.Pack.{holds, zero_or_held}
 use Rattle.spec_lookup.specs.Source.{Carried}
 use Rattle.spec_lookup.specs.declared.Context.{Context}
-use Rattle.spec_sheet.specs.Number.{noted, number_in}
-use Rattle.spec_sheet.specs.Sheet.{View, no_tone, no_accent, row_context, tone_bytes, accent_bytes, row_bytes, list_bytes, lists_of, bytes_with}
+use Rattle.spec_sheet.specs.Number.{same_by, noted, number_in}
+use Rattle.spec_sheet.specs.Sheet.{View, no_tone, no_accent, row_context, tone_bytes, accent_bytes, row_bytes, bits_bytes, list_bytes, lists_of, bytes_with}
 use Rattle.spec_sheet.specs.Reader.{Sst, point_fine, row_at, row_due, row_names, named, same_lists, repeated}
 
 abbrev pub point_turn : List ℕ → ℕ → ℕ → Bool → Bool
@@ -73,6 +73,12 @@ row_piece v lists r = row_bytes (row_context v.tones v.accents r false) (number_
 
 abbrev pub list_piece : List (List Carried) → ℕ → List ℕ
 list_piece lists i = list_bytes (i + 1) (get_or lists i [])
+
+abbrev pub component_bytes : Carried → List ℕ
+component_bytes c = (SHEET_COMPONENT_KIND ∷ []) ++ (le32 c.weight ++ bits_bytes c.points)
+
+abbrev pub same_numbers : List ℕ → List ℕ → Bool
+same_numbers xs ys = same_by eqb xs ys
 
 abbrev pub bytes_of : View → List ℕ
 bytes_of v = bytes_with v (lists_of v)

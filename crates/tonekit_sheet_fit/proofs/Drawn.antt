@@ -11,7 +11,7 @@ use Rattle.tonekit_pack.proofs.Loads.{Loads, firsts_ascend, firsts_bound}
 use Rattle.std.specs.Prelude.{Some, None}
 use Rattle.spec_lookup.specs.declared.Context.{Context}
 use Rattle.spec_lookup.specs.declared.Listing.{Listing}
-use Rattle.spec_lookup.specs.Lookup.{from_rule, to_rule, find_rule, rule_listing, citation, listed, look_at, look_up}
+use Rattle.spec_lookup.specs.Lookup.{to_rule, find_rule, rule_listing, citation, listed, look_at, look_up}
 use Rattle.tonekit_expect.specs.Pieces.{won}
 use Rattle.spec_lookup.specs.Source.{Carried, components}
 use Rattle.tonekit_expect.proofs.Curves.{rules_in}
@@ -22,7 +22,7 @@ module _ (s : List ℕ) (st : PackRead) (c : Context) where
   -- rule k, at r, stands behind accent a
   pub record Behind (a r : ℕ) : Type 0 where
     pub place : ℕ
-    pub from : from_rule st a ≤ place
+    pub from : get_or st.firsts a 0 ≤ place
     pub to : place < to_rule st a
     pub at : get_or st.rules place 0 ≡ r
 
@@ -33,7 +33,7 @@ module _ (s : List ℕ) (st : PackRead) (c : Context) where
 -- the last of the first n accents before which no more rules stood than k
 unfoldable pub accent_of : PackRead → ℕ → ℕ → ℕ
 accent_of st zero k = 0
-accent_of st (suc n) k = cond (leb (from_rule st n) k) n (accent_of st n k)
+accent_of st (suc n) k = cond (leb (get_or st.firsts n 0) k) n (accent_of st n k)
 
 -- the listing of rule k, and that of accent i's citation of tone t
 abbrev pub rule_of : List ℕ → PackRead → ℕ → Listing
@@ -53,21 +53,21 @@ pub data Drawn (s : List ℕ) (st : PackRead) (m : Listing) : Type 0 where
 
 module _ (s : List ℕ) (st : PackRead) (e : ℕ) (l : Loads s st e) where
   -- an accent behind it has more rules before it
-  later : (a m k : ℕ) → a < m → m < length st.accents → k < to_rule st a → k < from_rule st m
+  later : (a m k : ℕ) → a < m → m < length st.accents → k < to_rule st a → k < get_or st.firsts m 0
   later a m k h b t =
-      let q : k < from_rule st (a + 1) = rw (lt-ltb (a + 1) (length st.accents) (omega arith)) at t in
+      let q : k < get_or st.firsts (a + 1) 0 = rw (lt-ltb (a + 1) (length st.accents) (omega arith)) at t in
       split (eqb (a + 1) m)
       (λ x. let y : a + 1 ≡ m = eqb-true (a + 1) m x in rw y at q)
       (λ x. omega (arith, firsts_ascend s st e l (a + 1) m (omega (arith, eqb-false (a + 1) m x)) b))
 
-  accent_is : (n a k : ℕ) → a < n → n ≤ length st.accents → from_rule st a ≤ k → k < to_rule st a → accent_of st n k ≡ a
+  accent_is : (n a k : ℕ) → a < n → n ≤ length st.accents → get_or st.firsts a 0 ≤ k → k < to_rule st a → accent_of st n k ≡ a
   unfolding accent_of
   accent_is zero a k h b f t = absurd (omega arith)
   accent_is (suc n) a k h b f t =
       split (eqb n a)
-      (λ x. let y : n ≡ a = eqb-true n a x in rw (y, le-leb (from_rule st a) k f))
+      (λ x. let y : n ≡ a = eqb-true n a x in rw (y, le-leb (get_or st.firsts a 0) k f))
       (λ x. let y : a < n = omega (arith, eqb-false n a x) in
-      rw (lt-leb (from_rule st n) k (later a n k y (omega arith) t)) (accent_is n a k y (omega arith) f t))
+      rw (lt-leb (get_or st.firsts n 0) k (later a n k y (omega arith) t)) (accent_is n a k y (omega arith) f t))
 
   module _ (c : Context) (m : Listing) where
     of_winner : (i t : ℕ) → i < length st.accents → number_at s (get_or st.accents i 0) ≡ c.accent → t < length st.tones → (w : Option Winner) → find_rule s st c i ≡ w

@@ -12,9 +12,9 @@ use Rattle.spec_lookup.specs.Lookup.{component_of}
 use Rattle.spec_lookup.specs.Source.{Accent, Carried, accent_in, carried, components, tone_at, accent_at, source_of_pack}
 use Rattle.spec_sheet.specs.Pieces.{pieces, gather}
 use Rattle.tonekit_sheet.proofs.Gather.{gather_length}
-use Rattle.spec_sheet.specs.Sheet.{or_skip, asc_from, ascending, View, rows_of, view_of, lists_of, bits_bytes, component_bytes, components_bytes, bytes_with, sheet}
+use Rattle.spec_sheet.specs.Sheet.{or_skip, asc_from, ascending, View, rows_of, view_of, lists_of, bits_bytes, components_bytes, bytes_with, sheet}
 use Rattle.tonekit_sheet.proofs.Components.{component_length, components_snoc}
-use Rattle.tonekit_sheet.specs.Parts.{bytes_of, tone_piece, accent_piece, row_piece, list_piece}
+use Rattle.tonekit_sheet.specs.Parts.{bytes_of, tone_piece, accent_piece, row_piece, list_piece, component_bytes}
 use Rattle.tonekit_sheet_fit.specs.Room.{Suffices}
 use Rattle.tonekit_sheet_fit.proofs.Budget.{sum_scaled, weigh}
 use Rattle.tonekit_expect.proofs.Carried.{carried_ten}

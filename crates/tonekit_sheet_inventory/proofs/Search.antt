@@ -7,7 +7,8 @@ use Rattle.spec_lookup.specs.Source.{accent_in, accent_at}
 use Rattle.std.specs.Prelude.{Some, None}
 use Rattle.spec_judgement.specs.declared.Tolerance.{Tolerance}
 use Rattle.tonekit_inventory.specs.Fields.{tolerance_at}
-use Rattle.spec_judgement.specs.Gather.{tolerance_of, graded_of}
+use Rattle.spec_judgement.specs.Gather.{graded_of}
+use Rattle.tonekit_inventory.specs.Fields.{tolerance_of}
 use Rattle.tonekit_inventory.proofs.Search.{accent_found, accent_none}
 use Rattle.spec_sheet.specs.FromSheet.{source_of_sheet}
 use Rattle.tonekit_sheet_read.specs.declared.Sheet.{Sheet}

@@ -6,7 +6,8 @@ use Rattle.std.specs.Prelude.{Some}
 use Rattle.spec_judgement.specs.declared.Slot.{Slot}
 use Rattle.spec_arithmetic.specs.Fields.{byte_at, f32_at}
 use Rattle.spec_judgement.specs.declared.Slots.{Slots}
-use Rattle.spec_judgement.specs.Gather.{f32, named_of, slot_of, put_in}
+use Rattle.spec_judgement.specs.Gather.{f32, named_of, put_in}
+use Rattle.tonekit_inventory.specs.Fields.{slot_of}
 use Rattle.tonekit_inventory.proofs.Going.{first_named}
 use Rattle.tonekit_inventory.proofs.Slots.{run_none, run_more}
 use Rattle.spec_sheet.specs.FromSheet.{bits_at, carried_at, carried_from}

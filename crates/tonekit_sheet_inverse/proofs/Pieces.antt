@@ -8,13 +8,14 @@ use Rattle.tonekit_core.proofs.Split.{split}
 use Rattle.spec_lookup.specs.Source.{Carried, settings_at, tone_at, accent_at}
 use Rattle.spec_lookup.specs.declared.Context.{Context}
 use Rattle.spec_sheet.specs.Agree.{Bytes}
-use Rattle.spec_sheet.specs.Sheet.{settings_bytes, tone_bytes, accent_bytes, row_bytes, bits_bytes, component_bytes, components_bytes, no_carried, list_bytes}
+use Rattle.spec_sheet.specs.Sheet.{settings_bytes, tone_bytes, accent_bytes, row_bytes, bits_bytes, components_bytes, no_carried, list_bytes}
 use Rattle.spec_sheet.specs.Reader.{list_size, same_lists}
 use Rattle.spec_sheet.specs.FromSheet.{bits_at, carried_at, carried_from}
 use Rattle.tonekit_sheet.proofs.Components.{components_snoc}
 use Rattle.tonekit_sheet_inverse.proofs.Spans.{Spans, none_spans, one_spans, joined, half_spans, word_spans}
 use Rattle.tonekit_sheet_laws.proofs.Loops.{range_all}
 use Rattle.tonekit_sheet_inverse.proofs.Kept.{PartThere}
+use Rattle.tonekit_sheet.specs.Parts.{component_bytes}
 
 -- ---- lists of components
 module _ (s : List ℕ) (o : ℕ) where

@@ -4,10 +4,10 @@ use borrow.Author.Tests.{lt-leb}
 use Rattle.spec_pack.specs.Ranges.{tolerances_fine}
 use Rattle.spec_arithmetic.specs.Places.{number_at}
 use Rattle.spec_arithmetic.specs.Files.{Out}
-use Rattle.spec_pack.specs.Pack.{holds}
+use Rattle.spec_pack.specs.Pack.{holds, accent_fine}
 use Rattle.spec_lookup.specs.Source.{Accent, Source}
 use Rattle.spec_sheet.specs.Sheet.{View, no_accent, lists_of}
-use Rattle.spec_sheet.specs.Reader.{Sst, size_of, due_next, accent_fine, accent_verdict, body_verdict, added}
+use Rattle.spec_sheet.specs.Reader.{Sst, size_of, due_next, accent_verdict, body_verdict, added}
 use Rattle.tonekit_sheet.specs.Fit.{AccentFit}
 use Rattle.tonekit_sheet_laws.proofs.Place.{up_to, accent_at, read_to, last_of}
 use Rattle.tonekit_sheet_laws.proofs.Placed.{up_to_length, holds_none}
@@ -25,7 +25,7 @@ tolerances_there s o a w f =
     let r : o + 2 + 12 ≡ o + 14 = omega arith in
     rw (p, q, r, w.contour, w.onset, w.offset, w.turning, f.contour, f.onset, f.offset, f.turning)
 
-accent_fine_lem : (s : List ℕ) (o : ℕ) (a : Accent) → AccentThere s o a → AccentFit a → accent_fine s o ≡ true
+accent_fine_lem : (s : List ℕ) (o : ℕ) (a : Accent) → AccentThere s o a → AccentFit a → accent_fine 2 s o ≡ true
 accent_fine_lem s o a w f = rw (w.number, ne_eqb a.number 0 (λ e. omega (arith, f.least))) (tolerances_there s o a w f)
 
 module _ (s : List ℕ) (d : Out Sst) (src : Source) (v : View) (fit : ViewFit src v) (laid : Laid s v (lists_of v)) where
@@ -59,7 +59,7 @@ module _ (s : List ℕ) (d : Out Sst) (src : Source) (v : View) (fit : ViewFit s
         whole = w.whole;
         due = due_accent i;
         body =
-            all_pass (leb 8 (length (up_to (accent_at v) i))) (accent_fine s (accent_at v i)) (not (holds s (up_to (accent_at v) i) (number_at s (accent_at v i)))) true
+            all_pass (leb 8 (length (up_to (accent_at v) i))) (accent_fine 2 s (accent_at v i)) (not (holds s (up_to (accent_at v) i) (number_at s (accent_at v i)))) true
             (lt-leb 8 (length (up_to (accent_at v) i)) (omega (arith, up_to_length (accent_at v) i, fit.few_accents)))
             (accent_fine_lem s (accent_at v i) (get_or v.accents i no_accent) w (fit.accents i h)) (accent_new i h) refl;
       }

@@ -1,5 +1,5 @@
 -- The rows of a sheet ask only contexts that are held: held accent, held tone, prev a held tone or 0. Assumes nothing.
-use Rattle.std.proofs.Common.{ℕ, zero, suc, ◌≤◌, ◌<◌, ◌≡◌, refl, ◌⊎◌, inl, inr, Bool, true, List, [], ◌∷◌, arith, eqb, length, get_or, eq-eqb, eqb-true}
+use Rattle.std.proofs.Common.{ℕ, zero, suc, ◌≤◌, ◌<◌, ◌≡◌, refl, ◌⊎◌, inl, inr, Bool, true, List, [], ◌∷◌, arith, eqb, length, get_or, eqb-true}
 use Rattle.tonekit_core.proofs.Split.{split, absurd_bool}
 use Rattle.spec_lookup.specs.Source.{Tone, Source, tone_in}
 use Rattle.spec_sheet.specs.Sheet.{no_tone, no_accent, row_count, accent_place, tone_place, prev_place, prev_number, row_context, ascending, view_of, rows_of}

@@ -9,7 +9,7 @@ use Rattle.spec_pack.specs.Pack.{holds}
 use Rattle.tonekit_core.proofs.Split.{split}
 use Rattle.spec_lookup.specs.Source.{Carried, Source}
 use Rattle.spec_sheet.specs.Sheet.{View, no_carried, rows_of, lists_of}
-use Rattle.spec_sheet.specs.Reader.{Sst, size_of, complete, due_next, list_crowded, list_fine, list_verdict, point_fine, points_fine, last_list, component_fine, component_verdict, body_verdict, added}
+use Rattle.spec_sheet.specs.Reader.{Sst, size_of, complete, due_next, list_crowded, list_fine, list_verdict, point_fine, points_fine, component_fine, component_verdict, body_verdict, added}
 use Rattle.tonekit_sheet.specs.Fit.{Bits, f32, ListFit}
 use Rattle.tonekit_sheet_laws.proofs.Place.{up_to, components_before, accent_at, list_at, read_to, last_of}
 use Rattle.tonekit_sheet_laws.proofs.Loops.{range_all}
@@ -123,7 +123,7 @@ module _ (s : List ℕ) (d : Out Sst) (src : Source) (v : View) (fit : ViewFit s
       one_to d (list_at v lists i + 7 + 45 * 0) (within i 0) (head_pass i h) (λ e. omega arith) (omega arith) (rw ((list_head i h).count, n, t))
 
   -- ---- its components
-  last_list_lem : (i j : ℕ) → last_list (within i j) ≡ list_at v lists i
+  last_list_lem : (i j : ℕ) → get_or (within i j).lists (length (within i j).lists - 1) 0 ≡ list_at v lists i
   last_list_lem i j =
       let e : length (up_to (list_at v lists) (suc i)) - 1 ≡ i = omega (arith, up_to_length (list_at v lists) (suc i)) in
       rw e (up_to_get (list_at v lists) (suc i) i (omega arith))

@@ -1,12 +1,12 @@
 -- What is seen and where, and what one more lookup adds to the lists. Assumes nothing.
-use Rattle.std.proofs.Common.{ℕ, zero, suc, ◌+◌, ◌≤◌, ◌<◌, max, ◌≡◌, refl, sym, ap, ◌∙◌, ◌↔◌, true, false, List, [], ◌∷◌, ◌++◌, append_assoc, append-nil, arith, ltb, length, get_or, length-append, ltb-true, ltb-false}
+use Rattle.std.proofs.Common.{ℕ, zero, suc, ◌+◌, ◌≤◌, ◌<◌, max, ◌≡◌, refl, sym, ap, ◌∙◌, true, false, List, [], ◌∷◌, ◌++◌, append_assoc, append-nil, arith, ltb, length, get_or, length-append, ltb-true, ltb-false}
 use mathlib.Core.Option.{Option, none, some}
 use lib.ListN.{get_or-append}
 use lib.Seq.{get_or-append_seam}
 use Rattle.tonekit_core.proofs.Split.{split, absurd_bool}
 use Rattle.spec_lookup.specs.Source.{Carried}
-use Rattle.spec_sheet.specs.Number.{same_carried, same, seen_in, place_in, noted, number_in}
-use Rattle.tonekit_sheet.proofs.Same.{carried_is, carried_refl, same_is, same_refl, seen_more, place_more, seen_last, place_last}
+use Rattle.spec_sheet.specs.Number.{same, seen_in, place_in, noted, number_in}
+use Rattle.tonekit_sheet.proofs.Same.{same_is, same_refl, seen_more, place_more, seen_last, place_last}
 
 -- ---- seen, and where
 pub seen_here : (l : List (List Carried)) (i : ℕ) → i < length l → seen_in (get_or l i []) l ≡ true

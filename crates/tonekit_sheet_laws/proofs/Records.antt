@@ -1,14 +1,19 @@
 -- The fields of each record of a sheet, read from where its bytes stand. Assumes nothing.
 use Rattle.std.proofs.Common.{ℕ, zero, suc, ◌+◌, ◌*◌, ◌≤◌, ◌<◌, ◌≡◌, refl, ◌∙◌, List, [], ◌∷◌, ◌++◌, arith, length, get_or, length-append}
-use Rattle.spec_arithmetic.specs.Fields.{byte_at, u16_at, u32_at, le32}
+use Rattle.spec_arithmetic.specs.Fields.{byte_at, u16_at, u32_at, le16, le32}
 use Rattle.spec_arithmetic.specs.Places.{number_at}
 use Rattle.spec_lookup.specs.Source.{Settings, Tone, Accent, Carried}
 use Rattle.spec_lookup.specs.declared.Context.{Context}
-use Rattle.spec_sheet.specs.Sheet.{settings_bytes, tone_bytes, accent_bytes, row_bytes, bits_bytes, component_bytes, components_bytes, no_carried, head_bytes, list_bytes}
+use Rattle.spec_sheet.specs.Sheet.{settings_bytes, tone_bytes, accent_bytes, row_bytes, bits_bytes, components_bytes, no_carried, list_bytes}
 use Rattle.tonekit_sheet.specs.Fit.{Bits}
-use Rattle.tonekit_sheet.proofs.Components.{bits_length, component_length}
+use Rattle.tonekit_sheet.proofs.Components.{component_length}
 use Rattle.tonekit_bytes.proofs.Back.{le16_back, le32_back}
 use Rattle.tonekit_bytes.proofs.Stands.{Stands, field16, field32, kind, stands_first, stands_then}
+use Rattle.tonekit_sheet.specs.Parts.{component_bytes}
+
+-- a list's head
+abbrev pub head_bytes : ℕ → Carried → ℕ → List ℕ
+head_bytes n c count = (21 ∷ n ∷ c.owner ∷ c.form ∷ []) ++ (le16 c.label ++ (count ∷ []))
 
 module _ (s : List ℕ) (o : ℕ) where
   pub record SettingsThere (x : Settings) : Type 0 where

@@ -4,7 +4,7 @@ use Rattle.tonekit_core.specs.declared.Refusal.TheVariants.{CutShort}
 use Rattle.spec_lookup.specs.Source.{Carried, Source}
 use Rattle.spec_sheet.specs.Sheet.{View, view_of, rows_of, lists_of, sheet}
 use Rattle.spec_arithmetic.specs.Files.{Out, loaded, refused}
-use Rattle.spec_sheet.specs.Reader.{Sst, size_of, due_next, body_verdict, start, read_sheet, load_sheet, check_sheet}
+use Rattle.spec_sheet.specs.Reader.{Sst, size_of, due_next, body_verdict, read_sheet, load_sheet, check_sheet, sheet_reader}
 use Rattle.tonekit_sheet.specs.Fit.{Fit}
 use Rattle.tonekit_sheet_laws.proofs.Place.{components_before, tone_at, accent_at, row_at, list_at, read_to, last_of, st_of_view, st_of}
 use Rattle.tonekit_bytes.proofs.Stands.{kind}
@@ -40,7 +40,7 @@ module _ (s : List ℕ) (src : Source) (v : View) (fit : ViewFit src v) (laid : 
       let t = length v.tones in
       mul-pos {m = length v.accents} {n = t * (t + 1)} fit.some_accents (mul-pos {m = t} {n = t + 1} fit.some_tones (omega arith))
 
-  through : Reach s d 0 start.st end at_end
+  through : Reach s d 0 sheet_reader.start.st end at_end
   through =
       let t = length v.tones in
       let a = length v.accents in

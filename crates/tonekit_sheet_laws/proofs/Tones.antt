@@ -7,7 +7,7 @@ use Rattle.spec_arithmetic.specs.Files.{Out}
 use Rattle.spec_pack.specs.Pack.{holds, settings_verdict}
 use Rattle.spec_lookup.specs.Source.{Tone, Source}
 use Rattle.spec_sheet.specs.Sheet.{View, no_tone, lists_of}
-use Rattle.spec_sheet.specs.Reader.{Sst, size_of, due_next, tone_fine, tone_verdict, body_verdict, added, start}
+use Rattle.spec_sheet.specs.Reader.{Sst, size_of, due_next, tone_fine, tone_verdict, body_verdict, added, sheet_reader}
 use Rattle.tonekit_sheet.specs.Fit.{ToneFit, region_fits}
 use Rattle.tonekit_sheet_laws.proofs.Place.{up_to, tone_at, read_to, last_of}
 use Rattle.tonekit_sheet_laws.proofs.Placed.{up_to_length, holds_none}
@@ -41,7 +41,7 @@ module _ (s : List ℕ) (d : Out Sst) (src : Source) (v : View) (fit : ViewFit s
   abbrev after : ℕ → Sst
   after i = read_to v (lists_of v) (last_of 17 18 i) i 0 0 0 0 0
 
-  settings_pass : Passes s 0 start.st 17 9
+  settings_pass : Passes s 0 sheet_reader.start.st 17 9
   unfolding size_of due_next body_verdict settings_verdict
   settings_pass =
       let w = settings_read in
@@ -54,7 +54,7 @@ module _ (s : List ℕ) (d : Out Sst) (src : Source) (v : View) (fit : ViewFit s
         body = rw (w.temperature, w.threshold, fit.settings.temperature, fit.settings.threshold);
       }
 
-  settings_on : Reach s d 0 start.st 9 (after 0)
+  settings_on : Reach s d 0 sheet_reader.start.st 9 (after 0)
   unfolding added up_to
   settings_on = one_to d 9 (after 0) settings_pass (λ e. omega arith) refl refl
 
@@ -97,5 +97,5 @@ module _ (s : List ℕ) (d : Out Sst) (src : Source) (v : View) (fit : ViewFit s
   last_some (suc n) h = refl
 
   -- all of them
-  pub through_tones : Reach s d 0 start.st (tone_at (length v.tones)) (read_to v (lists_of v) 18 (length v.tones) 0 0 0 0 0)
+  pub through_tones : Reach s d 0 sheet_reader.start.st (tone_at (length v.tones)) (read_to v (lists_of v) 18 (length v.tones) 0 0 0 0 0)
   through_tones = then settings_on (rw (last_some (length v.tones) fit.some_tones) at (tones_on (length v.tones) (omega arith)))

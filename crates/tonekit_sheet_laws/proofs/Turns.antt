@@ -4,10 +4,11 @@ use borrow.Author.Tests.{lt-leb}
 use Rattle.tonekit_core.specs.Loop.{loop_stop}
 use Rattle.tonekit_core.proofs.LoopLaws.{loop_again}
 use Rattle.spec_arithmetic.specs.Fields.{byte_at}
-use Rattle.spec_arithmetic.specs.Files.{Out, record_turn}
+use Rattle.spec_arithmetic.specs.Files.{Out}
 use Rattle.tonekit_bytes.proofs.Files.{run}
 use Rattle.spec_pack.specs.Pack.{in_turn}
 use Rattle.spec_sheet.specs.Reader.{Sst, size_of, due_next, body_verdict, record_verdict, added, finished, sheet_reader}
+use Rattle.tonekit_bytes.specs.Onward.{record_turn}
 
 -- each test in turn passes
 pub all_pass : (crowded fine new held : Bool) → crowded ≡ false → fine ≡ true → new ≡ true → held ≡ true → in_turn crowded fine new held ≡ Ok tt

@@ -8,7 +8,8 @@ use Rattle.spec_lookup.specs.Knots.{first_points}
 use Rattle.spec_lookup.specs.Lookup.{component_of}
 use Rattle.spec_lookup.specs.Source.{Carried, carried, components}
 use Rattle.tonekit_expect.proofs.Carried.{named, part_number, components_length, component_ten}
-use Rattle.spec_sheet.specs.Number.{same_numbers, same_carried, same}
+use Rattle.spec_sheet.specs.Number.{same_carried, same, same_by}
+use Rattle.tonekit_sheet.specs.Parts.{same_numbers}
 
 -- ---- points
 abbrev pub bits : List Float → List ℕ
@@ -16,16 +17,16 @@ bits xs = map (to_bits binary32) xs
 
 module _ (x y : Float) (xs ys : List Float) where
   pub points_on : to_bits binary32 x ≡ to_bits binary32 y → same_numbers (bits xs) (bits ys) ≡ same_numbers (bits (x ∷ xs)) (bits (y ∷ ys))
-  unfolding same_numbers
+  unfolding same_by
   points_on e = rw (eq-eqb (to_bits binary32 x) (to_bits binary32 y) e)
 
   pub points_off : (to_bits binary32 x ≡ to_bits binary32 y → ⊥) → false ≡ same_numbers (bits (x ∷ xs)) (bits (y ∷ ys))
-  unfolding same_numbers
+  unfolding same_by
   points_off e = rw (ne_eqb (to_bits binary32 x) (to_bits binary32 y) e)
 
 -- where none is left
 pub points_done : (xs ys : List Float) → length xs ≡ 0 → length ys ≡ 0 → true ≡ same_numbers (bits xs) (bits ys)
-unfolding same_numbers
+unfolding same_by
 points_done [] [] e n = refl
 points_done [] (y ∷ ys) e n = absurd (omega arith)
 points_done (x ∷ xs) [] e n = absurd (omega arith)
@@ -77,7 +78,7 @@ module _ (s : List ℕ) (a : Listing) (r : List ℕ) (b : Listing) (j : ℕ) whe
 
 -- ---- lists
 same_snoc : (xs ys : List Carried) (x y : Carried) → length xs ≡ length ys → same (xs ++ (x ∷ [])) (ys ++ (y ∷ [])) ≡ (same xs ys && same_carried x y)
-unfolding same
+unfolding same_by
 same_snoc [] [] x y e = last (same_carried x y)
   where
     last : (b : Bool) → (b && true) ≡ b
@@ -89,7 +90,7 @@ same_snoc (u ∷ xs) (v ∷ ys) x y e =
     split (same_carried u v) (λ t. rw t (same_snoc xs ys x y (omega arith))) (λ t. rw t)
 
 unequal : (xs ys : List Carried) → (length xs ≡ length ys → ⊥) → same xs ys ≡ false
-unfolding same
+unfolding same_by
 unequal [] [] h = absurd (h refl)
 unequal [] (y ∷ ys) h = refl
 unequal (x ∷ xs) [] h = refl
@@ -109,7 +110,7 @@ module _ (s : List ℕ) (a : Listing) (r : List ℕ) (b : Listing) where
       sym (unequal (components s a a.count) (components r b b.count) (λ e. h (sym (components_length s a a.count) ∙ e ∙ components_length r b b.count)))
 
   pub first_none : same_first 0 ≡ true
-  unfolding components same
+  unfolding components same_by
   first_none = refl
 
   pub first_on : (n : ℕ) → same_first n ≡ true → same_carried (carried (component_of s a n)) (carried (component_of r b n)) ≡ true → same_first (n + 1) ≡ true

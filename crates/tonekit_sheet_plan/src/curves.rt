@@ -6,9 +6,10 @@ ghost use Rattle.tonekit_core.specs.Loop.{fold};
 ghost use Rattle.spec_lookup.specs.Lookup.{component_of};
 ghost use Rattle.spec_lookup.specs.Source.{carried};
 ghost use Rattle.tonekit_sheet.specs.Marks.{mixed};
-ghost use Rattle.spec_sheet.specs.Number.{same_numbers, same_carried, same};
+ghost use Rattle.spec_sheet.specs.Number.{same_carried, same};
 ghost use Rattle.tonekit_sheet_plan.specs.Listings.{carried_by, record_of, Kept};
 ghost use Rattle.tonekit_sheet_plan.specs.Marks.{component_mark, mark_of};
+ghost use Rattle.tonekit_sheet.specs.Parts.{same_numbers};
 
 use tonekit_core::layout;
 use tonekit_expect::{Component, Listing, component_at};

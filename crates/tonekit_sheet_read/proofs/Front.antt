@@ -11,7 +11,7 @@ use Rattle.tonekit_bytes.proofs.Files.{Alike, read_same, read_keeps, single_same
 use Rattle.tonekit_pack.proofs.Front.{region_same, tolerances_same, holds_same, zero_or_same}
 use Rattle.spec_sheet.specs.Sheet.{accent_place, tone_place, prev_place}
 use Rattle.spec_arithmetic.specs.Files.{loaded, said}
-use Rattle.spec_sheet.specs.Reader.{Sst, rows_due, due_next, size_of, tone_verdict, accent_verdict, row_verdict, list_verdict, point_fine, points_fine, last_list, component_verdict, body_verdict, record_verdict, added, row_at, loose_row, accent_down, prev_due, row_due, row_names, row_wrong, named, list_size, same_lists, repeated, list_wrong, finished, sheet_reader, read_sheet, load_sheet, check_sheet}
+use Rattle.spec_sheet.specs.Reader.{Sst, rows_due, due_next, size_of, tone_verdict, accent_verdict, row_verdict, list_verdict, point_fine, points_fine, component_verdict, body_verdict, record_verdict, added, row_at, loose_row, accent_down, prev_due, row_due, row_names, row_wrong, named, list_size, same_lists, repeated, list_wrong, finished, sheet_reader, read_sheet, load_sheet, check_sheet}
 use Rattle.tonekit_sheet.specs.Parts.{point_turn, loose_turn, accent_turn, row_turn, names_turn, same_turn, equal_turn, list_turn}
 use Rattle.tonekit_sheet.proofs.RowPlaces.{rows_few, some_tone, row_places}
 use Rattle.tonekit_sheet.proofs.Records.{Complete, Due, due_is, settings, tone, accent, row, list, component, finish, sound, closes}
@@ -42,7 +42,7 @@ module _ (n : ℕ) (t s : List ℕ) (a : Agree n t s) (at : ℕ) (st : Sst) (p :
   accents_seen : (i : ℕ) → i < length st.accents → get_or st.accents i 0 + 7 ≤ n
   accents_seen i l = omega (arith, p.accents_at i l, p.few_tones, p.few_accents)
 
-  last_seen : 1 ≤ length st.lists → last_list st + 7 ≤ at
+  last_seen : 1 ≤ length st.lists → get_or st.lists (length st.lists - 1) 0 + 7 ≤ at
   last_seen l = omega (arith, (p.latest l).extent)
 
   lists_seen : (i : ℕ) → i < length st.lists → get_or st.lists i 0 + 7 ≤ n
@@ -67,7 +67,7 @@ module _ (n : ℕ) (t s : List ℕ) (a : Agree n t s) (at : ℕ) (st : Sst) (p :
       rw (a.bytes (at + 1) (omega arith), a.bytes (at + 2) (omega arith), a.bytes (at + 3) (omega arith), two n t s a (at + 4) (omega arith), a.bytes (at + 6) (omega arith), holds_same n t s a st.accents (byte_at s (at + 2)) accents_seen)
   body_same (component d) =
       let q = last_seen (p.some_list (after_list at st p.placed d)) in
-      rw (four n t s a (at + 1) (omega arith), a.bytes (last_list st + 3) (omega arith), points_same n t s a (at + 5) (omega arith))
+      rw (four n t s a (at + 1) (omega arith), a.bytes (get_or st.lists (length st.lists - 1) 0 + 3) (omega arith), points_same n t s a (at + 5) (omega arith))
   body_same (finish c) = refl
 
   room_for : {k : ℕ} → Due st k → at + size_of k ≤ n

@@ -4,7 +4,7 @@ use lib.ListN.{get_or-append}
 use Rattle.spec_arithmetic.specs.Fields.{byte_at}
 use Rattle.tonekit_core.proofs.Split.{split}
 use Rattle.tonekit_core.proofs.Lists.{last_snoc}
-use Rattle.spec_sheet.specs.Reader.{Sst, size_of, last_list, body_verdict, added, start}
+use Rattle.spec_sheet.specs.Reader.{Sst, size_of, body_verdict, added, sheet_reader}
 use Rattle.tonekit_sheet.proofs.Every.{every_snoc}
 use Rattle.tonekit_sheet.proofs.Records.{Complete, rows_done, list_done, Due, settings, tone, accent, row, list, component, finish, tone_room, accent_room, list_room, list_some, component_room}
 use Rattle.tonekit_sheet_read.specs.Going.{Placed}
@@ -29,11 +29,11 @@ pub record Kept (s : List ℕ) (at : ℕ) (st : Sst) : Type 0 where
   pub few_lists : length st.lists ≤ 128
   pub some_list : 21 ≤ st.last → 1 ≤ length st.lists
   pub lists : (i : ℕ) → i + 1 < length st.lists → ListRead s (get_or st.lists i 0) 0 at
-  pub latest : 1 ≤ length st.lists → ListRead s (last_list st) st.due at
-  pub here : 1 ≤ length st.lists → at ≡ last_list st + 7 + 45 * (byte_at s (last_list st + 6) - st.due)
+  pub latest : 1 ≤ length st.lists → ListRead s (get_or st.lists (length st.lists - 1) 0) st.due at
+  pub here : 1 ≤ length st.lists → at ≡ get_or st.lists (length st.lists - 1) 0 + 7 + 45 * (byte_at s (get_or st.lists (length st.lists - 1) 0 + 6) - st.due)
   pub few_in_all : st.total ≤ 192
 
-pub kept_start : (s : List ℕ) → Kept s 0 start.st
+pub kept_start : (s : List ℕ) → Kept s 0 sheet_reader.start.st
 kept_start s = record {
   placed = placed_start;
   few_tones = omega arith;

@@ -7,7 +7,7 @@ use Rattle.tonekit_bytes.proofs.InOrder.{order_length}
 use Rattle.tonekit_bytes.proofs.Files as files
 use Rattle.tonekit_pack.proofs.Reading.{answer_alone, answer_told}
 use Rattle.tonekit_sheet.proofs.Turns.{steady}
-use Rattle.spec_sheet.specs.Reader.{Sst, rows_due, size_of, added, finished, body_verdict, record_verdict, start, sheet_reader, read_sheet, load_sheet, check_sheet}
+use Rattle.spec_sheet.specs.Reader.{Sst, rows_due, size_of, added, finished, body_verdict, record_verdict, sheet_reader, read_sheet, load_sheet, check_sheet}
 use Rattle.tonekit_sheet_read.specs.declared.Sheet.{Sheet}
 use Rattle.tonekit_sheet_read.specs.Held.{shown, answered, Follows}
 use Rattle.tonekit_sheet_read.specs.Going.{Placed, Going}
@@ -18,7 +18,7 @@ use Rattle.tonekit_bytes.proofs.Stepped.{stepped_length}
 use Rattle.tonekit_sheet_read.proofs.Rows.{due_few}
 use Rattle.tonekit_sheet.proofs.Records.{Complete, rows_done, list_done, Due, settings, tone, accent, row, list, component, finish, Sound, sound, tone_room, accent_room, list_room, component_room}
 
-pub placed_start : Placed 0 start.st
+pub placed_start : Placed 0 sheet_reader.start.st
 placed_start = record {
   first = λ q. refl;
   place = λ q. absurd (omega arith);
@@ -193,7 +193,7 @@ module _ (s : List ℕ) (st : Sheet) (at : ℕ) (g : Going s st at) where
     }
 
 -- before the first record
-pub begins : (s : List ℕ) (p : Sheet) → shown p ≡ start.st → Going s p 0
+pub begins : (s : List ℕ) (p : Sheet) → shown p ≡ sheet_reader.start.st → Going s p 0
 begins s p e = record { placed = rw e placed_start; onward = files.begins sheet_reader refl s (shown p) e }
 
 -- an input that is one sheet, and the check of it

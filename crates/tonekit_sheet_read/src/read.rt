@@ -4,7 +4,7 @@ ghost use Rattle.tonekit_core.specs.declared.layout.TheConstants.{SHEET_TONE_SIZ
 ghost use Rattle.spec_arithmetic.specs.Places.{index_of};
 ghost use Rattle.spec_pack.specs.Pack.{holds};
 ghost use Rattle.tonekit_sheet.specs.Kinds.{number};
-ghost use Rattle.spec_sheet.specs.Reader.{rows_due, complete, due_next, size_of, tone_verdict, accent_verdict, row_verdict, list_verdict, points_fine, component_verdict, body_verdict, added, start};
+ghost use Rattle.spec_sheet.specs.Reader.{rows_due, complete, due_next, size_of, tone_verdict, accent_verdict, row_verdict, list_verdict, points_fine, component_verdict, body_verdict, added, sheet_reader};
 ghost use Rattle.tonekit_sheet_read.specs.Held.{shown, Follows};
 
 use crate::{Sheet, SheetView};
@@ -31,7 +31,7 @@ impl Sheet {
     // Before the first record.
     #[tactic(auto, unfolding(tonekit_bytes::specs::Places::in_order, tonekit_bytes::specs::Places::stepped))]
     pub fn nothing() -> Sheet
-        ensures read { shown result ≡ start.st }
+        ensures read { shown result ≡ sheet_reader.start.st }
         ensures lists { result.lists.at ≡ replicate 128 0 }
     {
         Sheet {

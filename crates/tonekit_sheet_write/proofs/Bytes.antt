@@ -19,9 +19,9 @@ use Rattle.tonekit_expect.proofs.Carried.{named, components_length, components_a
 use Rattle.spec_sheet.specs.Pieces.{pieces, gather, Wrote}
 use Rattle.tonekit_sheet.proofs.Gather.{gather_length}
 use Rattle.spec_sheet.specs.Number.{number_in}
-use Rattle.spec_sheet.specs.Sheet.{no_carried, row_bytes, row_context, bits_bytes, component_bytes, components_bytes, list_bytes}
+use Rattle.spec_sheet.specs.Sheet.{no_carried, row_bytes, row_context, bits_bytes, components_bytes, list_bytes}
 use Rattle.tonekit_sheet.proofs.Components.{bits_length, components_snoc}
-use Rattle.tonekit_sheet.specs.Parts.{row_piece}
+use Rattle.tonekit_sheet.specs.Parts.{row_piece, component_bytes}
 use Rattle.tonekit_sheet_plan.specs.declared.Entry.{Entry}
 use Rattle.tonekit_sheet_plan.specs.Rows.{pack_view, tones_of, accents_at, Ordered}
 use Rattle.tonekit_sheet_plan.specs.Listings.{carried_by, Kept}

@@ -7,8 +7,8 @@ use Rattle.spec_arithmetic.specs.Fields.{le16}
 use Rattle.spec_lookup.specs.Lookup.{component_of}
 use Rattle.spec_lookup.specs.Source.{Carried, carried, settings_at, tone_at, accent_at}
 use Rattle.spec_lookup.specs.declared.Listing.{Listing}
-use Rattle.spec_sheet.specs.Sheet.{settings_bytes, tone_bytes, accent_bytes, component_bytes}
-use Rattle.tonekit_sheet.specs.Parts.{list_piece}
+use Rattle.spec_sheet.specs.Sheet.{settings_bytes, tone_bytes, accent_bytes}
+use Rattle.tonekit_sheet.specs.Parts.{list_piece, component_bytes}
 use Rattle.spec_sheet.specs.Pieces.{gather}
 
 -- what is lent has room for these bytes at a place

@@ -1,9 +1,10 @@
 // The records of a sheet, each written to the front of what is lent.
 ghost use Rattle.std.specs.Prelude.{◌≡◌, ◌≤◌, List, ℕ, length};
 ghost use Rattle.tonekit_core.specs.declared.layout.TheConstants.{SHEET_ROW_SIZE, SHEET_LIST_SIZE, SHEET_COMPONENT_SIZE};
-ghost use Rattle.spec_sheet.specs.Sheet.{row_bytes, component_bytes};
+ghost use Rattle.spec_sheet.specs.Sheet.{row_bytes};
 ghost use Rattle.spec_lookup.specs.Source.{carried};
 ghost use Rattle.tonekit_sheet_write.specs.Pieces.{Fronted, head_of, settings_made, tone_made, accent_made};
+ghost use Rattle.tonekit_sheet.specs.Parts.{component_bytes};
 
 use tonekit_bytes::{byte_at, put_f32, put_f32s, put_u8, put_u16, put_u32, u32_at};
 use tonekit_core::layout;

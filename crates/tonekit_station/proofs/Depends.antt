@@ -14,9 +14,11 @@ use Rattle.spec_lookup.specs.declared.Context.{Context}
 use Rattle.spec_shape.specs.Extract.{extent_of}
 use Rattle.spec_sheet.specs.Agree.{Held, Agree}
 use Rattle.spec_judgement.specs.Judge.{Listings}
-use Rattle.spec_judgement.specs.Gather.{Gathering, absent_tone, given_of, slotted, list_tone, listings, graded_of, tolerance_of, gathered}
+use Rattle.spec_judgement.specs.Gather.{Gathering, absent_tone, given_of, slotted, list_tone, listings, graded_of, gathered}
+use Rattle.tonekit_inventory.specs.Fields.{tolerance_of}
 use Rattle.tonekit_inventory.proofs.Going.{nothing_yet}
-use Rattle.spec_judgement.specs.Judgement.{context_of, query_verdict, judge_gathered, on_query, judgement}
+use Rattle.spec_judgement.specs.Judgement.{query_verdict, judge_gathered, on_query, judgement}
+use Rattle.tonekit_station.specs.Asks.{context_of}
 use Rattle.tonekit_expect.proofs.Held.{tone_found}
 
 -- nothing stood before, or a held tone

@@ -26,7 +26,8 @@ use Rattle.spec_judgement.specs.Target.{variants_good, targets_of}
 use Rattle.spec_judgement.specs.Gather.{Gathering, gathered}
 use Rattle.tonekit_inventory.specs.OfPack as of-pack
 use Rattle.tonekit_sheet_inventory.specs.Look as of-sheet
-use Rattle.spec_judgement.specs.Judgement.{context_of, tones_verdict, query_verdict, judge_gathered, judgement, on_pack, judge_outcome}
+use Rattle.spec_judgement.specs.Judgement.{tones_verdict, query_verdict, judge_gathered, judgement, on_pack, judge_outcome}
+use Rattle.tonekit_station.specs.Asks.{context_of}
 use Rattle.tonekit_station.specs.Held.{on_held}
 use Rattle.spec_sheet.specs.JudgeSheet.{on_sheet, judge_sheet_outcome}
 

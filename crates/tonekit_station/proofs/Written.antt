@@ -1,9 +1,11 @@
 -- What an outcome of a judgement holds where it is bytes: what holds of the record of every judgement. Assumes nothing.
 use Rattle.std.specs.Prelude.{Option, Some, None, Result, Ok, Err}
+use Rattle.std.specs.Option.{option_map_or}
 use Rattle.std.proofs.Common.{ℕ, List, length}
-use Rattle.tonekit_core.specs.Calls.{Outcome}
+use Rattle.tonekit_core.specs.Calls.{Outcome, refused, written}
 use Rattle.tonekit_core.proofs.Calls.{Writes}
 use Rattle.tonekit_core.specs.declared.Refusal.{Refusal}
+use Rattle.tonekit_core.specs.declared.Refusal.TheVariants.{UnknownTone}
 use Rattle.tonekit_core.specs.declared.Rejection.{Rejection}
 use Rattle.spec_query.specs.Query.{load_query, frames_of}
 use Rattle.spec_query.specs.declared.Query.{Query}
@@ -25,7 +27,8 @@ use Rattle.spec_judgement.specs.Record.{judgement_bytes}
 use Rattle.spec_judgement.specs.declared.Settings.{Settings}
 use Rattle.spec_judgement.specs.Target.{targets_of}
 use Rattle.spec_judgement.specs.Gather.{Gathering, gathered}
-use Rattle.spec_judgement.specs.Judgement.{context_of, query_verdict, recorded, unless, judge_gathered, on_query, judgement, on_pack, judge_outcome}
+use Rattle.spec_judgement.specs.Judgement.{query_verdict, unless, judge_gathered, on_query, judgement, on_pack, judge_outcome}
+use Rattle.tonekit_station.specs.Asks.{context_of}
 use Rattle.tonekit_station.specs.Held.{on_held}
 use Rattle.spec_sheet.specs.JudgeSheet.{on_sheet, judge_sheet_outcome}
 
@@ -34,6 +37,14 @@ abbrev pub Records : (List ℕ → Type 0) → Type 0
 Records P =
     (x : ToneShape) (settings : Settings) (t : Tolerance) (l : Listings) (g : Targets) (issues expected tones : ℕ)
     → P (judgement_bytes expected tones (judgement_of x settings t l g issues))
+
+-- 13 where a target is not held, or the record
+abbrev recorded : Gathering → Tolerance → Query → List ℕ → Extent → Option Targets → Outcome
+recorded g t q frames e o =
+    let x = shape_of frames e q.start q.end q.floor q.ceil in
+    option_map_or
+    (λ a. written (judgement_bytes q.tone (length g.listed.inventory.items) (judgement_of x g.settings t g.listed a (united q.issues x.frames))))
+    o (refused UnknownTone 0)
 
 module _ (P : List ℕ → Type 0) (records : Records P) where
   recorded_writes : (g : Gathering) (q : Query) (frames : List ℕ) (e : Extent) (t : Tolerance) (a : Option Targets) → Writes P (recorded g t q frames e a)

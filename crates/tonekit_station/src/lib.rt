@@ -8,7 +8,8 @@ ghost use Rattle.spec_judgement.specs.Input.{held_of, query_of};
 ghost use Rattle.spec_judgement.specs.Asked.{Counted};
 ghost use Rattle.spec_judgement.specs.Judge.{count_in};
 ghost use Rattle.tonekit_inventory.specs.Gathers.{gathering_of};
-ghost use Rattle.spec_judgement.specs.Judgement.{context_of, tones_verdict, query_verdict, judge_gathered, judge_outcome, station_outcome};
+ghost use Rattle.spec_judgement.specs.Judgement.{tones_verdict, query_verdict, judge_gathered, judge_outcome, station_outcome};
+ghost use Rattle.tonekit_station.specs.Asks.{context_of};
 ghost use Rattle.tonekit_station.specs.Held.{on_held};
 ghost use Rattle.spec_sheet.specs.JudgeSheet.{judge_sheet_outcome, station_sheet_outcome};
 

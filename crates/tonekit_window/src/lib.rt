@@ -7,7 +7,8 @@ ghost use Rattle.std.specs.Prelude.{◌≡◌, ◌+◌, ◌-◌, ◌≤◌, ◌<
 ghost use Rattle.spec_arithmetic.specs.Whole.{whole_part};
 ghost use Rattle.spec_arithmetic.specs.Constants.{whole64};
 ghost use Rattle.spec_arithmetic.specs.Position.{position};
-ghost use Rattle.spec_shape.specs.Window.{half_width, reach, curve_at, moved_to, step_of, mean_over, contour_at, rounded, voiced_in, weight_at};
+ghost use Rattle.spec_shape.specs.Window.{half_width, reach, curve_at, moved_to, step_of, mean_over, rounded, weight_at};
+ghost use Rattle.tonekit_window.specs.Promises.{contour_at, voiced_in};
 ghost use Rattle.tonekit_window.specs.Promises.{Frame, Spans, Swept, Framed};
 
 pub use spec_shape::{FrameRange, Span, Sweep};

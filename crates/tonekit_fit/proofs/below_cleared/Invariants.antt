@@ -1,6 +1,7 @@
 use Rattle.std.proofs.Common.{◌≡◌}
 use Rattle.tonekit_core.specs.Loop.{range}
-use Rattle.spec_shape.specs.Fit.{row_cleared, below_cleared}
+use Rattle.spec_shape.specs.Fit.{row_cleared}
+use Rattle.tonekit_fit.specs.Steps.{below_cleared}
 use Rattle.tonekit_fit.proofs.below_cleared.Given as goal
 
 abbrev pub invariant-loop-row : goal.invariant-loop-row

@@ -1,7 +1,8 @@
 use Rattle.std.proofs.Common.{rules, ℕ, ◌+◌, ◌≡◌, ◌∙◌, ap, Ok, Err, arith}
 use Rattle.tonekit_core.specs.Loop.{next}
 use Rattle.tonekit_core.proofs.LoopLaws.{to_again, to_stop, to_ended}
-use Rattle.spec_query.specs.Query.{end_of, frame_turn, fields_of}
+use Rattle.spec_query.specs.Query.{end_of, fields_of}
+use Rattle.tonekit_query.specs.Parts.{frame_turn}
 use Rattle.tonekit_query.proofs.read_frames.Goals as goal
 
 pub returns-in-Err : goal.returns-in-Err

@@ -1,6 +1,7 @@
 use Rattle.std.proofs.Common.{ℕ, ◌≡◌, Ok}
 use Rattle.tonekit_core.specs.Loop.{range_to}
-use Rattle.spec_query.specs.Query.{end_of, frame_turn, fields_of, read_frames}
+use Rattle.spec_query.specs.Query.{end_of, fields_of}
+use Rattle.tonekit_query.specs.Parts.{frame_turn, read_frames}
 use Rattle.tonekit_query.proofs.read_frames.Given as goal
 
 abbrev pub invariant-loop-i : goal.invariant-loop-i

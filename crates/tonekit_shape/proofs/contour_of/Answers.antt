@@ -1,5 +1,5 @@
 use Rattle.std.proofs.Common.{rules}
-use Rattle.spec_shape.specs.Window.{contour_at}
+use Rattle.tonekit_window.specs.Promises.{contour_at}
 use Rattle.tonekit_shape.proofs.contour_of.Goals as goal
 
 pub returns : goal.returns

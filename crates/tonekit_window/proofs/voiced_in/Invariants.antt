@@ -1,6 +1,6 @@
 use Rattle.std.proofs.Common.{◌≡◌, ◌+◌, ◌≤◌}
 use Rattle.tonekit_core.specs.Loop.{range}
-use Rattle.spec_shape.specs.Window.{voiced_in}
+use Rattle.tonekit_window.specs.Promises.{voiced_in}
 use Rattle.tonekit_window.proofs.Count.{count_turn}
 use Rattle.tonekit_window.proofs.voiced_in.Given as goal
 

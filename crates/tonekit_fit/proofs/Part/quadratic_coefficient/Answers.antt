@@ -1,13 +1,13 @@
 -- `quadratic_coefficient` meets its contract, sum by sum.
-use Rattle.std.proofs.Common.{ℕ, ◌≡◌, ◌-◌, length, Float}
+use Rattle.std.proofs.Common.{ℕ, ◌≡◌, ◌-◌, List, length, Float}
 use lib.Ieee.{binary64, div}
 use Rattle.spec_arithmetic.specs.Constants.{whole64}
 use Rattle.spec_shape.specs.declared.Moments.{Moments}
-use Rattle.spec_shape.specs.Fit.{Part, Grid, voiced_sum, moments_of, normal_equations, lead_of, quadratic_coefficient}
+use Rattle.spec_shape.specs.Fit.{Part, voiced_sum, moments_of, normal_equations, lead_of, quadratic_coefficient}
 use Rattle.tonekit_fit.specs.Lent.{lent_part}
 use Rattle.tonekit_fit.proofs.Part.quadratic_coefficient.Goals as goal
 
-found : (p : Part) (count : ℕ) {last sum n x : Float} {m : Moments} {g : Grid}
+found : (p : Part) (count : ℕ) {last sum n x : Float} {m : Moments} {g : List (List Float)}
     → last ≡ whole64 (length p.chao - 1)
     → sum ≡ voiced_sum p (λ j y. div binary64 (whole64 j) last)
     → n ≡ whole64 count

@@ -1,7 +1,7 @@
 use Rattle.std.proofs.Common.{⊎_elim, sym, ◌∙◌, ap, ap₂, arith, length, List}
 use Rattle.std.specs.Float.{Float}
-use Rattle.spec_sheet.specs.Number.{same_numbers}
 use Rattle.tonekit_sheet_plan.proofs.Alike.{bits, points_on, points_off, points_done}
+use Rattle.tonekit_sheet.specs.Parts.{same_numbers}
 use Rattle.tonekit_sheet_plan.proofs.curves.same_points.Goals as goal
 
 pub returns-then-bits : goal.returns-then-bits

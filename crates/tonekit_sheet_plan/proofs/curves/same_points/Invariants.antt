@@ -1,6 +1,6 @@
 use Rattle.std.proofs.Common.{◌≡◌, length}
-use Rattle.spec_sheet.specs.Number.{same_numbers}
 use Rattle.tonekit_sheet_plan.proofs.Alike.{bits}
+use Rattle.tonekit_sheet.specs.Parts.{same_numbers}
 use Rattle.tonekit_sheet_plan.proofs.curves.same_points.Given as goal
 
 abbrev pub invariant-loop-x : goal.invariant-loop-x
