@@ -6,7 +6,7 @@ use Rattle.std.proofs.lemmas.List.Edits.{sets}
 use Rattle.std.specs.Float.{binary32}
 use Rattle.std.specs.Float.Ieee.{of_bits}
 use Rattle.tonekit_core.specs.Loop.{range}
-use Rattle.spec_lookup.specs.Source.{Tone, Accent, Carried, Source, accent_in, tone_in}
+use Rattle.spec_lookup.specs.Source.{Tone, Accent, Carried, Source, accent_in, tone_in, absent_tone}
 use Rattle.spec_lookup.specs.declared.Context.{Context}
 use Rattle.spec_judgement.specs.declared.Region.{Region}
 use Rattle.spec_judgement.specs.declared.Tolerance.{Tolerance}
@@ -46,10 +46,6 @@ slotted t tone cs l = listing (with_tone (entry_of tone (named_of cs)) l.invento
 -- as lent slots are before anything is gathered
 abbrev pub no_slots : Slots
 no_slots = record { list = replicate 32 (record { weight = f32 0; points = replicate 10 (f32 0) }) }
-
--- past the end of the tones, where nothing is read
-abbrev pub absent_tone : Tone
-absent_tone = record { number = 0; prior = 0; flag = 0; from = 0; to = 0 }
 
 -- the components that a lookup gives; none where it gives nothing
 abbrev pub given_of : math.Option (List Carried) → List Carried

@@ -27,6 +27,10 @@ pub record Tone : Type 0 where
   pub from : ℕ
   pub to : ℕ
 
+-- past the end of the tones, where nothing is read
+abbrev pub absent_tone : Tone
+absent_tone = record { number = 0; prior = 0; flag = 0; from = 0; to = 0 }
+
 -- an accent's number and its four tolerances
 pub record Accent : Type 0 where
   pub number : ℕ

@@ -7,11 +7,11 @@ use Rattle.tonekit_core.specs.Calls as calls
 use Rattle.spec_pack.specs.Ranges.{above_zero, probability_fine, weight_fine, region_fine, tolerances_fine}
 use Rattle.spec_pack.specs.Pack.{holds, zero_or_held, settings_verdict}
 use Rattle.spec_arithmetic.specs.Files.{Out, loaded, refused}
-use Rattle.spec_sheet.specs.Reader.{Sst, complete, due_next, size_of, tone_verdict, accent_verdict, row_verdict, list_verdict, point_fine, points_fine, component_verdict, body_verdict, record_verdict, added, loose_row, accent_down, row_due, row_names, row_wrong, named, same_lists, repeated, list_wrong, finished, read_sheet, load_sheet}
+use Rattle.spec_sheet.specs.Reader.{SheetRead, complete, due_next, size_of, tone_verdict, accent_verdict, row_verdict, list_verdict, point_fine, points_fine, component_verdict, body_verdict, record_verdict, added, loose_row, accent_down, row_due, row_names, row_wrong, named, same_lists, repeated, list_wrong, finished, read_sheet, load_sheet}
 use Rattle.spec_sheet.specs.JudgeSheet.{judge_sheet_outcome, station_sheet_outcome}
 
 -- what an input is, as a single sheet; opened, it computes
-unfoldable read : List ℕ → Out Sst
+unfoldable read : List ℕ → Out SheetRead
 unfolding load_sheet read_sheet finished loose_row accent_down row_due row_names row_wrong named same_lists repeated list_wrong record_verdict complete due_next size_of body_verdict settings_verdict tone_verdict accent_verdict row_verdict list_verdict component_verdict point_fine points_fine holds zero_or_held added above_zero probability_fine weight_fine region_fine tolerances_fine range turns range_to turns_to loop_to loop_on lt le of_bits
 read s = load_sheet s
 
@@ -198,7 +198,7 @@ unfolding read
 number_255 = refl
 
 -- "At most 128 lists and 192 components; the record that goes past is 4": a list and a component after so many
-abbrev after : ℕ → ℕ → Sst
+abbrev after : ℕ → ℕ → SheetRead
 after lists components = record { last = 22; tones = []; accents = 0 ∷ []; rows = 0; lists = replicate lists 0; due = 1; total = components }
 
 list_128 : list_verdict (0 ∷ 1 ∷ head 1 1 3 0 1) 2 (after 127 0) ≡ Ok tt
@@ -224,7 +224,7 @@ points last = 22 ∷ (one ++ (replicate 36 0 ++ last))
 abbrev pointed : List ℕ → List ℕ
 pointed last = rows 1 1 1 1 ++ (head 1 1 1 0 1 ++ (points last ++ (23 ∷ [])))
 
-abbrev printed : Out Sst
+abbrev printed : Out SheetRead
 printed = loaded (record { last = 22; tones = 9 ∷ []; accents = 24 ∷ []; rows = 2; lists = 54 ∷ []; due = 0; total = 1 }) 107
 
 point_128 : (read (pointed (0 ∷ 0 ∷ 0 ∷ 0x43 ∷ [])) ≡ printed) × (read (pointed (0 ∷ 0 ∷ 0 ∷ 0xc3 ∷ [])) ≡ printed)

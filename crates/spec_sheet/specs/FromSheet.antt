@@ -9,7 +9,7 @@ use Rattle.spec_arithmetic.specs.Fields.{byte_at, u16_at, u32_at}
 use Rattle.spec_arithmetic.specs.Places.{index_of}
 use Rattle.spec_lookup.specs.Source.{Carried, Source, settings_at, tone_at, accent_at}
 use Rattle.spec_lookup.specs.declared.Context.{Context}
-use Rattle.spec_sheet.specs.Reader.{Sst, row_at}
+use Rattle.spec_sheet.specs.Reader.{SheetRead, row_at}
 
 -- n numbers of four bytes from an offset on
 unfoldable pub bits_at : List ℕ → ℕ → ℕ → List ℕ
@@ -33,15 +33,15 @@ carried_from s o zero = []
 carried_from s o (suc n) = carried_from s o n ++ (carried_at s o n ∷ [])
 
 -- what a list number stands for: "0 nothing", else the list at that place, from 1
-abbrev pub list_numbered : List ℕ → Sst → ℕ → Option (List Carried)
+abbrev pub list_numbered : List ℕ → SheetRead → ℕ → Option (List Carried)
 list_numbered s st zero = none
 list_numbered s st (suc i) = let o = get_or st.lists i 0 in some (carried_from s o (byte_at s (o + SHEET_LIST_COUNT)))
 
 -- a lookup by position: the row of an accent, a tone and what stood before it, and of its two lists the one for this place in the phrase
-abbrev pub prev_found : List ℕ → Sst → ℕ → Found ℕ
+abbrev pub prev_found : List ℕ → SheetRead → ℕ → Found ℕ
 prev_found s st n = cond (eqb n 0) (Some 0) (option_map (λ p. p + 1) (index_of s st.tones n))
 
-abbrev pub look_placed : List ℕ → Sst → Context → Found ℕ → Found ℕ → Found ℕ → Option (List Carried)
+abbrev pub look_placed : List ℕ → SheetRead → Context → Found ℕ → Found ℕ → Found ℕ → Option (List Carried)
 look_placed s st c (Some a) (Some t) (Some p) =
     let row = row_at st ((a * length st.tones + t) * (length st.tones + 1) + p) in
     list_numbered s st (byte_at s (row + cond c.last SHEET_ROW_FINAL_LIST SHEET_ROW_LIST))
@@ -49,8 +49,8 @@ look_placed s st c None t p = none
 look_placed s st c (Some a) None p = none
 look_placed s st c (Some a) (Some t) None = none
 
-unfoldable pub look_sheet : List ℕ → Sst → Context → Option (List Carried)
+unfoldable pub look_sheet : List ℕ → SheetRead → Context → Option (List Carried)
 look_sheet s st c = look_placed s st c (index_of s st.accents c.accent) (index_of s st.tones c.tone) (prev_found s st c.prev)
 
-unfoldable pub source_of_sheet : List ℕ → Sst → Source
+unfoldable pub source_of_sheet : List ℕ → SheetRead → Source
 source_of_sheet s st = record { settings = settings_at s 0; tones = map (tone_at SHEET_TONE_REGION s) st.tones; accents = map (accent_at SHEET_ACCENT_CONTOUR s) st.accents; look = look_sheet s st }

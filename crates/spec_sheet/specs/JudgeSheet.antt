@@ -9,7 +9,7 @@ use Rattle.spec_sheet.specs.Reader as sheet
 use Rattle.spec_sheet.specs.FromSheet.{source_of_sheet}
 
 -- of a sheet's bytes
-abbrev pub on_sheet : List ℕ → List ℕ → files.Out sheet.Sst → Outcome
+abbrev pub on_sheet : List ℕ → List ℕ → files.Out sheet.SheetRead → Outcome
 on_sheet p s (files.refused r place) = refused r place
 on_sheet p s (files.loaded st e) = judgement (source_of_sheet p st) s
 

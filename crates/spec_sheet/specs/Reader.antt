@@ -19,7 +19,7 @@ use Rattle.spec_pack.specs.Pack.{holds, zero_or_held, in_turn, settings_verdict,
 use Rattle.spec_sheet.specs.Sheet.{row_count, accent_place, tone_place, prev_place}
 
 -- what has been read: the last kind; the offsets of tones and accents; how many rows; the offsets of lists; the components that the last list is still due, and all components
-pub record Sst : Type 0 where
+pub record SheetRead : Type 0 where
   pub last : ℕ
   pub tones : List ℕ
   pub accents : List ℕ
@@ -29,15 +29,15 @@ pub record Sst : Type 0 where
   pub total : ℕ
 
 -- "As many rows are due as" there are accents, tones, and tones and none before them
-abbrev pub rows_due : Sst → ℕ
+abbrev pub rows_due : SheetRead → ℕ
 rows_due st = row_count (length st.accents) (length st.tones)
 
 -- all rows are there, and all components of the last list: a list, or the end
-unfoldable pub complete : Sst → Bool
+unfoldable pub complete : SheetRead → Bool
 complete st = cond (eqb st.last SHEET_ROW_KIND) (eqb st.rows (rows_due st)) (eqb st.last SHEET_COMPONENT_KIND && eqb st.due 0)
 
 -- "Kinds, in this order"; "A row or component too few or too many is 1"
-unfoldable pub due_next : Sst → ℕ → Bool
+unfoldable pub due_next : SheetRead → ℕ → Bool
 due_next st k =
     cond (eqb k SHEET_SETTINGS_KIND) (eqb st.last 0)
     (cond (eqb k SHEET_TONE_KIND) (eqb st.last SHEET_SETTINGS_KIND || eqb st.last SHEET_TONE_KIND)
@@ -60,22 +60,22 @@ size_of k =
 abbrev pub tone_fine : List ℕ → ℕ → Bool
 tone_fine s o = not (eqb (number_at s o) 0) && (probability_fine (f32_at s (o + SHEET_TONE_PRIOR)) && region_fine s (o + SHEET_TONE_REGION))
 
-unfoldable pub tone_verdict : List ℕ → ℕ → Sst → Result (Unit {0}) Refusal
+unfoldable pub tone_verdict : List ℕ → ℕ → SheetRead → Result (Unit {0}) Refusal
 tone_verdict s o st = in_turn (leb 8 (length st.tones)) (tone_fine s o) (not (holds s st.tones (number_at s o))) true
 
 -- number, tolerances
-unfoldable pub accent_verdict : List ℕ → ℕ → Sst → Result (Unit {0}) Refusal
+unfoldable pub accent_verdict : List ℕ → ℕ → SheetRead → Result (Unit {0}) Refusal
 accent_verdict s o st = in_turn (leb 8 (length st.accents)) (accent_fine SHEET_ACCENT_CONTOUR s o) (not (holds s st.accents (number_at s o))) true
 
 -- a row names an accent, a tone, and a tone before it or none, that are held; its two lists are judged at the end
-unfoldable pub row_verdict : List ℕ → ℕ → Sst → Result (Unit {0}) Refusal
+unfoldable pub row_verdict : List ℕ → ℕ → SheetRead → Result (Unit {0}) Refusal
 row_verdict s o st =
     in_turn false (not (eqb (byte_at s (o + SHEET_ROW_ACCENT)) 0) && not (eqb (byte_at s (o + SHEET_ROW_TONE)) 0)) true
     (holds s st.accents (byte_at s (o + SHEET_ROW_ACCENT))
     && (holds s st.tones (byte_at s (o + SHEET_ROW_TONE)) && zero_or_held s st.tones (byte_at s (o + SHEET_ROW_PREV))))
 
 -- "A list's count above 4, or above 1 unless the form is 3, is 4; count 0 is 5"; "At most 128 lists"
-abbrev pub list_crowded : List ℕ → ℕ → Sst → Bool
+abbrev pub list_crowded : List ℕ → ℕ → SheetRead → Bool
 list_crowded s o st =
     leb 128 (length st.lists)
     || (ltb 4 (byte_at s (o + SHEET_LIST_COUNT)) || (ltb 1 (byte_at s (o + SHEET_LIST_COUNT)) && not (eqb (byte_at s (o + SHEET_LIST_FORM)) 3)))
@@ -89,7 +89,7 @@ list_fine s o =
     && (not (eqb (byte_at s (o + SHEET_LIST_COUNT)) 0)
     && (not (eqb (byte_at s (o + SHEET_LIST_FORM)) 1) || eqb (u16_at s (o + SHEET_LIST_LABEL)) 0))))
 
-unfoldable pub list_verdict : List ℕ → ℕ → Sst → Result (Unit {0}) Refusal
+unfoldable pub list_verdict : List ℕ → ℕ → SheetRead → Result (Unit {0}) Refusal
 list_verdict s o st = in_turn (list_crowded s o st) (list_fine s o) true (holds s st.accents (byte_at s (o + SHEET_LIST_OWNER)))
 
 -- "points are finite, size at most 128"
@@ -100,16 +100,16 @@ unfoldable pub points_fine : List ℕ → ℕ → Bool
 points_fine s o = range (λ k ok. ok && point_fine (f32_at s (o + F32_SIZE * k))) 0 10 true
 
 -- "forms 1 and 2 have one component of weight 1": the form is that of the last list
-abbrev pub component_fine : List ℕ → ℕ → Sst → Bool
+abbrev pub component_fine : List ℕ → ℕ → SheetRead → Bool
 component_fine s o st =
     weight_fine (u32_at s (o + SHEET_COMPONENT_WEIGHT))
     && ((eqb (byte_at s (get_or st.lists (length st.lists - 1) 0 + SHEET_LIST_FORM)) 3 || eqb (u32_at s (o + SHEET_COMPONENT_WEIGHT)) 0x3f80_0000)
     && points_fine s (o + SHEET_COMPONENT_POINTS))
 
-unfoldable pub component_verdict : List ℕ → ℕ → Sst → Result (Unit {0}) Refusal
+unfoldable pub component_verdict : List ℕ → ℕ → SheetRead → Result (Unit {0}) Refusal
 component_verdict s o st = in_turn (leb 192 st.total) (component_fine s o st) true true
 
-unfoldable pub body_verdict : ℕ → List ℕ → ℕ → Sst → Result (Unit {0}) Refusal
+unfoldable pub body_verdict : ℕ → List ℕ → ℕ → SheetRead → Result (Unit {0}) Refusal
 body_verdict k s o st =
     cond (eqb k SHEET_SETTINGS_KIND) (settings_verdict s o)
     (cond (eqb k SHEET_TONE_KIND) (tone_verdict s o st)
@@ -118,11 +118,11 @@ body_verdict k s o st =
     (cond (eqb k SHEET_LIST_KIND) (list_verdict s o st)
     (cond (eqb k SHEET_COMPONENT_KIND) (component_verdict s o st) (Ok tt))))))
 
-unfoldable pub record_verdict : List ℕ → ℕ → Sst → Result (Unit {0}) Refusal
+unfoldable pub record_verdict : List ℕ → ℕ → SheetRead → Result (Unit {0}) Refusal
 record_verdict s o st = judged (due_next st) size_of (λ k. body_verdict k s o st) s o
 
 -- what has been read once the record of kind k at o, a list of so many components, is fine
-unfoldable pub added : ℕ → ℕ → ℕ → Sst → Sst
+unfoldable pub added : ℕ → ℕ → ℕ → SheetRead → SheetRead
 added k o count st =
     cond (eqb k SHEET_TONE_KIND) (record st { last = k; tones = st.tones ++ (o ∷ []) })
     (cond (eqb k SHEET_ACCENT_KIND) (record st { last = k; accents = st.accents ++ (o ∷ []) })
@@ -131,28 +131,28 @@ added k o count st =
     (cond (eqb k SHEET_COMPONENT_KIND) (record st { last = k; due = st.due - 1; total = st.total + 1 }) (record st { last = k })))))
 
 -- where row r stands: behind settings, tones and accents
-abbrev pub row_at : Sst → ℕ → ℕ
+abbrev pub row_at : SheetRead → ℕ → ℕ
 row_at st r = SETTINGS_SIZE + SHEET_TONE_SIZE * length st.tones + SHEET_ACCENT_SIZE * length st.accents + SHEET_ROW_SIZE * r
 
 -- a row's list number is 0, or one that a list record gives as its own
-unfoldable pub loose_row : List ℕ → Sst → Option ℕ
+unfoldable pub loose_row : List ℕ → SheetRead → Option ℕ
 loose_row s st =
     range_to (λ r (u : ℕ). cond
     (zero_or_held s st.lists (byte_at s (row_at st r + SHEET_ROW_LIST)) && zero_or_held s st.lists (byte_at s (row_at st r + SHEET_ROW_FINAL_LIST)))
     (next u) (stop (Some (row_at st r)))) (λ u. None) 0 st.rows 0
 
 -- an accent whose number is not above that of the one before it
-unfoldable pub accent_down : List ℕ → Sst → Option ℕ
+unfoldable pub accent_down : List ℕ → SheetRead → Option ℕ
 accent_down s st =
     range_to (λ i before. let n = number_at s (get_or st.accents i 0) in cond (ltb before n) (next n) (stop (Some (get_or st.accents i 0))))
     (λ n. None) 0 (length st.accents) 0
 
 -- row r is the one due at its place
-abbrev pub prev_due : List ℕ → Sst → ℕ → ℕ
+abbrev pub prev_due : List ℕ → SheetRead → ℕ → ℕ
 prev_due s st zero = 0
 prev_due s st (suc p) = number_at s (get_or st.tones p 0)
 
-unfoldable pub row_due : List ℕ → Sst → ℕ → Bool
+unfoldable pub row_due : List ℕ → SheetRead → ℕ → Bool
 row_due s st r =
     let t = length st.tones in
     eqb (byte_at s (row_at st r + SHEET_ROW_ACCENT)) (number_at s (get_or st.accents (accent_place t r) 0))
@@ -160,19 +160,19 @@ row_due s st r =
     && eqb (byte_at s (row_at st r + SHEET_ROW_PREV)) (prev_due s st (prev_place t r)))
 
 -- "a row naming a list above 1 more than the greatest before it", m, not final before final
-unfoldable pub row_names : List ℕ → Sst → ℕ → ℕ → Bool
+unfoldable pub row_names : List ℕ → SheetRead → ℕ → ℕ → Bool
 row_names s st r m =
     let n = byte_at s (row_at st r + SHEET_ROW_LIST) in
     leb n (m + 1) && leb (byte_at s (row_at st r + SHEET_ROW_FINAL_LIST)) (max m n + 1)
 
-unfoldable pub row_wrong : List ℕ → Sst → Option ℕ
+unfoldable pub row_wrong : List ℕ → SheetRead → Option ℕ
 row_wrong s st =
     range_to (λ r m. cond (row_due s st r && row_names s st r m)
     (next (max (max m (byte_at s (row_at st r + SHEET_ROW_LIST))) (byte_at s (row_at st r + SHEET_ROW_FINAL_LIST))))
     (stop (Some (row_at st r)))) (λ m. None) 0 st.rows 0
 
 -- a row names list n
-unfoldable pub named : List ℕ → Sst → ℕ → Bool
+unfoldable pub named : List ℕ → SheetRead → ℕ → Bool
 named s st n =
     range (λ r used. used || (eqb (byte_at s (row_at st r + SHEET_ROW_LIST)) n || eqb (byte_at s (row_at st r + SHEET_ROW_FINAL_LIST)) n))
     0 st.rows false
@@ -189,24 +189,24 @@ unfoldable pub repeated : List ℕ → List ℕ → ℕ → ℕ → Bool
 repeated s lists n o = range (λ i hit. hit || same_lists s o (get_or lists i 0)) 0 n false
 
 -- list i has its place as its number, from 1, is named by a row, and is equal to none before it
-unfoldable pub list_wrong : List ℕ → Sst → Option ℕ
+unfoldable pub list_wrong : List ℕ → SheetRead → Option ℕ
 list_wrong s st =
     range_to (λ i (u : ℕ). let o = get_or st.lists i 0 in
     cond (eqb (number_at s o) (i + 1) && (named s st (i + 1) && not (repeated s st.lists i o))) (next u) (stop (Some o)))
     (λ u. None) 0 (length st.lists) 0
 
 -- "a sheet's list references (7), then 8, are judged at its end"; 8 stands at the first accent, row or list at fault
-abbrev pub refused_at : Refusal → Option ℕ → Out Sst → Out Sst
+abbrev pub refused_at : Refusal → Option ℕ → Out SheetRead → Out SheetRead
 refused_at r (Some o) out = refused r o
 refused_at r None out = out
 
-unfoldable pub finished : List ℕ → Sst → ℕ → Out Sst
+unfoldable pub finished : List ℕ → SheetRead → ℕ → Out SheetRead
 finished s st e =
     refused_at Loose (loose_row s st)
     (refused_at Unordered (accent_down s st) (refused_at Unordered (row_wrong s st) (refused_at Unordered (list_wrong s st) (loaded st e))))
 
 -- how a sheet is read
-abbrev pub sheet_reader : Reader Sst
+abbrev pub sheet_reader : Reader SheetRead
 sheet_reader = record {
   start = record { at = 0; st = record { last = 0; tones = []; accents = []; rows = 0; lists = []; due = 0; total = 0 } };
   verdict = record_verdict;
@@ -217,10 +217,10 @@ sheet_reader = record {
 }
 
 -- a sheet at the front of a longer input; a single sheet ("3 follows"); and a check of the sheet alone
-unfoldable pub read_sheet : List ℕ → Out Sst
+unfoldable pub read_sheet : List ℕ → Out SheetRead
 read_sheet s = read sheet_reader s
 
-unfoldable pub load_sheet : List ℕ → Out Sst
+unfoldable pub load_sheet : List ℕ → Out SheetRead
 load_sheet s = singly s (read_sheet s)
 
 unfoldable pub check_sheet : List ℕ → Result (Unit {0}) Rejection

@@ -5,7 +5,7 @@ use Rattle.tonekit_core.specs.Loop.{range}
 use Rattle.tonekit_core.specs.declared.layout.TheConstants.{SHEET_SETTINGS_KIND, SHEET_TONE_KIND, SHEET_ACCENT_KIND, SHEET_ROW_KIND}
 use Rattle.tonekit_core.specs.declared.layout.TheConstants.{SHEET_LIST_KIND, SHEET_COMPONENT_KIND, SHEET_END_KIND}
 use Rattle.spec_arithmetic.specs.Fields.{le16, le32}
-use Rattle.spec_lookup.specs.Source.{Settings, Tone, Accent, Carried, Source, accent_in}
+use Rattle.spec_lookup.specs.Source.{Settings, Tone, Accent, Carried, Source, accent_in, absent_tone}
 use Rattle.spec_lookup.specs.declared.Context.{Context}
 use Rattle.spec_sheet.specs.Number.{noted, number_in}
 use Rattle.spec_sheet.specs.Pieces.{gather}
@@ -23,11 +23,8 @@ unfoldable pub ascending : List Accent → List Accent
 ascending accents = asc_from 255 1 accents
 
 -- past the end, where nothing is read
-abbrev pub no_tone : Tone
-no_tone = record { number = 0; prior = 0; flag = 0; from = 0; to = 0 }
-
-abbrev pub no_accent : Accent
-no_accent = record { number = 0; contour = 0; onset = 0; offset = 0; turning = 0 }
+abbrev pub absent_accent : Accent
+absent_accent = record { number = 0; contour = 0; onset = 0; offset = 0; turning = 0 }
 
 -- "Rows run by accent as above, tone in pack order, prev 0 then tones in pack order": with t tones there are t + 1 rows for each accent and tone
 abbrev pub row_count : ℕ → ℕ → ℕ
@@ -44,13 +41,13 @@ prev_place tones r = r % (tones + 1)
 
 abbrev pub prev_number : List Tone → ℕ → ℕ
 prev_number tones zero = 0
-prev_number tones (suc p) = (get_or tones p no_tone).number
+prev_number tones (suc p) = (get_or tones p absent_tone).number
 
 -- the context of row r, at the end of a phrase or not; accents stand in ascending order here
 unfoldable pub row_context : List Tone → List Accent → ℕ → Bool → Context
 row_context tones accents r last = record {
-  accent = (get_or accents (accent_place (length tones) r) no_accent).number;
-  tone = (get_or tones (tone_place (length tones) r) no_tone).number;
+  accent = (get_or accents (accent_place (length tones) r) absent_accent).number;
+  tone = (get_or tones (tone_place (length tones) r) absent_tone).number;
   prev = prev_number tones (prev_place (length tones) r);
   last = last;
 }
@@ -100,18 +97,18 @@ components_bytes [] = []
 components_bytes (c ∷ cs) = ((SHEET_COMPONENT_KIND ∷ []) ++ (le32 c.weight ++ bits_bytes c.points)) ++ components_bytes cs
 
 -- "21 list: number u8, owner u8, form u8, label u16, count u8, followed by its 22 components"; owner, form and label are those of its first
-abbrev pub no_carried : Carried
-no_carried = record { owner = 0; form = 0; label = 0; part = 0; weight = 0; points = [] }
+abbrev pub absent_carried : Carried
+absent_carried = record { owner = 0; form = 0; label = 0; part = 0; weight = 0; points = [] }
 
 abbrev pub list_bytes : ℕ → List Carried → List ℕ
 list_bytes n cs =
-    let c = get_or cs 0 no_carried in ((SHEET_LIST_KIND ∷ n ∷ c.owner ∷ c.form ∷ []) ++ (le16 c.label ++ (length cs ∷ []))) ++ components_bytes cs
+    let c = get_or cs 0 absent_carried in ((SHEET_LIST_KIND ∷ n ∷ c.owner ∷ c.form ∷ []) ++ (le16 c.label ++ (length cs ∷ []))) ++ components_bytes cs
 
 unfoldable pub bytes_with : View → List (List Carried) → List ℕ
 bytes_with v lists =
     settings_bytes v.settings
-    ++ (gather (λ i. tone_bytes (get_or v.tones i no_tone)) 0 (length v.tones)
-    ++ (gather (λ i. accent_bytes (get_or v.accents i no_accent)) 0 (length v.accents)
+    ++ (gather (λ i. tone_bytes (get_or v.tones i absent_tone)) 0 (length v.tones)
+    ++ (gather (λ i. accent_bytes (get_or v.accents i absent_accent)) 0 (length v.accents)
     ++ (gather (λ r. row_bytes (row_context v.tones v.accents r false) (number_in lists (v.row r false)) (number_in lists (v.row r true))) 0 (rows_of v)
     ++ (gather (λ i. list_bytes (i + 1) (get_or lists i [])) 0 (length lists) ++ (SHEET_END_KIND ∷ [])))))
 

@@ -12,7 +12,7 @@ use Rattle.spec_sheet.specs.Number.{same_carried, same, seen_in, place_in, noted
 use Rattle.spec_sheet.specs.Pieces.{pieces, gather}
 use Rattle.spec_sheet.specs.Sheet.{asc_from, ascending, row_context, view_of, lists_of, bits_bytes, components_bytes, bytes_with, sheet}
 use Rattle.spec_sheet.specs.Sheet.{settings_bytes, tone_bytes, accent_bytes, row_bytes, list_bytes}
-use Rattle.spec_sheet.specs.Reader.{Sst, row_due, row_names, list_size}
+use Rattle.spec_sheet.specs.Reader.{SheetRead, row_due, row_names, list_size}
 use Rattle.spec_sheet.specs.FromSheet.{bits_at, carried_at, carried_from, list_numbered, look_sheet, source_of_sheet}
 
 -- a component of this owner, label, weight and first point
@@ -131,7 +131,7 @@ printed =
     ++ ((20 ∷ 3 ∷ 1 ∷ 0 ∷ 1 ∷ 2 ∷ [])
     ++ ((20 ∷ 3 ∷ 1 ∷ 1 ∷ 2 ∷ 2 ∷ []) ++ ((20 ∷ 5 ∷ 1 ∷ 0 ∷ 2 ∷ 1 ∷ []) ++ ((20 ∷ 5 ∷ 1 ∷ 1 ∷ 0 ∷ 2 ∷ []) ++ lists)))))))
 
-abbrev read : Sst
+abbrev read : SheetRead
 read = record { last = 22; tones = 9 ∷ []; accents = 24 ∷ 42 ∷ []; rows = 4; lists = 84 ∷ 136 ∷ []; due = 0; total = 2 }
 
 abbrev at : ℕ → ℕ → Bool → Context
@@ -191,7 +191,7 @@ context20 = record { accent = 1; tone = 2; prev = 3; last = false }
 abbrev before20 : List ℕ
 before20 = replicate 9 0 ++ ((18 ∷ 2 ∷ replicate 13 0) ++ ((18 ∷ 3 ∷ replicate 13 0) ++ ((19 ∷ 1 ∷ replicate 16 0) ++ replicate 12 0)))
 
-abbrev read20 : Sst
+abbrev read20 : SheetRead
 read20 = record { last = 20; tones = 9 ∷ 24 ∷ []; accents = 39 ∷ []; rows = 3; lists = []; due = 0; total = 0 }
 
 fields20 : (row_due (before20 ++ record20) read20 2 ≡ true)
@@ -250,7 +250,7 @@ both_written : list_bytes 1 single ++ list_bytes 2 double ≡ listed
 unfolding components_bytes bits_bytes
 both_written = refl
 
-abbrev read21 : Sst
+abbrev read21 : SheetRead
 read21 = record { last = 22; tones = []; accents = []; rows = 0; lists = 0 ∷ 52 ∷ []; due = 0; total = 3 }
 
 both_read : (list_numbered listed read21 0 ≡ none)
@@ -263,7 +263,7 @@ both_read = (refl, refl, refl)
 abbrev sheet19 : List ℕ
 sheet19 = record17 ++ (record18 ++ ((18 ∷ 2 ∷ replicate 13 0) ++ record19))
 
-abbrev read19 : Sst
+abbrev read19 : SheetRead
 read19 = record { last = 19; tones = 9 ∷ 24 ∷ []; accents = 39 ∷ []; rows = 0; lists = []; due = 0; total = 0 }
 
 held19 : ((source_of_sheet sheet19 read19).settings ≡ settings17)

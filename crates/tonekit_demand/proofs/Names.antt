@@ -8,7 +8,7 @@ use Rattle.spec_pack.specs.Pack as pack
 use Rattle.tonekit_pack.proofs.Single as pack-single
 use Rattle.tonekit_pack.proofs.Loads.{loads}
 use Rattle.spec_sheet.specs.Reader as sheet
-use Rattle.spec_sheet.specs.Sheet.{no_carried}
+use Rattle.spec_sheet.specs.Sheet.{absent_carried}
 use Rattle.spec_sheet.specs.FromSheet.{source_of_sheet}
 use Rattle.tonekit_sheet.proofs.Turns as sheet-single
 use Rattle.spec_lookup.specs.Source.{Carried, Source, source_of_pack}
@@ -32,7 +32,7 @@ use Rattle.tonekit_sheet_inventory.proofs.Alike.{sheet_alike}
 use Rattle.tonekit_demand.specs.Names.{NamesWinner, PacksName, SheetsName}
 
 -- what is given where something was looked up
-given_alike : (o : Option (List Carried)) → ((cs : List Carried) → o ≡ some cs → Alike no_carried cs) → Alike no_carried (given_of o)
+given_alike : (o : Option (List Carried)) → ((cs : List Carried) → o ≡ some cs → Alike absent_carried cs) → Alike absent_carried (given_of o)
 given_alike none h = record { few = omega arith; each = λ k l. absurd (not-suc-le-zero l) }
 given_alike (some cs) h = h cs refl
 
@@ -41,16 +41,16 @@ given_some none k h = absurd (not-suc-le-zero h)
 given_some (some cs) k h = refl
 
 -- a source of at most eight tones whose lookups give components under one name
-module _ (src : Source) (few : length src.tones ≤ 8) (alike : (c : Context) (cs : List Carried) → src.look c ≡ some cs → Alike no_carried cs) where
+module _ (src : Source) (few : length src.tones ≤ 8) (alike : (c : Context) (cs : List Carried) → src.look c ≡ some cs → Alike absent_carried cs) where
   module _ (c : Context) where
     abbrev cs : ℕ → List Carried
-    cs t = components_at no_carried src c t
+    cs t = components_at absent_carried src c t
 
-    here : (t : ℕ) → Alike no_carried (cs t)
+    here : (t : ℕ) → Alike absent_carried (cs t)
     here t = given_alike _ (alike _)
 
-    entered : (t : ℕ) → t < length src.tones → Entered no_carried (cs t) t (listings src c)
-    entered = listings_enter no_carried src c few (λ t h. (here t).few)
+    entered : (t : ℕ) → t < length src.tones → Entered absent_carried (cs t) t (listings src c)
+    entered = listings_enter absent_carried src c few (λ t h. (here t).few)
 
     placed : (g : Targets) → TargetsHeld (length src.tones) g → TargetsHeld (length (listings src c).inventory.items) g
     placed g p = rw (listed_tones src c) p
@@ -74,10 +74,10 @@ module _ (src : Source) (few : length src.tones ≤ 8) (alike : (c : Context) (c
       let nearest = nearest_at (entry_at l.inventory a.tone) slot d2 in
       let is : (judgement_of x settings t l g issues).nearest ≡ Some nearest = rw tone at n in
       let named : name_in (entry_at l.inventory a.tone).listing ≡ name_in (named_of given) = ap name_in en.listing in
-      let won = get_or given a.component no_carried in
+      let won = get_or given a.component absent_carried in
       let its_slot : slot_at l.slots slot ≡ slot_of won = ap (slot_at l.slots) a.is ∙ en.slot a.component has in
       let part : slot_part (name_in (entry_at l.inventory a.tone).listing) slot ≡ won.part = rw (named, place) (sym u.part) in (
-        get_or given a.component no_carried,
+        get_or given a.component absent_carried,
         record {
           tone = a.tone;
           component = a.component;
@@ -98,14 +98,14 @@ pack_few : (p : List ℕ) (st : pack.PackRead) (e : ℕ) → pack.read_pack p �
 unfolding source_of_pack
 pack_few p st e r = omega (arith, length-map st.tones (source.tone_at 47 p), (loads p st e r).kept.few_tones)
 
-sheet_few : (p : List ℕ) (st : sheet.Sst) (e : ℕ) → sheet.read_sheet p ≡ files.loaded st e → length (source_of_sheet p st).tones ≤ 8
+sheet_few : (p : List ℕ) (st : sheet.SheetRead) (e : ℕ) → sheet.read_sheet p ≡ files.loaded st e → length (source_of_sheet p st).tones ≤ 8
 unfolding source_of_sheet
 sheet_few p st e r = omega (arith, length-map st.tones (source.tone_at 6 p), tones_few p st e r)
 
 pub packs_name : PacksName
 packs_name p st e h =
     let r = (pack-single.loads_alone p st e h).0 in
-    source_names (source_of_pack p st) (pack_few p st e r) (λ c cs g. pack_alike p st e r no_carried c cs g)
+    source_names (source_of_pack p st) (pack_few p st e r) (λ c cs g. pack_alike p st e r absent_carried c cs g)
 
 pub sheets_name : SheetsName
 sheets_name p st e h =

@@ -5,9 +5,9 @@ use Rattle.std.specs.Float.{nan}
 use Rattle.spec_arithmetic.specs.Files as files
 use Rattle.spec_pack.specs.Pack as pack
 use Rattle.spec_sheet.specs.Reader as sheet
-use Rattle.spec_sheet.specs.Sheet.{no_carried}
+use Rattle.spec_sheet.specs.Sheet.{absent_carried}
 use Rattle.spec_sheet.specs.FromSheet.{source_of_sheet}
-use Rattle.spec_lookup.specs.Source.{Carried, Source, source_of_pack}
+use Rattle.spec_lookup.specs.Source.{Carried, Source, source_of_pack, absent_tone}
 use Rattle.spec_lookup.specs.declared.Context.{Context}
 use Rattle.spec_shape.specs.declared.ToneShape.{ToneShape}
 use Rattle.spec_judgement.specs.Score.{scoring_of, mixture_of}
@@ -19,7 +19,7 @@ use Rattle.spec_judgement.specs.Judge.{Targets, Listings, usable, slot_at, compo
 use Rattle.spec_judgement.specs.Asked.{TargetsHeld}
 use Rattle.spec_judgement.specs.declared.Nearest.{Nearest}
 use Rattle.spec_judgement.specs.declared.ToneJudgement.{ToneJudgement}
-use Rattle.spec_judgement.specs.Gather.{f32, absent_tone, listings}
+use Rattle.spec_judgement.specs.Gather.{f32, listings}
 
 -- a slot of what is gathered for a context, and the component that the lookup gave: the tone's, at its place, with its weight and its ten points
 pub record Carries (src : Source) (c : Context) (slot : ℕ) (won : Carried) : Type 0 where
@@ -30,7 +30,7 @@ pub record Carries (src : Source) (c : Context) (slot : ℕ) (won : Carried) : T
   pub given : List Carried
   pub looked : src.look (record c { tone = (get_or src.tones tone absent_tone).number }) ≡ some given
   pub has : component < length given
-  pub is : get_or given component no_carried ≡ won
+  pub is : get_or given component absent_carried ≡ won
   pub weight : (slot_at (listings src c).slots slot).weight ≡ f32 won.weight
   pub points : (i : ℕ) → i < 10 → get_or (slot_at (listings src c).slots slot).points i nan ≡ f32 (get_or won.points i 0)
 
@@ -61,4 +61,4 @@ abbrev pub PacksName : Type 0
 PacksName = (p : List ℕ) (st : pack.PackRead) (e : ℕ) → pack.load_pack p ≡ files.loaded st e → NamesWinner (source_of_pack p st)
 
 abbrev pub SheetsName : Type 0
-SheetsName = (p : List ℕ) (st : sheet.Sst) (e : ℕ) → sheet.load_sheet p ≡ files.loaded st e → NamesWinner (source_of_sheet p st)
+SheetsName = (p : List ℕ) (st : sheet.SheetRead) (e : ℕ) → sheet.load_sheet p ≡ files.loaded st e → NamesWinner (source_of_sheet p st)

@@ -3,14 +3,14 @@ use Rattle.std.specs.Prelude.{Option, Some, None}
 use Rattle.std.proofs.Common.{ℕ, zero, suc, ◌+◌, ◌≤◌, ◌<◌, ◌≡◌, refl, List, [], ◌∷◌, ◌++◌, map, length, length-append, get_or, arith, ltb, lt-ltb, true}
 use Rattle.tonekit_core.specs.Loop.{range}
 use Rattle.tonekit_core.proofs.LoopLaws.{again, ended}
-use Rattle.spec_lookup.specs.Source.{Carried, Source}
+use Rattle.spec_lookup.specs.Source.{Carried, Source, absent_tone}
 use Rattle.spec_lookup.specs.declared.Context.{Context}
 use Rattle.spec_judgement.specs.declared.ToneEntry.{ToneEntry}
 use Rattle.spec_judgement.specs.declared.ToneListing.{ToneListing}
 use Rattle.spec_judgement.specs.declared.Slots.{Slots}
 use Rattle.spec_judgement.specs.Judge.{Inventory, Listings, listing, no_entry, count_in}
 use Rattle.tonekit_inventory.specs.Gathers.{Lists}
-use Rattle.spec_judgement.specs.Gather.{entry_of, named_of, with_tone, put_in, slotted, absent_tone, given_of, list_tone, listings, no_slots}
+use Rattle.spec_judgement.specs.Gather.{entry_of, named_of, with_tone, put_in, slotted, given_of, list_tone, listings, no_slots}
 
 -- ---- a listing's name is that of its first component
 pub first_named : (cs : List Carried) (d : Carried) → 1 ≤ length cs

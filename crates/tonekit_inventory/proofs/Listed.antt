@@ -5,12 +5,12 @@ use Rattle.std.proofs.lemmas.List.{get_or_push}
 use lib.ListN.{length-map, get_or-append}
 use lib.Seq.{sets, length-sets}
 use Rattle.tonekit_core.proofs.LoopLaws.{range_keeps}
-use Rattle.spec_lookup.specs.Source.{Tone, Carried, Source}
+use Rattle.spec_lookup.specs.Source.{Tone, Carried, Source, absent_tone}
 use Rattle.spec_lookup.specs.declared.Context.{Context}
 use Rattle.spec_judgement.specs.Judge.{Listings, no_entry, entry_at, slot_at}
 use Rattle.spec_judgement.specs.declared.Slot.{Slot}
 use Rattle.spec_judgement.specs.declared.ToneEntry.{ToneEntry}
-use Rattle.spec_judgement.specs.Gather.{entry_of, named_of, with_tone, put_in, slotted, given_of, list_tone, listings, absent_tone}
+use Rattle.spec_judgement.specs.Gather.{entry_of, named_of, with_tone, put_in, slotted, given_of, list_tone, listings}
 use Rattle.tonekit_inventory.specs.Fields.{slot_of}
 use Rattle.std.proofs.lemmas.List.{get_or-map}
 use Rattle.tonekit_inventory.proofs.Going.{nothing_yet}

@@ -6,12 +6,12 @@ use Rattle.spec_arithmetic.specs.Fields.{byte_at, f32_at}
 use Rattle.tonekit_pack.specs.declared.Pack.{Pack}
 use Rattle.tonekit_bytes.specs.Places.{in_order}
 use Rattle.tonekit_bytes.proofs.InOrder.{order_length, order_get}
-use Rattle.spec_lookup.specs.Source.{Carried, components, tone_at, source_of_pack}
+use Rattle.spec_lookup.specs.Source.{Carried, components, tone_at, source_of_pack, absent_tone}
 use Rattle.spec_lookup.specs.declared.Listing.{Listing}
 use Rattle.tonekit_expect.proofs.Carried.{named, components_at, components_length}
 use Rattle.tonekit_inventory.specs.Fields.{region_at}
 use Rattle.tonekit_inventory.specs.OfPack.{source_in}
-use Rattle.spec_judgement.specs.Gather.{region_of, entry_of, named_of, absent_tone}
+use Rattle.spec_judgement.specs.Gather.{region_of, entry_of, named_of}
 use Rattle.std.proofs.lemmas.List.{get_or-map}
 use Rattle.tonekit_inventory.proofs.Going.{first_named}
 

@@ -4,9 +4,9 @@
 
 ghost use Rattle.std.specs.Prelude.{◌≡◌, ◌≤◌, ◌<◌, ℕ, List, Result, None, Ok, Err, IfOk, IfErr, length, get_or};
 ghost use Rattle.tonekit_core.specs.declared.Rejection.{Rejection};
-ghost use Rattle.spec_lookup.specs.Source.{Source, accent_in, tone_in};
+ghost use Rattle.spec_lookup.specs.Source.{Source, accent_in, tone_in, absent_tone};
 ghost use Rattle.tonekit_inventory.specs.Fields.{region_at, tolerance_at, settings_at};
-ghost use Rattle.spec_judgement.specs.Gather.{entry_of, named_of, given_of, graded_of, absent_tone, put_in, no_slots};
+ghost use Rattle.spec_judgement.specs.Gather.{entry_of, named_of, given_of, graded_of, put_in, no_slots};
 ghost use Rattle.tonekit_inventory.specs.Fields.{settings_of};
 ghost use Rattle.tonekit_inventory.specs.Gathers.{Lists, Gathers};
 ghost use Rattle.spec_judgement.specs.Judge.{count_in};

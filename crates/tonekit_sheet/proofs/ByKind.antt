@@ -7,7 +7,7 @@ use Rattle.tonekit_sheet.specs.declared.Kind.{Kind}
 use Rattle.tonekit_sheet.specs.declared.Kind.TheVariants as kind
 use Rattle.tonekit_sheet.specs.Kinds.{number, kind_of}
 use Rattle.tonekit_core.specs.declared.layout.TheConstants.{SHEET_END_SIZE}
-use Rattle.spec_sheet.specs.Reader.{Sst, due_next, size_of}
+use Rattle.spec_sheet.specs.Reader.{SheetRead, due_next, size_of}
 
 same_ok : (a k : Kind) → ◌≡◌ {A = Result Kind Refusal} (Ok a) (Ok k) → a ≡ k
 same_ok a k h = cc
@@ -31,7 +31,7 @@ kind_number n k h =
     (λ g. not_both k Misplaced (sym (rw (a, b, c, d, e, f, g) at h)))))))))
 
 -- a record that begins with no kind's number is misplaced, whatever was read before it
-pub no_kind : (st : Sst) (n : ℕ) (r : Refusal) → kind_of n ≡ Err r → (Misplaced ≡ r) × (due_next st n ≡ false)
+pub no_kind : (st : SheetRead) (n : ℕ) (r : Refusal) → kind_of n ≡ Err r → (Misplaced ≡ r) × (due_next st n ≡ false)
 unfolding due_next
 no_kind st n r h =
     split (eqb n 17) (λ a. not_both kind.Settings r (rw a at h))

@@ -14,15 +14,15 @@ use Rattle.spec_pack.specs.Pack.{holds, accent_fine}
 use Rattle.tonekit_core.proofs.Split.{split, either, neither, both, not_zero}
 use Rattle.tonekit_pack.proofs.Records.{Passed, passed}
 use Rattle.tonekit_bytes.proofs.Files.{fine}
-use Rattle.spec_sheet.specs.Reader.{Sst, rows_due, complete, due_next, size_of, tone_fine, tone_verdict, accent_verdict, list_crowded, list_fine, list_verdict, component_fine, component_verdict, body_verdict, record_verdict}
+use Rattle.spec_sheet.specs.Reader.{SheetRead, rows_due, complete, due_next, size_of, tone_fine, tone_verdict, accent_verdict, list_crowded, list_fine, list_verdict, component_fine, component_verdict, body_verdict, record_verdict}
 
 -- a list or the end is due: after the last row, or after the last component of a list
-pub data Complete (st : Sst) : Type 0 where
+pub data Complete (st : SheetRead) : Type 0 where
   rows_done : st.last ≡ 20 → st.rows ≡ rows_due st → Complete st
   list_done : st.last ≡ 22 → st.due ≡ 0 → Complete st
 
 -- which kind is due
-pub data Due (st : Sst) : ℕ → Type 0 where
+pub data Due (st : SheetRead) : ℕ → Type 0 where
   settings : st.last ≡ 0 → Due st 17
   tone : 17 ≤ st.last → st.last ≤ 18 → Due st 18
   accent : 18 ≤ st.last → st.last ≤ 19 → Due st 19
@@ -31,7 +31,7 @@ pub data Due (st : Sst) : ℕ → Type 0 where
   component : 0 < st.due → Due st 22
   finish : Complete st → Due st 23
 
-module _ (st : Sst) where
+module _ (st : SheetRead) where
   is_complete : complete st ≡ true → Complete st
   unfolding complete
   is_complete h =
@@ -64,7 +64,7 @@ module _ (st : Sst) where
       (λ f. is_last k (rw (a, b, d, e, f) at h))))))
 
 -- at the end a list could stand too
-pub closes : (st : Sst) {k : ℕ} → k ≡ 23 → Due st k → Complete st
+pub closes : (st : SheetRead) {k : ℕ} → k ≡ 23 → Due st k → Complete st
 closes st q (settings z) = absurd (omega arith)
 closes st q (tone l u) = absurd (omega arith)
 closes st q (accent l u) = absurd (omega arith)
@@ -80,7 +80,7 @@ size_pos k =
     (λ d. split (eqb k 20) (λ e. rw (a, b, d, e) (omega arith)) (λ e. split (eqb k 21) (λ f. rw (a, b, d, e, f) (omega arith))
     (λ f. split (eqb k 22) (λ g. rw (a, b, d, e, f, g) (omega arith)) (λ g. rw (a, b, d, e, f, g) (omega arith)))))))
 
-module _ (s : List ℕ) (at : ℕ) (st : Sst) where
+module _ (s : List ℕ) (at : ℕ) (st : SheetRead) where
   pub record Sound : Type 0 where
     pub inside : at < length s
     pub whole : at + size_of (byte_at s at) ≤ length s

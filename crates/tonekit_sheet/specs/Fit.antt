@@ -5,11 +5,11 @@ use Rattle.std.specs.Float.{binary32}
 use Rattle.std.specs.Float.Ieee.{of_bits, le}
 use Rattle.std.specs.Float.Ieee.Scale.{finite}
 use Rattle.spec_pack.specs.Ranges.{above_zero, probability_fine, weight_fine}
-use Rattle.spec_lookup.specs.Source.{Settings, Tone, Accent, Carried, Source, accent_in}
+use Rattle.spec_lookup.specs.Source.{Settings, Tone, Accent, Carried, Source, accent_in, absent_tone}
 use Rattle.spec_lookup.specs.declared.Context.{Context}
 use Rattle.spec_sheet.specs.Agree.{Held}
 use Rattle.spec_sheet.specs.Reader.{point_fine}
-use Rattle.spec_sheet.specs.Sheet.{no_tone, no_accent, no_carried, view_of, lists_of}
+use Rattle.spec_sheet.specs.Sheet.{absent_accent, absent_carried, view_of, lists_of}
 
 abbrev pub Bits : ℕ → Type 0
 Bits n = n < 4294967296
@@ -64,14 +64,14 @@ pub record CarriedFit (first : Carried) (j : ℕ) (c : Carried) : Type 0 where
 pub record ListFit (src : Source) (cs : List Carried) : Type 0 where
   pub any : 1 ≤ length cs
   pub few : length cs ≤ 4
-  pub each : (j : ℕ) → j < length cs → CarriedFit (get_or cs 0 no_carried) j (get_or cs j no_carried)
-  pub owner : (a : Accent) × (accent_in src.accents (get_or cs 0 no_carried).owner ≡ some a)
-  pub least : 1 ≤ (get_or cs 0 no_carried).form
-  pub most : (get_or cs 0 no_carried).form ≤ 3
-  pub label : (get_or cs 0 no_carried).label < 65536
-  pub plain : (get_or cs 0 no_carried).form ≡ 1 → (get_or cs 0 no_carried).label ≡ 0
-  pub lone : ((get_or cs 0 no_carried).form ≡ 3 → ⊥) → length cs ≡ 1
-  pub unit : ((get_or cs 0 no_carried).form ≡ 3 → ⊥) → (get_or cs 0 no_carried).weight ≡ 0x3f80_0000
+  pub each : (j : ℕ) → j < length cs → CarriedFit (get_or cs 0 absent_carried) j (get_or cs j absent_carried)
+  pub owner : (a : Accent) × (accent_in src.accents (get_or cs 0 absent_carried).owner ≡ some a)
+  pub least : 1 ≤ (get_or cs 0 absent_carried).form
+  pub most : (get_or cs 0 absent_carried).form ≤ 3
+  pub label : (get_or cs 0 absent_carried).label < 65536
+  pub plain : (get_or cs 0 absent_carried).form ≡ 1 → (get_or cs 0 absent_carried).label ≡ 0
+  pub lone : ((get_or cs 0 absent_carried).form ≡ 3 → ⊥) → length cs ≡ 1
+  pub unit : ((get_or cs 0 absent_carried).form ≡ 3 → ⊥) → (get_or cs 0 absent_carried).weight ≡ 0x3f80_0000
 
 -- the components of lists, in all
 unfoldable pub components_in : List (List Carried) → ℕ
@@ -82,12 +82,12 @@ pub record Fit (src : Source) : Type 0 where
   pub settings : SettingsFit src.settings
   pub some_tones : 1 ≤ length src.tones
   pub few_tones : length src.tones ≤ 8
-  pub tones : (i : ℕ) → i < length src.tones → ToneFit (get_or src.tones i no_tone)
-  pub tones_once : (i j : ℕ) → i < length src.tones → j < length src.tones → (get_or src.tones i no_tone).number ≡ (get_or src.tones j no_tone).number → i ≡ j
+  pub tones : (i : ℕ) → i < length src.tones → ToneFit (get_or src.tones i absent_tone)
+  pub tones_once : (i j : ℕ) → i < length src.tones → j < length src.tones → (get_or src.tones i absent_tone).number ≡ (get_or src.tones j absent_tone).number → i ≡ j
   pub some_accents : 1 ≤ length src.accents
   pub few_accents : length src.accents ≤ 8
-  pub accents : (i : ℕ) → i < length src.accents → AccentFit (get_or src.accents i no_accent)
-  pub accents_once : (i j : ℕ) → i < length src.accents → j < length src.accents → (get_or src.accents i no_accent).number ≡ (get_or src.accents j no_accent).number → i ≡ j
+  pub accents : (i : ℕ) → i < length src.accents → AccentFit (get_or src.accents i absent_accent)
+  pub accents_once : (i j : ℕ) → i < length src.accents → j < length src.accents → (get_or src.accents i absent_accent).number ≡ (get_or src.accents j absent_accent).number → i ≡ j
   pub lists : (c : Context) (cs : List Carried) → Held src c → src.look c ≡ some cs → ListFit src cs
   pub few_lists : length (lists_of (view_of src)) ≤ 128
   pub few_components : components_in (lists_of (view_of src)) ≤ 192

@@ -6,11 +6,11 @@ use Rattle.tonekit_core.specs.declared.layout.TheConstants.{F32_SIZE, SHEET_ROW_
 use Rattle.spec_arithmetic.specs.Fields.{byte_at, f32_at, le32}
 use Rattle.spec_arithmetic.specs.Places.{number_at}
 use Rattle.spec_pack.specs.Pack.{holds, zero_or_held}
-use Rattle.spec_lookup.specs.Source.{Carried}
+use Rattle.spec_lookup.specs.Source.{Carried, absent_tone}
 use Rattle.spec_lookup.specs.declared.Context.{Context}
 use Rattle.spec_sheet.specs.Number.{same_by, noted, number_in}
-use Rattle.spec_sheet.specs.Sheet.{View, no_tone, no_accent, row_context, tone_bytes, accent_bytes, row_bytes, bits_bytes, list_bytes, lists_of, bytes_with}
-use Rattle.spec_sheet.specs.Reader.{Sst, point_fine, row_at, row_due, row_names, named, same_lists, repeated}
+use Rattle.spec_sheet.specs.Sheet.{View, absent_accent, row_context, tone_bytes, accent_bytes, row_bytes, bits_bytes, list_bytes, lists_of, bytes_with}
+use Rattle.spec_sheet.specs.Reader.{SheetRead, point_fine, row_at, row_due, row_names, named, same_lists, repeated}
 
 abbrev pub point_turn : List ℕ → ℕ → ℕ → Bool → Bool
 point_turn s o k ok = ok && point_fine (f32_at s (o + F32_SIZE * k))
@@ -19,12 +19,12 @@ point_turn s o k ok = ok && point_fine (f32_at s (o + F32_SIZE * k))
 abbrev pub row_fine : List ℕ → ℕ → Bool
 row_fine s o = not (eqb (byte_at s (o + SHEET_ROW_ACCENT)) 0) && not (eqb (byte_at s (o + SHEET_ROW_TONE)) 0)
 
-abbrev pub row_held : List ℕ → ℕ → Sst → Bool
+abbrev pub row_held : List ℕ → ℕ → SheetRead → Bool
 row_held s o st =
     holds s st.accents (byte_at s (o + SHEET_ROW_ACCENT))
     && (holds s st.tones (byte_at s (o + SHEET_ROW_TONE)) && zero_or_held s st.tones (byte_at s (o + SHEET_ROW_PREV)))
 
-abbrev pub loose_turn : List ℕ → Sst → ℕ → ℕ → Turn ℕ (Option ℕ)
+abbrev pub loose_turn : List ℕ → SheetRead → ℕ → ℕ → Turn ℕ (Option ℕ)
 loose_turn s st r u =
     cond
     (zero_or_held s st.lists (byte_at s (row_at st r + SHEET_ROW_LIST))
@@ -32,18 +32,18 @@ loose_turn s st r u =
     (next u)
     (stop (Some (row_at st r)))
 
-abbrev pub accent_turn : List ℕ → Sst → ℕ → ℕ → Turn ℕ (Option ℕ)
+abbrev pub accent_turn : List ℕ → SheetRead → ℕ → ℕ → Turn ℕ (Option ℕ)
 accent_turn s st i before =
     let n = number_at s (get_or st.accents i 0) in
     cond (ltb before n) (next n) (stop (Some (get_or st.accents i 0)))
 
-abbrev pub row_turn : List ℕ → Sst → ℕ → ℕ → Turn ℕ (Option ℕ)
+abbrev pub row_turn : List ℕ → SheetRead → ℕ → ℕ → Turn ℕ (Option ℕ)
 row_turn s st r m =
     cond (row_due s st r && row_names s st r m)
     (next (max (max m (byte_at s (row_at st r + SHEET_ROW_LIST))) (byte_at s (row_at st r + SHEET_ROW_FINAL_LIST))))
     (stop (Some (row_at st r)))
 
-abbrev pub names_turn : List ℕ → Sst → ℕ → ℕ → Bool → Bool
+abbrev pub names_turn : List ℕ → SheetRead → ℕ → ℕ → Bool → Bool
 names_turn s st n r used = used || (eqb (byte_at s (row_at st r + SHEET_ROW_LIST)) n || eqb (byte_at s (row_at st r + SHEET_ROW_FINAL_LIST)) n)
 
 abbrev pub same_turn : List ℕ → ℕ → ℕ → ℕ → Bool → Bool
@@ -52,7 +52,7 @@ same_turn s a b k ok = ok && eqb (byte_at s (a + k)) (byte_at s (b + k))
 abbrev pub equal_turn : List ℕ → List ℕ → ℕ → ℕ → Bool → Bool
 equal_turn s lists o i hit = hit || same_lists s o (get_or lists i 0)
 
-abbrev pub list_turn : List ℕ → Sst → ℕ → ℕ → Turn ℕ (Option ℕ)
+abbrev pub list_turn : List ℕ → SheetRead → ℕ → ℕ → Turn ℕ (Option ℕ)
 list_turn s st i u =
     let o = get_or st.lists i 0 in
     cond (eqb (number_at s o) (i + 1) && (named s st (i + 1) && not (repeated s st.lists i o)))
@@ -63,10 +63,10 @@ abbrev pub note_turn : View → ℕ → List (List Carried) → List (List Carri
 note_turn v r lists = noted (noted lists (v.row r false)) (v.row r true)
 
 abbrev pub tone_piece : View → ℕ → List ℕ
-tone_piece v i = tone_bytes (get_or v.tones i no_tone)
+tone_piece v i = tone_bytes (get_or v.tones i absent_tone)
 
 abbrev pub accent_piece : View → ℕ → List ℕ
-accent_piece v i = accent_bytes (get_or v.accents i no_accent)
+accent_piece v i = accent_bytes (get_or v.accents i absent_accent)
 
 abbrev pub row_piece : View → List (List Carried) → ℕ → List ℕ
 row_piece v lists r = row_bytes (row_context v.tones v.accents r false) (number_in lists (v.row r false)) (number_in lists (v.row r true))
@@ -84,7 +84,7 @@ abbrev pub bytes_of : View → List ℕ
 bytes_of v = bytes_with v (lists_of v)
 
 -- the row of an accent, a tone and what stood before it, and the place of the list number in it
-abbrev pub row_place : Sst → ℕ → ℕ → ℕ → ℕ
+abbrev pub row_place : SheetRead → ℕ → ℕ → ℕ → ℕ
 row_place st a t p = (a * length st.tones + t) * (length st.tones + 1) + p
 
 abbrev pub final_place : Context → ℕ

@@ -10,9 +10,9 @@ use Rattle.spec_pack.specs.Ranges.{above_zero, region_fine, tolerances_fine}
 use Rattle.spec_pack.specs.Pack.{PackRead}
 use Rattle.tonekit_core.proofs.Split.{split, both}
 use Rattle.tonekit_pack.proofs.Loads.{ToneFine, AccentFine, Loads, tones_once, accents_once}
-use Rattle.spec_lookup.specs.Source.{Tone, Accent, settings_at, tone_at, accent_at, accent_in}
+use Rattle.spec_lookup.specs.Source.{Tone, Accent, settings_at, tone_at, accent_at, accent_in, absent_tone}
 use Rattle.spec_sheet.specs.Agree.{Bytes}
-use Rattle.spec_sheet.specs.Sheet.{no_tone, no_accent}
+use Rattle.spec_sheet.specs.Sheet.{absent_accent}
 use Rattle.tonekit_sheet.specs.Fit.{SettingsFit, region_fits, ToneFit, AccentFit}
 
 module _ (s : List ℕ) (b : Bytes s) where
@@ -62,15 +62,15 @@ module _ (s : List ℕ) (b : Bytes s) where
         let t = l.kept.begun (omega arith) in
         record { temperature_bits = u32_below s b 1; threshold_bits = u32_below s b 5; temperature = t.1; threshold = t.2 }
 
-    pub tones_fit : (i : ℕ) → i < length (map (tone_at 47 s) st.tones) → ToneFit (get_or (map (tone_at 47 s) st.tones) i no_tone)
+    pub tones_fit : (i : ℕ) → i < length (map (tone_at 47 s) st.tones) → ToneFit (get_or (map (tone_at 47 s) st.tones) i absent_tone)
     tones_fit i h =
         let g : i < length st.tones = omega (arith, length-map st.tones (tone_at 47 s)) in
-        rw (get_or-map (tone_at 47 s) st.tones i 0 no_tone g) (tone_fits _ (get_or st.tones i 0) (l.kept.tones i g))
+        rw (get_or-map (tone_at 47 s) st.tones i 0 absent_tone g) (tone_fits _ (get_or st.tones i 0) (l.kept.tones i g))
 
-    pub accents_fit : (i : ℕ) → i < length (map (accent_at 3 s) st.accents) → AccentFit (get_or (map (accent_at 3 s) st.accents) i no_accent)
+    pub accents_fit : (i : ℕ) → i < length (map (accent_at 3 s) st.accents) → AccentFit (get_or (map (accent_at 3 s) st.accents) i absent_accent)
     accents_fit i h =
         let g : i < length st.accents = omega (arith, length-map st.accents (accent_at 3 s)) in
-        rw (get_or-map (accent_at 3 s) st.accents i 0 no_accent g) (accent_fits _ (get_or st.accents i 0) (l.kept.accents i g))
+        rw (get_or-map (accent_at 3 s) st.accents i 0 absent_accent g) (accent_fits _ (get_or st.accents i 0) (l.kept.accents i g))
 
 -- no two places of which the higher repeats the lower
 apart : (n : ℕ) (f : ℕ → ℕ) → ((i j : ℕ) → i < j → j < n → f i ≡ f j → ⊥) → (i j : ℕ) → i < n → j < n → f i ≡ f j → i ≡ j
@@ -81,22 +81,22 @@ apart n f h i j a b e =
 
 module _ (s : List ℕ) (st : PackRead) (e : ℕ) (l : Loads s st e) where
   pub tones_apart : (i j : ℕ) → i < length (map (tone_at 47 s) st.tones) → j < length (map (tone_at 47 s) st.tones)
-      → (get_or (map (tone_at 47 s) st.tones) i no_tone).number ≡ (get_or (map (tone_at 47 s) st.tones) j no_tone).number → i ≡ j
+      → (get_or (map (tone_at 47 s) st.tones) i absent_tone).number ≡ (get_or (map (tone_at 47 s) st.tones) j absent_tone).number → i ≡ j
   tones_apart i j h k q =
       let n = length-map st.tones (tone_at 47 s) in
       let g : i < length st.tones = omega arith in
       let m : j < length st.tones = omega arith in
       apart (length st.tones) (λ i. number_at s (get_or st.tones i 0)) (tones_once s st e l) i j g m
-      (sym (ap (λ (t : Tone). t.number) (get_or-map (tone_at 47 s) st.tones i 0 no_tone g)) ∙ q ∙ ap (λ (t : Tone). t.number) (get_or-map (tone_at 47 s) st.tones j 0 no_tone m))
+      (sym (ap (λ (t : Tone). t.number) (get_or-map (tone_at 47 s) st.tones i 0 absent_tone g)) ∙ q ∙ ap (λ (t : Tone). t.number) (get_or-map (tone_at 47 s) st.tones j 0 absent_tone m))
 
   pub accents_apart : (i j : ℕ) → i < length (map (accent_at 3 s) st.accents) → j < length (map (accent_at 3 s) st.accents)
-      → (get_or (map (accent_at 3 s) st.accents) i no_accent).number ≡ (get_or (map (accent_at 3 s) st.accents) j no_accent).number → i ≡ j
+      → (get_or (map (accent_at 3 s) st.accents) i absent_accent).number ≡ (get_or (map (accent_at 3 s) st.accents) j absent_accent).number → i ≡ j
   accents_apart i j h k q =
       let n = length-map st.accents (accent_at 3 s) in
       let g : i < length st.accents = omega arith in
       let m : j < length st.accents = omega arith in
       apart (length st.accents) (λ i. number_at s (get_or st.accents i 0)) (accents_once s st e l) i j g m
-      (sym (ap (λ (a : Accent). a.number) (get_or-map (accent_at 3 s) st.accents i 0 no_accent g)) ∙ q ∙ ap (λ (a : Accent). a.number) (get_or-map (accent_at 3 s) st.accents j 0 no_accent m))
+      (sym (ap (λ (a : Accent). a.number) (get_or-map (accent_at 3 s) st.accents i 0 absent_accent g)) ∙ q ∙ ap (λ (a : Accent). a.number) (get_or-map (accent_at 3 s) st.accents j 0 absent_accent m))
 
 -- an accent's number is held
 pub accent_there : (s os : List ℕ) (i : ℕ) → i < length os → (a : Accent) × (accent_in (map (accent_at 3 s) os) (number_at s (get_or os i 0)) ≡ some a)

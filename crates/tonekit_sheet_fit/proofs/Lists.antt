@@ -17,7 +17,7 @@ use Rattle.spec_lookup.specs.Source.{Accent, Carried, carried, carried_of, accen
 use Rattle.tonekit_expect.proofs.Curves.{points_fine_lem}
 use Rattle.tonekit_expect.proofs.Carried.{named, part_number, citation_weight, components_length, components_at, carried_ten}
 use Rattle.spec_sheet.specs.Agree.{Bytes}
-use Rattle.spec_sheet.specs.Sheet.{no_carried}
+use Rattle.spec_sheet.specs.Sheet.{absent_carried}
 use Rattle.tonekit_sheet.specs.Fit.{CarriedFit, ListFit}
 use Rattle.tonekit_sheet_fit.proofs.Bits.{weight_again, carried_bits, carried_fine}
 use Rattle.tonekit_sheet_fit.proofs.Drawn.{Drawn, ruled, cited, accent_of, list_of, drawn}
@@ -90,8 +90,8 @@ module _ (s : List ℕ) (b : Bytes s) (st : PackRead) (e : ℕ) (p : read_pack s
     fine : Fine s st.accents m
     fine = drawn_fine s b st e (loads s st e p) m (drawn s st e (loads s st e p) c m q)
 
-    at : (j : ℕ) → j < m.count → get_or (list_of s m) j no_carried ≡ carried (component_of s m j)
-    at j h = components_at s m no_carried m.count j h
+    at : (j : ℕ) → j < m.count → get_or (list_of s m) j absent_carried ≡ carried (component_of s m j)
+    at j h = components_at s m absent_carried m.count j h
 
     carried_fits : (j : ℕ) → j < m.count → CarriedFit (carried (component_of s m 0)) j (carried (component_of s m j))
     carried_fits j h =

@@ -6,7 +6,7 @@ use Rattle.spec_arithmetic.specs.Fields.{byte_at}
 use Rattle.tonekit_core.proofs.Split.{split}
 use Rattle.tonekit_pack.proofs.Each.{Each, each_snoc}
 use Rattle.spec_arithmetic.specs.Files.{loaded}
-use Rattle.spec_sheet.specs.Reader.{Sst, size_of, body_verdict, added, sheet_reader, read_sheet}
+use Rattle.spec_sheet.specs.Reader.{SheetRead, size_of, body_verdict, added, sheet_reader, read_sheet}
 use Rattle.tonekit_core.specs.declared.Refusal.TheVariants.{CutShort}
 use Rattle.tonekit_sheet.proofs.Records.{Due, settings, tone, accent, row, list, component, finish, sound, tone_room, list_room}
 use Rattle.tonekit_sheet.proofs.Turns.{finished_is}
@@ -16,11 +16,11 @@ abbrev Short : List ℕ → List ℕ → ℕ → Type 0
 Short s before o = byte_at s (o + 6) ≤ 4
 
 -- of the tones and lists read so far
-record Fews (s : List ℕ) (st : Sst) : Type 0 where
+record Fews (s : List ℕ) (st : SheetRead) : Type 0 where
   tones : length st.tones ≤ 8
   lists : Each (Short s) st.lists
 
-module _ (s : List ℕ) (at : ℕ) (st : Sst) where
+module _ (s : List ℕ) (at : ℕ) (st : SheetRead) where
   keep : {k : ℕ} (count : ℕ) → Due st k → body_verdict k s at st ≡ Ok tt → Fews s st → Fews s (added k at count st)
   unfolding added
   keep count (settings z) b p = record { tones = p.tones; lists = p.lists }
@@ -31,7 +31,7 @@ module _ (s : List ℕ) (at : ℕ) (st : Sst) where
   keep count (component d) b p = record { tones = p.tones; lists = p.lists }
   keep count (finish c) b p = record { tones = p.tones; lists = p.lists }
 
-module _ (s : List ℕ) (st : Sst) (e : ℕ) (h : read_sheet s ≡ loaded st e) where
+module _ (s : List ℕ) (st : SheetRead) (e : ℕ) (h : read_sheet s ≡ loaded st e) where
   few : Fews s st
   unfolding read_sheet
   few =

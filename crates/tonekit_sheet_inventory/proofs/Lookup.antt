@@ -9,18 +9,18 @@ use Rattle.spec_lookup.specs.declared.Context.{Context}
 use Rattle.std.specs.Prelude.{Some, None}
 use Rattle.tonekit_expect.proofs.Walk.{index_found}
 use Rattle.spec_arithmetic.specs.Files.{Out, loaded, refused}
-use Rattle.spec_sheet.specs.Reader.{Sst, row_at, read_sheet}
+use Rattle.spec_sheet.specs.Reader.{SheetRead, row_at, read_sheet}
 use Rattle.spec_sheet.specs.FromSheet.{list_numbered, prev_found, look_sheet}
 use Rattle.tonekit_sheet.specs.Parts.{row_place, final_place}
 use Rattle.tonekit_sheet_read.specs.declared.Sheet.{Sheet}
 use Rattle.tonekit_sheet_read.specs.Held.{shown}
 use Rattle.tonekit_bytes.proofs.Stepped.{stepped_length}
 use Rattle.tonekit_sheet_inverse.proofs.Loads.{reads}
-use Rattle.tonekit_sheet_inventory.specs.Look.{list_place, sheet_in, Placed, told, ShortList, Looks}
+use Rattle.tonekit_sheet_inventory.specs.Look.{list_place, sheet_in, ListPlace, list_given, ShortList, Looks}
 use Rattle.tonekit_sheet_inventory.proofs.Few.{lists_few}
 
 -- ---- what stood before
-module _ (s : List ℕ) (st : Sst) (n : ℕ) where
+module _ (s : List ℕ) (st : SheetRead) (n : ℕ) where
   pub prev_inside : (p : ℕ) → prev_found s st n ≡ Some p → p ≤ length st.tones
   prev_inside p e =
       split (eqb n 0)
@@ -54,18 +54,18 @@ pub record ReadFrom (s : List ℕ) (p : Sheet) : Type 0 where
   pub end : ℕ
   pub reads : read_sheet s ≡ loaded (shown p) end
 
-pub read_from : (s : List ℕ) (p : Sheet) (o : Out Sst) → read_sheet s ≡ o → sheet_in o ≡ Some (shown p) → ReadFrom s p
-read_from s p (loaded st e) q h = let is : st ≡ shown p = cc in record { end = e; reads = q ∙ ap (λ (x : Sst). loaded x e) is }
+pub read_from : (s : List ℕ) (p : Sheet) (o : Out SheetRead) → read_sheet s ≡ o → sheet_in o ≡ Some (shown p) → ReadFrom s p
+read_from s p (loaded st e) q h = let is : st ≡ shown p = cc in record { end = e; reads = q ∙ ap (λ (x : SheetRead). loaded x e) is }
 read_from s p (refused r place) q h = let n : ◌≡◌ {A = ℕ} 0 1 = cc in absurd (omega arith)
 
 -- ---- the ways
 pub not_there : {P : Type 0} (o : ℕ) → None ≡ Some o → P
 not_there o h = let z : ◌≡◌ {A = ℕ} 0 1 = cc in absurd (omega arith)
 
-pub nothing : (s : List ℕ) (st : Sst) (c : Context) → look_sheet s st c ≡ none → Looks s st c None
+pub nothing : (s : List ℕ) (st : SheetRead) (c : Context) → look_sheet s st c ≡ none → Looks s st c None
 nothing s st c e = record { is = e; list = λ o q. not_there o q }
 
-module _ (s : List ℕ) (st : Sst) (c : Context) where
+module _ (s : List ℕ) (st : SheetRead) (c : Context) where
   pub no_accent : index_of s st.accents c.accent ≡ None → look_sheet s st c ≡ none
   unfolding look_sheet
   no_accent e = rw e
@@ -86,23 +86,23 @@ module _ (s : List ℕ) (st : Sst) (c : Context) where
         number_is = rw (ea, et, ep)
 
 -- ---- the list of a number
-place_told : (s : List ℕ) (st : Sst) (n : ℕ) → list_numbered s st n ≡ told s (list_place st n)
+place_told : (s : List ℕ) (st : SheetRead) (n : ℕ) → list_numbered s st n ≡ list_given s (list_place st n)
 place_told s st zero = refl
 place_told s st (suc i) = refl
 
-pub place_is : (st : Sst) (n : ℕ) → (n ≡ 0 → ⊥) → Some (get_or st.lists (n - 1) 0) ≡ list_place st n
+pub place_is : (st : SheetRead) (n : ℕ) → (n ≡ 0 → ⊥) → Some (get_or st.lists (n - 1) 0) ≡ list_place st n
 place_is st zero h = absurd (h refl)
 place_is st (suc i) h = rw sub-one refl
 
-module _ (s : List ℕ) (st : Sst) (e : ℕ) (h : read_sheet s ≡ loaded st e) where
+module _ (s : List ℕ) (st : SheetRead) (e : ℕ) (h : read_sheet s ≡ loaded st e) where
   short : (n o : ℕ) → n ≤ length st.lists → list_place st n ≡ Some o → o < 65536 → ShortList s o
   short zero o l q b = not_there o q
   short (suc i) o l q b =
       let w : get_or st.lists i 0 ≡ o = cc in
       rw (← w) (record { some = ((reads s st e h).lists i l).some; few = lists_few s st e h i l; near = rw w b })
 
-  pub looked : (c : Context) (n : ℕ) (f : Option ℕ) → look_sheet s st c ≡ list_numbered s st n → n ≤ length st.lists → Placed st n f → Looks s st c f
+  pub looked : (c : Context) (n : ℕ) (f : Option ℕ) → look_sheet s st c ≡ list_numbered s st n → n ≤ length st.lists → ListPlace st n f → Looks s st c f
   looked c n f e l p = record {
-    is = e ∙ place_told s st n ∙ ap (told s) (sym p.is);
+    is = e ∙ place_told s st n ∙ ap (list_given s) (sym p.is);
     list = λ o q. short n o l (sym p.is ∙ q) (p.near o q);
   }

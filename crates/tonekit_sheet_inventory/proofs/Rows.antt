@@ -5,7 +5,7 @@ use Rattle.tonekit_core.proofs.Split.{split}
 use Rattle.spec_lookup.specs.declared.Context.{Context}
 use Rattle.spec_sheet.specs.Sheet.{row_count}
 use Rattle.spec_arithmetic.specs.Files.{loaded}
-use Rattle.spec_sheet.specs.Reader.{Sst, row_at, read_sheet}
+use Rattle.spec_sheet.specs.Reader.{SheetRead, row_at, read_sheet}
 use Rattle.tonekit_sheet.specs.Parts.{row_place, final_place}
 use Rattle.tonekit_sheet.proofs.RowPlaces.{rows_few}
 use Rattle.tonekit_sheet_inverse.proofs.Loads.{reads}
@@ -27,7 +27,7 @@ module _ (accents tones a t p : ℕ) (ha : a < accents) (ht : t < tones) (hp : p
   pub tones_few : accents ≤ 8 → tones ≤ 8 → a * tones + t < 576
   tones_few x y = omega (arith, row_few x y)
 
-module _ (s : List ℕ) (st : Sst) (e : ℕ) (h : read_sheet s ≡ loaded st e) where
+module _ (s : List ℕ) (st : SheetRead) (e : ℕ) (h : read_sheet s ≡ loaded st e) where
   pub number_held : (c : Context) (a t p : ℕ) → a < length st.accents → t < length st.tones → p ≤ length st.tones
       → byte_at s (row_at st (row_place st a t p) + final_place c) ≤ length st.lists
   number_held c a t p ha ht hp =

@@ -11,7 +11,7 @@ use Rattle.tonekit_inventory.specs.Fields.{slot_of}
 use Rattle.tonekit_inventory.proofs.Going.{first_named}
 use Rattle.tonekit_inventory.proofs.Slots.{run_none, run_more}
 use Rattle.spec_sheet.specs.FromSheet.{bits_at, carried_at, carried_from}
-use Rattle.spec_sheet.specs.Sheet.{no_carried}
+use Rattle.spec_sheet.specs.Sheet.{absent_carried}
 use Rattle.tonekit_sheet_inverse.proofs.Pieces.{carried_length}
 use Rattle.tonekit_sheet_inventory.specs.Look.{name_at}
 
@@ -40,13 +40,13 @@ module _ (s : List ℕ) (o : ℕ) where
   slot_is j = refl
 
   -- ---- the name
-  first_is : (n : ℕ) → get_or (carried_from s o (suc n)) 0 no_carried ≡ carried_at s o 0
+  first_is : (n : ℕ) → get_or (carried_from s o (suc n)) 0 absent_carried ≡ carried_at s o 0
   unfolding carried_from
   first_is zero = refl
   first_is (suc n) =
-      get_or-append (carried_from s o (suc n)) (carried_at s o (suc n) ∷ []) no_carried 0 (omega (arith, carried_length s o (suc n))) ∙ first_is n
+      get_or-append (carried_from s o (suc n)) (carried_at s o (suc n) ∷ []) absent_carried 0 (omega (arith, carried_length s o (suc n))) ∙ first_is n
 
-  first_of : (n : ℕ) → 1 ≤ n → get_or (carried_from s o n) 0 no_carried ≡ carried_at s o 0
+  first_of : (n : ℕ) → 1 ≤ n → get_or (carried_from s o n) 0 absent_carried ≡ carried_at s o 0
   first_of zero h = absurd (omega arith)
   first_of (suc n) h = first_is n
 
@@ -54,7 +54,7 @@ module _ (s : List ℕ) (o : ℕ) where
   unfolding name_at carried_at
   list_named h =
       let n = byte_at s (o + 6) in
-      first_named (carried_from s o n) no_carried (rw (carried_length s o n) h)
+      first_named (carried_from s o n) absent_carried (rw (carried_length s o n) h)
       ∙ rw (carried_length s o n, first_of n h)
 
 -- ---- the slots of a tone, of a list's run of components

@@ -5,10 +5,10 @@ use Rattle.std.proofs.lemmas.List.{length-map}
 use Rattle.tonekit_core.specs.Layout.{sheet_tone_at}
 use Rattle.spec_arithmetic.specs.Fields.{byte_at, f32_at}
 use Rattle.tonekit_inventory.specs.Fields.{region_at}
-use Rattle.spec_judgement.specs.Gather.{region_of, entry_of, absent_tone}
+use Rattle.spec_judgement.specs.Gather.{region_of, entry_of}
 use Rattle.std.proofs.lemmas.List.{get_or-map}
 use Rattle.spec_sheet.specs.FromSheet.{source_of_sheet}
-use Rattle.spec_lookup.specs.Source.{tone_at}
+use Rattle.spec_lookup.specs.Source.{tone_at, absent_tone}
 use Rattle.tonekit_sheet_read.specs.declared.Sheet.{Sheet}
 use Rattle.tonekit_bytes.specs.Places.{stepped}
 use Rattle.tonekit_bytes.proofs.Stepped.{stepped_length, stepped_get}

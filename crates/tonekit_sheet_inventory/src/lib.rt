@@ -11,7 +11,7 @@ ghost use Rattle.spec_sheet.specs.Reader.{row_at, read_sheet};
 ghost use Rattle.spec_sheet.specs.FromSheet.{bits_at, prev_found, carried_from};
 ghost use Rattle.tonekit_sheet.specs.Parts.{row_place, final_place};
 ghost use Rattle.tonekit_sheet_read.specs.Held.{shown};
-ghost use Rattle.tonekit_sheet_inventory.specs.Look.{source_in, load_source, sheet_in, Placed, ShortList, Looks, name_at};
+ghost use Rattle.tonekit_sheet_inventory.specs.Look.{source_in, load_source, sheet_in, ListPlace, ShortList, Looks, name_at};
 
 use spec_judgement::{Settings, Slot, Slots, Tolerance, ToneEntry, ToneListing};
 use tonekit_bytes::{byte_at, f32_at, u16_at};
@@ -73,7 +73,7 @@ impl HeldSheet<'_> {
     // The offset of the list with a number, of at most as many as there are.
     fn list_place(&self, number: u8) -> Option<usize>
         requires { number ≤ self.now.view.sheet.lists.count }
-        ensures { Placed (shown self.now.view.sheet) number result }
+        ensures { ListPlace (shown self.now.view.sheet) number result }
     {
         if number == 0 {
             return None;

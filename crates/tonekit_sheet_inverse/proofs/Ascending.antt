@@ -4,11 +4,11 @@ use mathlib.Core.Option.{some}
 use borrow.Author.Tests.{eqb-false}
 use Rattle.tonekit_core.proofs.Split.{split}
 use Rattle.spec_lookup.specs.Source.{Accent, accent_in}
-use Rattle.spec_sheet.specs.Sheet.{or_skip, asc_from, ascending, no_accent}
+use Rattle.spec_sheet.specs.Sheet.{or_skip, asc_from, ascending, absent_accent}
 use Rattle.tonekit_sheet_laws.proofs.Ascending.{accent_none, asc_none}
 
 abbrev pub number_of : List Accent → ℕ → ℕ
-number_of l i = (get_or l i no_accent).number
+number_of l i = (get_or l i absent_accent).number
 
 in_skip : (a : Accent) (l : List Accent) (n : ℕ) → (a.number ≡ n → ⊥) → accent_in (a ∷ l) n ≡ accent_in l n
 unfolding accent_in

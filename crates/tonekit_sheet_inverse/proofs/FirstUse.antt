@@ -8,7 +8,7 @@ use Rattle.tonekit_core.proofs.LoopLaws.{range_done, range_keeps}
 use Rattle.tonekit_core.proofs.Split.{split}
 use Rattle.spec_lookup.specs.Source.{Carried}
 use Rattle.spec_sheet.specs.Number.{seen_in, place_in, noted, number_in}
-use Rattle.spec_sheet.specs.Reader.{Sst}
+use Rattle.spec_sheet.specs.Reader.{SheetRead}
 use Rattle.spec_sheet.specs.FromSheet.{list_numbered}
 use Rattle.tonekit_sheet_laws.proofs.Loops.{range_last}
 use Rattle.tonekit_sheet_laws.proofs.Numbers.{seen_here, place_below, place_get, Once, place_once}
@@ -16,7 +16,7 @@ use Rattle.tonekit_sheet_inverse.proofs.Order.{first_list, final_list, most_turn
 use Rattle.tonekit_sheet_inverse.proofs.Pieces.{content_at}
 
 -- ---- the greatest number along the rows
-module _ (s : List ℕ) (st : Sst) where
+module _ (s : List ℕ) (st : SheetRead) where
   grows : (k r : ℕ) → greatest s st r ≤ greatest s st (r + k)
   grows zero r = let e : r + 0 ≡ r = omega arith in rw e (omega arith)
   grows (suc k) r =
@@ -46,7 +46,7 @@ module _ (s : List ℕ) (st : Sst) where
           omega (arith, named_below u.0 (i + 1) u.1 u.2)
 
 -- what list i carries, and what the first n of them do
-module _ (s : List ℕ) (st : Sst) where
+module _ (s : List ℕ) (st : SheetRead) where
   abbrev pub content : ℕ → List Carried
   content i = content_at s (get_or st.lists i 0)
 
@@ -70,7 +70,7 @@ module _ (s : List ℕ) (st : Sst) where
       ap (λ (k : ℕ). get_or (contents n ++ (content n ∷ [])) k []) e ∙ get_or-append_seam (contents n) (content n) [] [] ∙ ap content (sym q))
 
 -- no two lists carry the same
-module _ (s : List ℕ) (st : Sst) (different : (i j : ℕ) → j < i → i < length st.lists → content s st i ≡ content s st j → ⊥) where
+module _ (s : List ℕ) (st : SheetRead) (different : (i j : ℕ) → j < i → i < length st.lists → content s st i ≡ content s st j → ⊥) where
   contents_seen : (n i : ℕ) → i < n → seen_in (content s st i) (contents s st n) ≡ true
   contents_seen n i h = rw (contents_get s st n i h) at (seen_here (contents s st n) i (omega (arith, contents_length s st n)))
 

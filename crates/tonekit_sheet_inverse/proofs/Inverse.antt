@@ -4,12 +4,12 @@ use Rattle.std.proofs.Common.{ℕ, ◌+◌, ◌*◌, ◌<◌, ◌≡◌, refl, s
 use lib.ListN.{length-map}
 use Rattle.spec_arithmetic.specs.Places.{number_at}
 use Rattle.tonekit_core.proofs.Split.{absurd_bool}
-use Rattle.spec_lookup.specs.Source.{Tone, Accent, settings_at, tone_at, accent_at}
+use Rattle.spec_lookup.specs.Source.{Tone, Accent, settings_at, tone_at, accent_at, absent_tone}
 use Rattle.spec_sheet.specs.Agree.{Bytes}
 use Rattle.spec_sheet.specs.Pieces.{gather}
 use Rattle.spec_sheet.specs.Number.{number_in}
-use Rattle.spec_sheet.specs.Sheet.{ascending, no_tone, no_accent, row_context, View, view_of, rows_of, lists_of, tone_bytes, accent_bytes, list_bytes, bytes_with, sheet}
-use Rattle.spec_sheet.specs.Reader.{Sst, row_at, list_size, load_sheet}
+use Rattle.spec_sheet.specs.Sheet.{ascending, absent_accent, row_context, View, view_of, rows_of, lists_of, tone_bytes, accent_bytes, list_bytes, bytes_with, sheet}
+use Rattle.spec_sheet.specs.Reader.{SheetRead, row_at, list_size, load_sheet}
 use Rattle.spec_arithmetic.specs.Files.{loaded}
 use Rattle.spec_sheet.specs.FromSheet.{look_sheet, source_of_sheet}
 use Rattle.tonekit_sheet_inverse.proofs.Place.{rows_from, list_place, lists_from}
@@ -23,19 +23,19 @@ use Rattle.tonekit_sheet_inverse.proofs.Pieces.{ListIs, settings_spans, tone_spa
 use Rattle.tonekit_sheet_inverse.proofs.FirstUse.{content, contents, contents_length, contents_get, number_is, lists_are}
 
 -- what the sheet of a source is made of, where the source is what a sheet holds: its accents stand in order already
-abbrev tones_of : List ℕ → Sst → List Tone
+abbrev tones_of : List ℕ → SheetRead → List Tone
 tones_of s st = map (tone_at 6 s) st.tones
 
-abbrev accents_of : List ℕ → Sst → List Accent
+abbrev accents_of : List ℕ → SheetRead → List Accent
 accents_of s st = map (accent_at 2 s) st.accents
 
-abbrev view_at : List ℕ → Sst → View
+abbrev view_at : List ℕ → SheetRead → View
 view_at s st = record { settings = settings_at s 0; tones = tones_of s st; accents = accents_of s st; row = λ r last. look_sheet s st (row_context (tones_of s st) (accents_of s st) r last) }
 
-module _ (s : List ℕ) (b : Bytes s) (st : Sst) (e : ℕ) (l : Loads s st e) (o : Ordered s st) where
+module _ (s : List ℕ) (b : Bytes s) (st : SheetRead) (e : ℕ) (l : Loads s st e) (o : Ordered s st) where
   -- ---- the view
   accent_number : (i : ℕ) → i < length st.accents → number_of (accents_of s st) i ≡ accent_number_of s st i
-  accent_number i h = ap (λ (a : Accent). a.number) (get_or-map (accent_at 2 s) st.accents i 0 no_accent h)
+  accent_number i h = ap (λ (a : Accent). a.number) (get_or-map (accent_at 2 s) st.accents i 0 absent_accent h)
 
   accents_stand : ascending (accents_of s st) ≡ accents_of s st
   accents_stand =
@@ -72,7 +72,7 @@ module _ (s : List ℕ) (b : Bytes s) (st : Sst) (e : ℕ) (l : Loads s st e) (o
       (gather_spans s (tone_piece (view_at s st)) (λ i. 9 + 15 * i) (length st.tones)
       (λ i h. let t = l.tones i h in
       let x : Spans s (get_or st.tones i 0) (9 + 15 * (i + 1)) (tone_bytes (tone_at 6 s (get_or st.tones i 0))) = tone_spans s b (get_or st.tones i 0) (9 + 15 * (i + 1)) (omega (arith, t.place)) t.kind in
-      rw (get_or-map (tone_at 6 s) st.tones i 0 no_tone h, ← t.place) x)
+      rw (get_or-map (tone_at 6 s) st.tones i 0 absent_tone h, ← t.place) x)
       9 (9 + 15 * length st.tones) refl refl)
 
   accents_span : Spans s (9 + 15 * length st.tones) (rows_from st) (gather (accent_piece (view_at s st)) 0 (length (accents_of s st)))
@@ -83,7 +83,7 @@ module _ (s : List ℕ) (b : Bytes s) (st : Sst) (e : ℕ) (l : Loads s st e) (o
       (λ i h. let a = l.accents i h in
       let x : Spans s (get_or st.accents i 0) (9 + 15 * t + 18 * (i + 1)) (accent_bytes (accent_at 2 s (get_or st.accents i 0))) =
       accent_spans s b (get_or st.accents i 0) (9 + 15 * t + 18 * (i + 1)) (omega (arith, a.place)) a.kind in
-      rw (get_or-map (accent_at 2 s) st.accents i 0 no_accent h, ← a.place) x)
+      rw (get_or-map (accent_at 2 s) st.accents i 0 absent_accent h, ← a.place) x)
       (9 + 15 * t) (rows_from st) (omega arith) refl)
 
   row_span : (r : ℕ) → r < st.rows → Spans s (row_at st r) (row_at st (r + 1)) (row_piece (view_at s st) (contents s st (length st.lists)) r)
@@ -121,7 +121,7 @@ module _ (s : List ℕ) (b : Bytes s) (st : Sst) (e : ℕ) (l : Loads s st e) (o
   unfolding sheet
   bytes_are q = ap bytes_of view_is ∙ ap (bytes_with (view_at s st)) lists_same ∙ spans_all s e _ q all_span
 
-pub inverse : (s : List ℕ) → Bytes s → (st : Sst) (e : ℕ) → load_sheet s ≡ loaded st e → sheet (source_of_sheet s st) ≡ s
+pub inverse : (s : List ℕ) → Bytes s → (st : SheetRead) (e : ℕ) → load_sheet s ≡ loaded st e → sheet (source_of_sheet s st) ≡ s
 inverse s b st e h =
     let w = loads_whole s st e h in
     bytes_are s b st e w.loads (ordered s st e e w.loads.fine) w.ends

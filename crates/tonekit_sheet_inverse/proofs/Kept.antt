@@ -5,7 +5,7 @@ use Rattle.spec_arithmetic.specs.Places.{number_at}
 use Rattle.spec_pack.specs.Pack.{holds}
 use Rattle.tonekit_core.proofs.Split.{split}
 use Rattle.tonekit_pack.proofs.Each.{Each, each_snoc}
-use Rattle.spec_sheet.specs.Reader.{Sst, rows_due, size_of, body_verdict, added, row_at}
+use Rattle.spec_sheet.specs.Reader.{SheetRead, rows_due, size_of, body_verdict, added, row_at}
 use Rattle.tonekit_sheet_inverse.proofs.Place.{rows_from, list_place, lists_from}
 use Rattle.tonekit_sheet.proofs.Every.{Every, every_snoc}
 use Rattle.tonekit_sheet.proofs.Records.{Complete, rows_done, list_done, Due, settings, tone, accent, row, list, component, finish, tone_number, list_some}
@@ -35,7 +35,7 @@ pub record ListThere (s : List ℕ) (from i o : ℕ) : Type 0 where
 abbrev pub PartThere : List ℕ → ℕ → ℕ → Type 0
 PartThere s o j = byte_at s (o + 7 + 45 * j) ≡ 22
 
-pub record Kept (s : List ℕ) (at : ℕ) (st : Sst) : Type 0 where
+pub record Kept (s : List ℕ) (at : ℕ) (st : SheetRead) : Type 0 where
   pub first : st.last ≡ 0 → at ≡ 0
   pub begun : 17 ≤ st.last → byte_at s 0 ≡ 17
   pub no_tones : st.last ≤ 17 → length st.tones ≡ 0
@@ -53,7 +53,7 @@ pub record Kept (s : List ℕ) (at : ℕ) (st : Sst) : Type 0 where
   pub parts : (i j : ℕ) → i + 1 < length st.lists → j < byte_at s (list_place s (lists_from st) i + 6) → PartThere s (list_place s (lists_from st) i) j
   pub last_parts : (i j : ℕ) → i + 1 ≡ length st.lists → j + st.due < byte_at s (list_place s (lists_from st) i + 6) → PartThere s (list_place s (lists_from st) i) j
 
-module _ (s : List ℕ) (at : ℕ) (st : Sst) (p : Kept s at st) where
+module _ (s : List ℕ) (at : ℕ) (st : SheetRead) (p : Kept s at st) where
   -- before the first list the next record is due where the lists begin
   before_lists : 17 ≤ st.last → st.last ≤ 20 → at ≡ lists_from st
   before_lists l u = omega (arith, p.place l, p.none_due u, place_none s (lists_from st) (length st.lists) (p.no_lists u))

@@ -4,7 +4,7 @@ use Rattle.spec_arithmetic.specs.Fields.{byte_at}
 use Rattle.spec_arithmetic.specs.Places.{number_at}
 use Rattle.tonekit_core.proofs.Split.{split}
 use Rattle.tonekit_pack.proofs.Numbers.{none_before}
-use Rattle.spec_sheet.specs.Reader.{Sst, rows_due, row_at, read_sheet, load_sheet, sheet_reader}
+use Rattle.spec_sheet.specs.Reader.{SheetRead, rows_due, row_at, read_sheet, load_sheet, sheet_reader}
 use Rattle.tonekit_sheet_inverse.proofs.Place.{list_place, lists_from}
 use Rattle.spec_arithmetic.specs.Files.{loaded}
 use Rattle.tonekit_sheet.proofs.Every.{Every}
@@ -13,7 +13,7 @@ use Rattle.tonekit_bytes.proofs.Files.{read_keeps}
 use Rattle.tonekit_sheet.proofs.Turns.{Finished, finished_is, loads_alone}
 use Rattle.tonekit_sheet_inverse.proofs.Kept.{ToneThere, AccentThere, ListThere, PartThere, Kept, keep}
 
-pub record Loads (s : List ℕ) (st : Sst) (e : ℕ) : Type 0 where
+pub record Loads (s : List ℕ) (st : SheetRead) (e : ℕ) : Type 0 where
   pub begins : byte_at s 0 ≡ 17
   pub tones : Every (ToneThere s) st.tones
   pub tones_once : (i j : ℕ) → i < j → j < length st.tones → number_at s (get_or st.tones i 0) ≡ number_at s (get_or st.tones j 0) → ⊥
@@ -27,7 +27,7 @@ pub record Loads (s : List ℕ) (st : Sst) (e : ℕ) : Type 0 where
   pub inside : e ≤ length s
   pub fine : Finished s st e st e
 
-module _ (s : List ℕ) (at : ℕ) (st : Sst) (p : Kept s at st) where
+module _ (s : List ℕ) (at : ℕ) (st : SheetRead) (p : Kept s at st) where
   -- at the end no component is due
   done : Complete st → (17 ≤ st.last) × (st.due ≡ 0) × (st.rows ≡ rows_due st)
   done (rows_done z r) = (omega arith, p.none_due (omega arith), r)
@@ -54,7 +54,7 @@ module _ (s : List ℕ) (at : ℕ) (st : Sst) (p : Kept s at st) where
         fine = f;
       }
 
-pub reads : (s : List ℕ) (st : Sst) (e : ℕ) → read_sheet s ≡ loaded st e → Loads s st e
+pub reads : (s : List ℕ) (st : SheetRead) (e : ℕ) → read_sheet s ≡ loaded st e → Loads s st e
 unfolding read_sheet
 reads s st e h =
     read_keeps sheet_reader s st e (Kept s)
@@ -84,11 +84,11 @@ reads s st e h =
     })
 
 -- a single sheet: it ends where the input does
-pub record Whole (s : List ℕ) (st : Sst) (e : ℕ) : Type 0 where
+pub record Whole (s : List ℕ) (st : SheetRead) (e : ℕ) : Type 0 where
   pub loads : Loads s st e
   pub ends : e ≡ length s
 
-pub loads_whole : (s : List ℕ) (st : Sst) (e : ℕ) → load_sheet s ≡ loaded st e → Whole s st e
+pub loads_whole : (s : List ℕ) (st : SheetRead) (e : ℕ) → load_sheet s ≡ loaded st e → Whole s st e
 loads_whole s st e h =
     let a = loads_alone s st e h in
     let l = reads s st e a.0 in

@@ -7,10 +7,10 @@ use Rattle.tonekit_core.proofs.LoopLaws.{to_again, to_stop}
 use Rattle.spec_arithmetic.specs.Fields.{byte_at}
 use Rattle.spec_arithmetic.specs.Places.{number_at, index_of}
 use Rattle.tonekit_bytes.specs.Places.{index_turn}
-use Rattle.spec_lookup.specs.Source.{Tone, tone_at, accent_at}
+use Rattle.spec_lookup.specs.Source.{Tone, tone_at, accent_at, absent_tone}
 use Rattle.spec_lookup.specs.declared.Context.{Context}
-use Rattle.spec_sheet.specs.Sheet.{no_tone, no_accent, accent_place, tone_place, prev_place, prev_number, row_context}
-use Rattle.spec_sheet.specs.Reader.{Sst, rows_due, row_at, prev_due}
+use Rattle.spec_sheet.specs.Sheet.{absent_accent, accent_place, tone_place, prev_place, prev_number, row_context}
+use Rattle.spec_sheet.specs.Reader.{SheetRead, rows_due, row_at, prev_due}
 use Rattle.spec_sheet.specs.FromSheet.{list_numbered, prev_found, look_sheet}
 use Rattle.tonekit_sheet.proofs.RowPlaces.{Places, some_tone, row_places}
 use Rattle.tonekit_sheet_inverse.proofs.Loads.{Loads}
@@ -32,7 +32,7 @@ module _ (s os : List ℕ) (n i : ℕ) (b : i < length os) (e : number_at s (get
   index_at = searched i 0 (omega arith)
 
 -- the context of row r, by the records that are due there
-abbrev pub context_at : List ℕ → Sst → ℕ → Bool → Context
+abbrev pub context_at : List ℕ → SheetRead → ℕ → Bool → Context
 context_at s st r last = record {
   accent = accent_number_of s st (accent_place (length st.tones) r);
   tone = number_at s (get_or st.tones (tone_place (length st.tones) r) 0);
@@ -40,7 +40,7 @@ context_at s st r last = record {
   last = last;
 }
 
-module _ (s : List ℕ) (st : Sst) (e : ℕ) (l : Loads s st e) (o : Ordered s st) where
+module _ (s : List ℕ) (st : SheetRead) (e : ℕ) (l : Loads s st e) (o : Ordered s st) where
   accent_at_lem : (i : ℕ) → i < length st.accents → index_of s st.accents (accent_number_of s st i) ≡ Some i
   accent_at_lem i b = index_at s st.accents (accent_number_of s st i) i b refl (λ j c q. omega (arith, o.accents_up j i c b))
 
@@ -56,7 +56,7 @@ module _ (s : List ℕ) (st : Sst) (e : ℕ) (l : Loads s st e) (o : Ordered s s
 
   prev_number_lem : (p : ℕ) → p ≤ length st.tones → prev_number (map (tone_at 6 s) st.tones) p ≡ prev_due s st p
   prev_number_lem zero b = refl
-  prev_number_lem (suc p) b = ap (λ (t : Tone). t.number) (get_or-map (tone_at 6 s) st.tones p 0 no_tone (omega arith))
+  prev_number_lem (suc p) b = ap (λ (t : Tone). t.number) (get_or-map (tone_at 6 s) st.tones p 0 absent_tone (omega arith))
 
   places : (r : ℕ) → r < st.rows → Places (length st.accents) (length st.tones) r
   places r b =
@@ -67,7 +67,7 @@ module _ (s : List ℕ) (st : Sst) (e : ℕ) (l : Loads s st e) (o : Ordered s s
   unfolding row_context
   row_context_lem r last b =
       let p = places r b in
-      rw (length-map st.tones (tone_at 6 s), get_or-map (accent_at 2 s) st.accents (accent_place (length st.tones) r) 0 no_accent p.accent, get_or-map (tone_at 6 s) st.tones (tone_place (length st.tones) r) 0 no_tone p.tone, prev_number_lem (prev_place (length st.tones) r) p.prev)
+      rw (length-map st.tones (tone_at 6 s), get_or-map (accent_at 2 s) st.accents (accent_place (length st.tones) r) 0 absent_accent p.accent, get_or-map (tone_at 6 s) st.tones (tone_place (length st.tones) r) 0 absent_tone p.tone, prev_number_lem (prev_place (length st.tones) r) p.prev)
 
   look_placed_lem : (r : ℕ) (last : Bool) → r < st.rows → look_sheet s st (context_at s st r last) ≡ list_numbered s st (byte_at s (row_at st r + cond last 5 4))
   unfolding look_sheet

@@ -8,13 +8,13 @@ use Rattle.spec_pack.specs.Pack.{zero_or_held}
 use Rattle.tonekit_core.proofs.Split.{either, both}
 use Rattle.tonekit_pack.proofs.Numbers.{zero_or_at}
 use Rattle.spec_sheet.specs.Sheet.{accent_place, tone_place, prev_place}
-use Rattle.spec_sheet.specs.Reader.{Sst, row_at, loose_row, accent_down, prev_due, row_due, row_names, row_wrong, named, same_lists, repeated, list_wrong}
+use Rattle.spec_sheet.specs.Reader.{SheetRead, row_at, loose_row, accent_down, prev_due, row_due, row_names, row_wrong, named, same_lists, repeated, list_wrong}
 use Rattle.tonekit_sheet_laws.proofs.Loops.{range_last}
 use Rattle.tonekit_sheet_inverse.proofs.Tests.{none_failed, range_some, range_no}
 use Rattle.tonekit_sheet.proofs.Turns.{Finished}
 
 -- the number of accent i, the two list numbers of row r, and the greatest of those before it
-module _ (s : List ℕ) (st : Sst) where
+module _ (s : List ℕ) (st : SheetRead) where
   abbrev pub accent_number_of : ℕ → ℕ
   accent_number_of i = number_at s (get_or st.accents i 0)
 
@@ -53,7 +53,7 @@ module _ (s : List ℕ) (st : Sst) where
     pub lists : (i : ℕ) → i < length st.lists → ListRight i
 
 -- ---- accents
-module _ (s : List ℕ) (st : Sst) (h : accent_down s st ≡ None) where
+module _ (s : List ℕ) (st : SheetRead) (h : accent_down s st ≡ None) where
   up : (j : ℕ) → j < length st.accents → range (λ i before. accent_number_of s st i) 0 j 0 < accent_number_of s st j
   unfolding accent_down
   up j b =
@@ -79,7 +79,7 @@ module _ (s : List ℕ) (st : Sst) (h : accent_down s st ≡ None) where
   accents_not_zero i b = omega (arith, up i b)
 
 -- ---- rows
-module _ (s : List ℕ) (st : Sst) where
+module _ (s : List ℕ) (st : SheetRead) where
   rows_held : loose_row s st ≡ None → (r : ℕ) → r < st.rows → (zero_or_held s st.lists (first_list s st r) && zero_or_held s st.lists (final_list s st r)) ≡ true
   unfolding loose_row
   rows_held h r b =
@@ -141,7 +141,7 @@ module _ (s : List ℕ) (st : Sst) where
           final_held = at_most_lem (final_list s st r) l.1;
         }
 
-pub ordered : (s : List ℕ) (st : Sst) (e end : ℕ) → Finished s st e st end → Ordered s st
+pub ordered : (s : List ℕ) (st : SheetRead) (e end : ℕ) → Finished s st e st end → Ordered s st
 ordered s st e end f =
     let lists : (i : ℕ) → i < length st.lists → ListRight s st i = λ i b. list_right s st i (lists_right s st f.lists_right i b) in
     record {

@@ -8,7 +8,7 @@ use Rattle.tonekit_core.proofs.Split.{split}
 use Rattle.spec_lookup.specs.Source.{Carried, settings_at, tone_at, accent_at}
 use Rattle.spec_lookup.specs.declared.Context.{Context}
 use Rattle.spec_sheet.specs.Agree.{Bytes}
-use Rattle.spec_sheet.specs.Sheet.{settings_bytes, tone_bytes, accent_bytes, row_bytes, bits_bytes, components_bytes, no_carried, list_bytes}
+use Rattle.spec_sheet.specs.Sheet.{settings_bytes, tone_bytes, accent_bytes, row_bytes, bits_bytes, components_bytes, absent_carried, list_bytes}
 use Rattle.spec_sheet.specs.Reader.{list_size, same_lists}
 use Rattle.spec_sheet.specs.FromSheet.{bits_at, carried_at, carried_from}
 use Rattle.tonekit_sheet.proofs.Components.{components_snoc}
@@ -24,16 +24,16 @@ module _ (s : List ℕ) (o : ℕ) where
   carried_length zero = refl
   carried_length (suc n) = omega (arith, length-append (carried_from s o n) (carried_at s o n ∷ []), carried_length n)
 
-  carried_get : (n j : ℕ) → j < n → get_or (carried_from s o n) j no_carried ≡ carried_at s o j
+  carried_get : (n j : ℕ) → j < n → get_or (carried_from s o n) j absent_carried ≡ carried_at s o j
   unfolding carried_from
   carried_get zero j h = absurd (omega arith)
   carried_get (suc n) j h =
       split (ltb j n)
-      (λ t. let b : j < n = ltb-true j n t in get_or-append (carried_from s o n) (carried_at s o n ∷ []) no_carried j (omega (arith, carried_length n)) ∙ carried_get n j b)
+      (λ t. let b : j < n = ltb-true j n t in get_or-append (carried_from s o n) (carried_at s o n ∷ []) absent_carried j (omega (arith, carried_length n)) ∙ carried_get n j b)
       (λ t. let e : j ≡ length (carried_from s o n) = omega (arith, ltb-false j n t, carried_length n) in
       let q : j ≡ n = omega (arith, carried_length n) in
-      ap (λ (k : ℕ). get_or (carried_from s o n ++ (carried_at s o n ∷ [])) k no_carried) e
-      ∙ get_or-append_seam (carried_from s o n) (carried_at s o n) [] no_carried
+      ap (λ (k : ℕ). get_or (carried_from s o n ++ (carried_at s o n ∷ [])) k absent_carried) e
+      ∙ get_or-append_seam (carried_from s o n) (carried_at s o n) [] absent_carried
       ∙ ap (carried_at s o) (sym q))
 
 -- a list that starts at o: its kind, a component at the least, and each of them
@@ -92,7 +92,7 @@ module _ (s : List ℕ) (b : Bytes s) where
       rw (components_snoc (carried_from s o n) (carried_at s o n))
       (joined (components_spans o n (o + 7 + 45 * n) refl (λ j l. h j (omega arith))) (component_spans o n e (omega arith) (h n (omega arith))))
 
-  head_is : (o : ℕ) → 1 ≤ byte_at s (o + 6) → get_or (content_at s o) 0 no_carried ≡ carried_at s o 0
+  head_is : (o : ℕ) → 1 ≤ byte_at s (o + 6) → get_or (content_at s o) 0 absent_carried ≡ carried_at s o 0
   head_is o h = carried_get s o (byte_at s (o + 6)) 0 h
 
   pub list_spans : (o e : ℕ) → e ≡ o + list_size s o → ListIs s o → Spans s o e (list_bytes (number_at s o) (content_at s o))

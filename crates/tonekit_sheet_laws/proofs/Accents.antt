@@ -6,8 +6,8 @@ use Rattle.spec_arithmetic.specs.Places.{number_at}
 use Rattle.spec_arithmetic.specs.Files.{Out}
 use Rattle.spec_pack.specs.Pack.{holds, accent_fine}
 use Rattle.spec_lookup.specs.Source.{Accent, Source}
-use Rattle.spec_sheet.specs.Sheet.{View, no_accent, lists_of}
-use Rattle.spec_sheet.specs.Reader.{Sst, size_of, due_next, accent_verdict, body_verdict, added}
+use Rattle.spec_sheet.specs.Sheet.{View, absent_accent, lists_of}
+use Rattle.spec_sheet.specs.Reader.{SheetRead, size_of, due_next, accent_verdict, body_verdict, added}
 use Rattle.tonekit_sheet.specs.Fit.{AccentFit}
 use Rattle.tonekit_sheet_laws.proofs.Place.{up_to, accent_at, read_to, last_of}
 use Rattle.tonekit_sheet_laws.proofs.Placed.{up_to_length, holds_none}
@@ -28,14 +28,14 @@ tolerances_there s o a w f =
 accent_fine_lem : (s : List ℕ) (o : ℕ) (a : Accent) → AccentThere s o a → AccentFit a → accent_fine 2 s o ≡ true
 accent_fine_lem s o a w f = rw (w.number, ne_eqb a.number 0 (λ e. omega (arith, f.least))) (tolerances_there s o a w f)
 
-module _ (s : List ℕ) (d : Out Sst) (src : Source) (v : View) (fit : ViewFit src v) (laid : Laid s v (lists_of v)) where
-  pub accent_read : (i : ℕ) → i < length v.accents → AccentThere s (accent_at v i) (get_or v.accents i no_accent)
+module _ (s : List ℕ) (d : Out SheetRead) (src : Source) (v : View) (fit : ViewFit src v) (laid : Laid s v (lists_of v)) where
+  pub accent_read : (i : ℕ) → i < length v.accents → AccentThere s (accent_at v i) (get_or v.accents i absent_accent)
   accent_read i h =
       let f = fit.accents i h in
-      accent_there s (accent_at v i) (get_or v.accents i no_accent) f.contour_bits f.onset_bits f.offset_bits f.turning_bits (laid.accent i h)
+      accent_there s (accent_at v i) (get_or v.accents i absent_accent) f.contour_bits f.onset_bits f.offset_bits f.turning_bits (laid.accent i h)
 
   -- after all tones and i accents
-  abbrev after : ℕ → Sst
+  abbrev after : ℕ → SheetRead
   after i = read_to v (lists_of v) (last_of 18 19 i) (length v.tones) i 0 0 0 0
 
   due_accent : (i : ℕ) → due_next (after i) 19 ≡ true
@@ -61,7 +61,7 @@ module _ (s : List ℕ) (d : Out Sst) (src : Source) (v : View) (fit : ViewFit s
         body =
             all_pass (leb 8 (length (up_to (accent_at v) i))) (accent_fine 2 s (accent_at v i)) (not (holds s (up_to (accent_at v) i) (number_at s (accent_at v i)))) true
             (lt-leb 8 (length (up_to (accent_at v) i)) (omega (arith, up_to_length (accent_at v) i, fit.few_accents)))
-            (accent_fine_lem s (accent_at v i) (get_or v.accents i no_accent) w (fit.accents i h)) (accent_new i h) refl;
+            (accent_fine_lem s (accent_at v i) (get_or v.accents i absent_accent) w (fit.accents i h)) (accent_new i h) refl;
       }
 
   accent_on : (i : ℕ) → i < length v.accents → Reach s d (accent_at v i) (after i) (accent_at v (suc i)) (after (suc i))

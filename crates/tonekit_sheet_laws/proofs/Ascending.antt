@@ -4,7 +4,7 @@ use mathlib.Core.Option.{Option, none, some}
 use borrow.Author.Tests.{eqb-false}
 use Rattle.tonekit_core.proofs.Split.{split}
 use Rattle.spec_lookup.specs.Source.{Accent, accent_in}
-use Rattle.spec_sheet.specs.Sheet.{or_skip, asc_from, ascending, no_accent}
+use Rattle.spec_sheet.specs.Sheet.{or_skip, asc_from, ascending, absent_accent}
 
 pub by_option : {A : Type 0} {P : Type 0} (o : Option A) → (o ≡ none → P) → ((a : A) → o ≡ some a → P) → P
 by_option none f g = f refl
@@ -14,7 +14,7 @@ by_option (some a) f g = g a refl
 pub record At (accents : List Accent) (n : ℕ) (a : Accent) : Type 0 where
   pub place : ℕ
   pub there : place < length accents
-  pub same : get_or accents place no_accent ≡ a
+  pub same : get_or accents place absent_accent ≡ a
   pub number : a.number ≡ n
 
 pub accent_at_lem : (accents : List Accent) (n : ℕ) (a : Accent) → accent_in accents n ≡ some a → At accents n a
@@ -28,17 +28,17 @@ accent_at_lem (x ∷ more) n a h =
     record { place = suc r.place; there = omega (arith, r.there); same = r.same; number = r.number })
 
 -- a number that one of them has is found
-pub accent_found : (accents : List Accent) (i : ℕ) → i < length accents → (a : Accent) × (accent_in accents (get_or accents i no_accent).number ≡ some a)
+pub accent_found : (accents : List Accent) (i : ℕ) → i < length accents → (a : Accent) × (accent_in accents (get_or accents i absent_accent).number ≡ some a)
 unfolding accent_in
 accent_found [] i h = absurd (omega arith)
 accent_found (x ∷ more) zero h = (x, rw (eq-eqb x.number x.number refl))
 accent_found (x ∷ more) (suc i) h =
-    split (eqb x.number (get_or more i no_accent).number)
+    split (eqb x.number (get_or more i absent_accent).number)
     (λ e. (x, rw e))
     (λ e. let r = accent_found more i (omega arith) in (r.0, rw e r.1))
 
 -- one that none of them has is not
-pub accent_none : (accents : List Accent) (n : ℕ) → ((i : ℕ) → i < length accents → (get_or accents i no_accent).number ≡ n → ⊥) → accent_in accents n ≡ none
+pub accent_none : (accents : List Accent) (n : ℕ) → ((i : ℕ) → i < length accents → (get_or accents i absent_accent).number ≡ n → ⊥) → accent_in accents n ≡ none
 accent_none accents n h =
     by_option (accent_in accents n) (λ e. e)
     (λ a e. let r = accent_at_lem accents n a e in absurd (h r.place r.there (rw r.same r.number)))
@@ -58,22 +58,22 @@ module _ (accents : List Accent) where
       let q : a.number ≡ n = (accent_at_lem accents n a e).number in
       record { least = omega arith; most = omega arith; held = ap (accent_in accents) q ∙ e }
 
-  skipped : (n k : ℕ) (o : Option Accent) (rest : List Accent) → accent_in accents n ≡ o → ((i : ℕ) → i < length rest → Within (suc n) k (get_or rest i no_accent))
-      → (i : ℕ) → i < length (or_skip o rest) → Within n (suc k) (get_or (or_skip o rest) i no_accent)
+  skipped : (n k : ℕ) (o : Option Accent) (rest : List Accent) → accent_in accents n ≡ o → ((i : ℕ) → i < length rest → Within (suc n) k (get_or rest i absent_accent))
+      → (i : ℕ) → i < length (or_skip o rest) → Within n (suc k) (get_or (or_skip o rest) i absent_accent)
   skipped n k none rest e h i l = wider n k _ (h i l)
   skipped n k (some a) rest e h zero l = here n k a e
   skipped n k (some a) rest e h (suc i) l = wider n k _ (h i (omega arith))
 
-  pub asc_within : (k n i : ℕ) → i < length (asc_from k n accents) → Within n k (get_or (asc_from k n accents) i no_accent)
+  pub asc_within : (k n i : ℕ) → i < length (asc_from k n accents) → Within n k (get_or (asc_from k n accents) i absent_accent)
   unfolding asc_from
   asc_within zero n i h = absurd (omega arith)
   asc_within (suc k) n i h = skipped n k (accent_in accents n) (asc_from k (suc n) accents) refl (asc_within k (suc n)) i h
 
   -- each above the one before it
   abbrev Rising : List Accent → Type 0
-  Rising l = (i j : ℕ) → i < j → j < length l → (get_or l i no_accent).number < (get_or l j no_accent).number
+  Rising l = (i j : ℕ) → i < j → j < length l → (get_or l i absent_accent).number < (get_or l j absent_accent).number
 
-  rising_skip : (n k : ℕ) (o : Option Accent) (rest : List Accent) → accent_in accents n ≡ o → ((i : ℕ) → i < length rest → Within (suc n) k (get_or rest i no_accent))
+  rising_skip : (n k : ℕ) (o : Option Accent) (rest : List Accent) → accent_in accents n ≡ o → ((i : ℕ) → i < length rest → Within (suc n) k (get_or rest i absent_accent))
       → Rising rest → Rising (or_skip o rest)
   rising_skip n k none rest e w r i j a b = r i j a b
   rising_skip n k (some x) rest e w r zero zero a b = absurd (omega arith)
@@ -144,7 +144,7 @@ asc_few (a ∷ more) k n = omega (arith, one_more a more k n, asc_few more k n)
 
 -- ---- all of them
 module _ (accents : List Accent) where
-  pub ascending_rising : (i j : ℕ) → i < j → j < length (ascending accents) → (get_or (ascending accents) i no_accent).number < (get_or (ascending accents) j no_accent).number
+  pub ascending_rising : (i j : ℕ) → i < j → j < length (ascending accents) → (get_or (ascending accents) i absent_accent).number < (get_or (ascending accents) j absent_accent).number
   unfolding ascending
   ascending_rising = asc_rising accents 255 1
 
@@ -153,12 +153,12 @@ module _ (accents : List Accent) where
   ascending_few = asc_few accents 255 1
 
   -- each is held
-  pub ascending_held : (i : ℕ) → i < length (ascending accents) → accent_in accents (get_or (ascending accents) i no_accent).number ≡ some (get_or (ascending accents) i no_accent)
+  pub ascending_held : (i : ℕ) → i < length (ascending accents) → accent_in accents (get_or (ascending accents) i absent_accent).number ≡ some (get_or (ascending accents) i absent_accent)
   unfolding ascending
   ascending_held i h = (asc_within accents 255 1 i h).held
 
   -- where every number is one from 1 to 255, each number finds what it finds among those held
-  pub ascending_same : ((i : ℕ) → i < length accents → (1 ≤ (get_or accents i no_accent).number) × ((get_or accents i no_accent).number < 256))
+  pub ascending_same : ((i : ℕ) → i < length accents → (1 ≤ (get_or accents i absent_accent).number) × ((get_or accents i absent_accent).number < 256))
       → (n : ℕ) → accent_in (ascending accents) n ≡ accent_in accents n
   unfolding ascending
   ascending_same f n =

@@ -3,12 +3,12 @@ use Rattle.std.proofs.lemmas.List.{get_or-map}
 use Rattle.std.proofs.Common.{ℕ, suc, ◌≤◌, ◌<◌, ◌≡◌, ap, ◌∙◌, ⊎_elim, List, map, Bool, true, arith, length, get_or, ext_get_or}
 use mathlib.Core.Option.{some}
 use lib.ListN.{length-map}
-use Rattle.spec_lookup.specs.Source.{Accent, Source, settings_at, accent_in, tone_in, tone_at as tone_is_read, accent_at as accent_is_read}
+use Rattle.spec_lookup.specs.Source.{Accent, Source, settings_at, accent_in, tone_in, tone_at as tone_is_read, accent_at as accent_is_read, absent_tone}
 use Rattle.spec_arithmetic.specs.Places.{index_of}
 use Rattle.spec_lookup.specs.declared.Context.{Context}
-use Rattle.spec_sheet.specs.Sheet.{View, no_tone, no_accent, prev_number, row_context, ascending, view_of, rows_of, lists_of, sheet}
+use Rattle.spec_sheet.specs.Sheet.{View, absent_accent, prev_number, row_context, ascending, view_of, rows_of, lists_of, sheet}
 use Rattle.spec_arithmetic.specs.Files.{Out, refused}
-use Rattle.spec_sheet.specs.Reader.{Sst}
+use Rattle.spec_sheet.specs.Reader.{SheetRead}
 use Rattle.spec_sheet.specs.FromSheet.{prev_found, look_sheet, source_of_sheet}
 use Rattle.spec_sheet.specs.Agree.{Held}
 use Rattle.tonekit_sheet.specs.Fit.{Fit, components_in}
@@ -33,7 +33,7 @@ all_read f g l d h =
     (λ i b. let c : i < length l = omega (arith, n) in
     get_or-map f (up_to g (length l)) i 0 d (rw (up_to_length g (length l)) c) ∙ ap f (up_to_get g (length l) i c) ∙ h i c)
 
-module _ (s : List ℕ) (d : Out Sst) (src : Source) (v : View) (fit : ViewFit src v) (laid : Laid s v (lists_of v)) where
+module _ (s : List ℕ) (d : Out SheetRead) (src : Source) (v : View) (fit : ViewFit src v) (laid : Laid s v (lists_of v)) where
   settings_same : settings_at s 0 ≡ v.settings
   settings_same =
       let w = settings_read s d src v fit laid in
@@ -41,25 +41,25 @@ module _ (s : List ℕ) (d : Out Sst) (src : Source) (v : View) (fit : ViewFit s
 
   tones_same : map (tone_is_read 6 s) (up_to tone_at (length v.tones)) ≡ v.tones
   tones_same =
-      all_read (tone_is_read 6 s) tone_at v.tones no_tone
+      all_read (tone_is_read 6 s) tone_at v.tones absent_tone
       (λ k h. let w = tone_read s d src v fit laid k h in
       λ i. record { number = w.number i; prior = w.prior i; flag = w.flag i; from = w.from i; to = w.to i })
 
   accents_same : map (accent_is_read 2 s) (up_to (accent_at v) (length v.accents)) ≡ v.accents
   accents_same =
-      all_read (accent_is_read 2 s) (accent_at v) v.accents no_accent
+      all_read (accent_is_read 2 s) (accent_at v) v.accents absent_accent
       (λ k h. let w = accent_read s d src v fit laid k h in
       λ i. record { number = w.number i; contour = w.contour i; onset = w.onset i; offset = w.offset i; turning = w.turning i })
 
   -- a context whose numbers are held is looked up in its own row
-  record Looked (st : Sst) (c : Context) : Type 0 where
+  record Looked (st : SheetRead) (c : Context) : Type 0 where
     row : ℕ
     look : look_sheet s st c ≡ v.row row c.last
     context : row_context v.tones v.accents row c.last ≡ c
 
   looked : (last total : ℕ) (c : Context)
-      → FoundAt (index_of s (up_to (accent_at v) (length v.accents)) c.accent) (length v.accents) (λ i. (get_or v.accents i no_accent).number) c.accent
-      → FoundAt (index_of s (up_to tone_at (length v.tones)) c.tone) (length v.tones) (λ i. (get_or v.tones i no_tone).number) c.tone
+      → FoundAt (index_of s (up_to (accent_at v) (length v.accents)) c.accent) (length v.accents) (λ i. (get_or v.accents i absent_accent).number) c.accent
+      → FoundAt (index_of s (up_to tone_at (length v.tones)) c.tone) (length v.tones) (λ i. (get_or v.tones i absent_tone).number) c.tone
       → FoundAt (prev_found s (read_to v (lists_of v) last (length v.tones) (length v.accents) (rows_of v) (length (lists_of v)) 0 total) c.prev) (suc (length v.tones)) (prev_number v.tones) c.prev
       → Looked (read_to v (lists_of v) last (length v.tones) (length v.accents) (rows_of v) (length (lists_of v)) 0 total) c
   unfolding look_sheet row_context
@@ -71,8 +71,8 @@ module _ (s : List ℕ) (d : Out Sst) (src : Source) (v : View) (fit : ViewFit s
         row = place m n a.at t.at p.at a.there t.there lp;
         look = rw (a.is, t.is, p.is) (look_back s d src v fit laid last total c a.at t.at p.at a.there t.there lp);
         context = λ i. record {
-          accent = (ap (λ (k : ℕ). (get_or v.accents k no_accent).number) (accent_back m n a.at t.at p.at a.there t.there lp) ∙ a.same) i;
-          tone = (ap (λ (k : ℕ). (get_or v.tones k no_tone).number) (tone_back m n a.at t.at p.at a.there t.there lp) ∙ t.same) i;
+          accent = (ap (λ (k : ℕ). (get_or v.accents k absent_accent).number) (accent_back m n a.at t.at p.at a.there t.there lp) ∙ a.same) i;
+          tone = (ap (λ (k : ℕ). (get_or v.tones k absent_tone).number) (tone_back m n a.at t.at p.at a.there t.there lp) ∙ t.same) i;
           prev = (ap (prev_number v.tones) (prev_back m n a.at t.at p.at a.there t.there lp) ∙ p.same) i;
           last = c.last;
         };
@@ -83,7 +83,7 @@ abbrev pub read_back : Source → Source
 read_back src = source_of_sheet (sheet src) (st_of src)
 
 module _ (src : Source) (fit : Fit src) where
-  abbrev d : Out Sst
+  abbrev d : Out SheetRead
   d = refused CutShort 0
 
   pub settings_back : (read_back src).settings ≡ src.settings
@@ -102,13 +102,13 @@ module _ (src : Source) (fit : Fit src) where
   accents_back n = ap (λ (l : List Accent). accent_in l n) in_order_back ∙ held_in_order src fit n
 
   -- the places of a held context's numbers
-  accent_of_lem : (n : ℕ) (a : Accent) → accent_in src.accents n ≡ some a → (m : ℕ) × (m < length (view_of src).accents) × ((get_or (view_of src).accents m no_accent).number ≡ n)
+  accent_of_lem : (n : ℕ) (a : Accent) → accent_in src.accents n ≡ some a → (m : ℕ) × (m < length (view_of src).accents) × ((get_or (view_of src).accents m absent_accent).number ≡ n)
   unfolding view_of
   accent_of_lem n a h =
       let r = accent_at_lem (ascending src.accents) n a (held_in_order src fit n ∙ h) in
       (r.place, r.there, ap (λ (x : Accent). x.number) r.same ∙ r.number)
 
-  tone_of : (n : ℕ) → tone_in src.tones n ≡ true → (m : ℕ) × (m < length (view_of src).tones) × ((get_or (view_of src).tones m no_tone).number ≡ n)
+  tone_of : (n : ℕ) → tone_in src.tones n ≡ true → (m : ℕ) × (m < length (view_of src).tones) × ((get_or (view_of src).tones m absent_tone).number ≡ n)
   unfolding view_of
   tone_of n h = tone_at_lem src.tones n h
 

@@ -7,7 +7,7 @@ use Rattle.spec_sheet.specs.Number.{noted, number_in}
 use Rattle.spec_sheet.specs.Pieces.{gather}
 use Rattle.spec_sheet.specs.Sheet.{or_skip, asc_from, ascending, View, row_context, row_bytes, view_of, rows_of, lists_of, bytes_with, sheet}
 use Rattle.spec_arithmetic.specs.Files.{loaded}
-use Rattle.spec_sheet.specs.Reader.{Sst, load_sheet}
+use Rattle.spec_sheet.specs.Reader.{SheetRead, load_sheet}
 use Rattle.tonekit_sheet.specs.Parts.{bytes_of, note_turn, row_piece}
 use Rattle.spec_sheet.specs.FromSheet.{source_of_sheet}
 use Rattle.spec_sheet.specs.Agree.{Held, Agree}
@@ -69,7 +69,7 @@ module _ (a b : Source) (agree : Agree a b) where
   agree_same = views_same (view_of a) (view_of b) agree.settings agree.tones accents_same row_same
 
 -- ---- and what is held can be read from it
-pub loaded_same : (x y : Sst) (m n : ℕ) → loaded x m ≡ loaded y n → x ≡ y
+pub loaded_same : (x y : SheetRead) (m n : ℕ) → loaded x m ≡ loaded y n → x ≡ y
 loaded_same x y m n h = cc
 
 module _ (a b : Source) (fa : Fit a) (fb : Fit b) (e : sheet a ≡ sheet b) where

@@ -5,10 +5,10 @@ use lib.ListN.{get_or-replicate}
 use lib.Ieee.{of_bits, lt, le}
 use Rattle.tonekit_core.specs.Loop.{range, turns}
 use Rattle.spec_pack.specs.Ranges.{above_zero, probability_fine, weight_fine}
-use Rattle.spec_lookup.specs.Source.{Carried, Source, accent_in}
+use Rattle.spec_lookup.specs.Source.{Carried, Source, accent_in, absent_tone}
 use Rattle.spec_sheet.specs.Number.{same_carried, seen_in, place_in, noted, number_in, same_by}
 use Rattle.spec_sheet.specs.Pieces.{pieces, gather}
-use Rattle.spec_sheet.specs.Sheet.{asc_from, ascending, no_tone, no_accent, no_carried, row_context, view_of, lists_of, bits_bytes, components_bytes, bytes_with, sheet}
+use Rattle.spec_sheet.specs.Sheet.{asc_from, ascending, absent_accent, absent_carried, row_context, view_of, lists_of, bits_bytes, components_bytes, bytes_with, sheet}
 use Rattle.spec_sheet.specs.Reader.{point_fine}
 use Rattle.tonekit_sheet.specs.Fit.{f32, SettingsFit, ToneFit, AccentFit, CarriedFit, ListFit, components_in, Fit}
 
@@ -60,7 +60,7 @@ flat_fits = record {
   points = λ k h. ap (λ (x : ℕ). point_fine (f32 x)) (zeros k h) ∙ zero_fine;
 }
 
-flat_each : (j : ℕ) → j < 1 → CarriedFit flat j (get_or (flat ∷ []) j no_carried)
+flat_each : (j : ℕ) → j < 1 → CarriedFit flat j (get_or (flat ∷ []) j absent_carried)
 flat_each zero h = flat_fits
 flat_each (suc j) h = absurd (omega arith)
 
@@ -79,12 +79,12 @@ flat_list = record {
   unit = λ n. refl;
 }
 
-tone_fits : (i : ℕ) → i < 1 → ToneFit (get_or small.tones i no_tone)
+tone_fits : (i : ℕ) → i < 1 → ToneFit (get_or small.tones i absent_tone)
 unfolding probability_fine of_bits lt le
 tone_fits zero h = record { least = omega arith; byte = omega arith; prior_bits = omega arith; prior = refl; from_bits = omega arith; to_bits = omega arith; region = refl }
 tone_fits (suc i) h = absurd (omega arith)
 
-accent_fits : (i : ℕ) → i < 1 → AccentFit (get_or small.accents i no_accent)
+accent_fits : (i : ℕ) → i < 1 → AccentFit (get_or small.accents i absent_accent)
 unfolding above_zero of_bits lt
 accent_fits zero h = record {
   least = omega arith;

@@ -5,11 +5,11 @@ use Rattle.spec_arithmetic.specs.Fields.{byte_at}
 use Rattle.spec_arithmetic.specs.Places.{number_at}
 use Rattle.spec_pack.specs.Pack.{zero_or_held}
 use Rattle.tonekit_core.proofs.Split.{split}
-use Rattle.spec_lookup.specs.Source.{Carried, Source}
+use Rattle.spec_lookup.specs.Source.{Carried, Source, absent_tone}
 use Rattle.spec_sheet.specs.Number.{number_in}
-use Rattle.spec_sheet.specs.Sheet.{View, no_tone, no_accent, accent_place, tone_place, prev_place, prev_number, rows_of, lists_of}
+use Rattle.spec_sheet.specs.Sheet.{View, absent_accent, accent_place, tone_place, prev_place, prev_number, rows_of, lists_of}
 use Rattle.spec_arithmetic.specs.Files.{Out, loaded}
-use Rattle.spec_sheet.specs.Reader.{Sst, loose_row, accent_down, prev_due, row_due, row_names, row_wrong, named, list_size, same_lists, repeated, list_wrong, finished}
+use Rattle.spec_sheet.specs.Reader.{SheetRead, loose_row, accent_down, prev_due, row_due, row_names, row_wrong, named, list_size, same_lists, repeated, list_wrong, finished}
 use Rattle.tonekit_sheet.specs.Parts.{loose_turn, accent_turn, row_turn, list_turn}
 use Rattle.spec_sheet.specs.Reader.{row_at as row_in}
 use Rattle.spec_sheet.specs.FromSheet.{carried_from}
@@ -32,11 +32,11 @@ or_right false b h = h
 or_left : (a b : Bool) → a ≡ true → (a || b) ≡ true
 or_left a b h = rw h
 
-module _ (s : List ℕ) (d : Out Sst) (src : Source) (v : View) (fit : ViewFit src v) (laid : Laid s v (lists_of v)) (last total : ℕ) where
+module _ (s : List ℕ) (d : Out SheetRead) (src : Source) (v : View) (fit : ViewFit src v) (laid : Laid s v (lists_of v)) (last total : ℕ) where
   abbrev lists : List (List Carried)
   lists = lists_of v
 
-  abbrev st : Sst
+  abbrev st : SheetRead
   st = read_to v lists last (length v.tones) (length v.accents) (rows_of v) (length lists) 0 total
 
   -- row r, where the reader looks for it
@@ -65,14 +65,14 @@ module _ (s : List ℕ) (d : Out Sst) (src : Source) (v : View) (fit : ViewFit s
       ))
 
   -- ---- accents ascend
-  accent_number : (i : ℕ) → i < length v.accents → number_at s (get_or (up_to (accent_at v) (length v.accents)) i 0) ≡ (get_or v.accents i no_accent).number
+  accent_number : (i : ℕ) → i < length v.accents → number_at s (get_or (up_to (accent_at v) (length v.accents)) i 0) ≡ (get_or v.accents i absent_accent).number
   accent_number i h = ap (number_at s) (up_to_get (accent_at v) (length v.accents) i h) ∙ (accent_read s d src v fit laid i h).number
 
   abbrev before : ℕ → ℕ
   before zero = 0
-  before (suc i) = (get_or v.accents i no_accent).number
+  before (suc i) = (get_or v.accents i absent_accent).number
 
-  above : (i : ℕ) → i < length v.accents → before i < (get_or v.accents i no_accent).number
+  above : (i : ℕ) → i < length v.accents → before i < (get_or v.accents i absent_accent).number
   above zero h = (fit.accents 0 h).least
   above (suc i) h = fit.rising i (suc i) (omega arith) h
 
@@ -81,10 +81,10 @@ module _ (s : List ℕ) (d : Out Sst) (src : Source) (v : View) (fit : ViewFit s
   none_down =
       rw (up_to_length (accent_at v) (length v.accents))
       (to_through (accent_turn s st) (λ n. None) before (length v.accents)
-      (λ i h. rw (accent_number i h, lt-ltb (before i) (get_or v.accents i no_accent).number (above i h), add-one)))
+      (λ i h. rw (accent_number i h, lt-ltb (before i) (get_or v.accents i absent_accent).number (above i h), add-one)))
 
   -- ---- each row is the one due, and its numbers are in order
-  tone_number : (i : ℕ) → i < length v.tones → number_at s (get_or (up_to tone_at (length v.tones)) i 0) ≡ (get_or v.tones i no_tone).number
+  tone_number : (i : ℕ) → i < length v.tones → number_at s (get_or (up_to tone_at (length v.tones)) i 0) ≡ (get_or v.tones i absent_tone).number
   tone_number i h = ap (number_at s) (up_to_get tone_at (length v.tones) i h) ∙ (tone_read s d src v fit laid i h).number
 
   prev_number_lem : (p : ℕ) → p ≤ length v.tones → prev_due s st p ≡ prev_number v.tones p

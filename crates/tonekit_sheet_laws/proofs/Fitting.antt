@@ -1,7 +1,7 @@
 -- What a source that fits has, said of what its sheet is made of. Assumes nothing.
 use Rattle.std.proofs.Common.{ℕ, ◌≤◌, ◌<◌, ◌≡◌, sym, ap, ◌∙◌, subst, List, [], arith, length, get_or}
-use Rattle.spec_lookup.specs.Source.{Accent, Carried, Source, accent_in}
-use Rattle.spec_sheet.specs.Sheet.{View, no_tone, no_accent, no_carried, ascending, row_context, view_of, lists_of}
+use Rattle.spec_lookup.specs.Source.{Accent, Carried, Source, accent_in, absent_tone}
+use Rattle.spec_sheet.specs.Sheet.{View, absent_accent, absent_carried, ascending, row_context, view_of, lists_of}
 use Rattle.tonekit_sheet.specs.Fit.{SettingsFit, ToneFit, AccentFit, ListFit, Fit, components_in}
 use Rattle.tonekit_sheet_laws.proofs.FirstUse.{list_used}
 use Rattle.tonekit_sheet_laws.proofs.Ascending.{accent_at_lem, accent_found, ascending_rising, ascending_few, ascending_held, ascending_same}
@@ -9,18 +9,18 @@ use Rattle.tonekit_sheet_laws.proofs.Asked.{row_asks, row_held_lem}
 
 -- the owner of list i is accent k
 abbrev pub Owned : View → List Carried → Type 0
-Owned v cs = (k : ℕ) × (k < length v.accents) × ((get_or v.accents k no_accent).number ≡ (get_or cs 0 no_carried).owner)
+Owned v cs = (k : ℕ) × (k < length v.accents) × ((get_or v.accents k absent_accent).number ≡ (get_or cs 0 absent_carried).owner)
 
 pub record ViewFit (src : Source) (v : View) : Type 0 where
   pub settings : SettingsFit v.settings
   pub some_tones : 1 ≤ length v.tones
   pub few_tones : length v.tones ≤ 8
-  pub tones : (i : ℕ) → i < length v.tones → ToneFit (get_or v.tones i no_tone)
-  pub tones_once : (i j : ℕ) → i < length v.tones → j < length v.tones → (get_or v.tones i no_tone).number ≡ (get_or v.tones j no_tone).number → i ≡ j
+  pub tones : (i : ℕ) → i < length v.tones → ToneFit (get_or v.tones i absent_tone)
+  pub tones_once : (i j : ℕ) → i < length v.tones → j < length v.tones → (get_or v.tones i absent_tone).number ≡ (get_or v.tones j absent_tone).number → i ≡ j
   pub some_accents : 1 ≤ length v.accents
   pub few_accents : length v.accents ≤ 8
-  pub accents : (i : ℕ) → i < length v.accents → AccentFit (get_or v.accents i no_accent)
-  pub rising : (i j : ℕ) → i < j → j < length v.accents → (get_or v.accents i no_accent).number < (get_or v.accents j no_accent).number
+  pub accents : (i : ℕ) → i < length v.accents → AccentFit (get_or v.accents i absent_accent)
+  pub rising : (i j : ℕ) → i < j → j < length v.accents → (get_or v.accents i absent_accent).number < (get_or v.accents j absent_accent).number
   pub lists : (i : ℕ) → i < length (lists_of v) → ListFit src (get_or (lists_of v) i [])
   pub owners : (i : ℕ) → i < length (lists_of v) → Owned v (get_or (lists_of v) i [])
   pub few_lists : length (lists_of v) ≤ 128
@@ -28,9 +28,9 @@ pub record ViewFit (src : Source) (v : View) : Type 0 where
 
 module _ (src : Source) (fit : Fit src) where
   -- each of the accents in order is one of those held
-  in_order : (i : ℕ) → i < length (ascending src.accents) → AccentFit (get_or (ascending src.accents) i no_accent)
+  in_order : (i : ℕ) → i < length (ascending src.accents) → AccentFit (get_or (ascending src.accents) i absent_accent)
   in_order i h =
-      let a = get_or (ascending src.accents) i no_accent in
+      let a = get_or (ascending src.accents) i absent_accent in
       let r = accent_at_lem src.accents a.number a (ascending_held src.accents i h) in
       subst AccentFit r.same (fit.accents r.place r.there)
 
@@ -43,9 +43,9 @@ module _ (src : Source) (fit : Fit src) where
       let r = accent_at_lem (ascending src.accents) _ f.0 (held_in_order _ ∙ f.1) in
       omega (arith, r.there)
 
-  owned : (cs : List Carried) → ListFit src cs → (k : ℕ) × (k < length (ascending src.accents)) × ((get_or (ascending src.accents) k no_accent).number ≡ (get_or cs 0 no_carried).owner)
+  owned : (cs : List Carried) → ListFit src cs → (k : ℕ) × (k < length (ascending src.accents)) × ((get_or (ascending src.accents) k absent_accent).number ≡ (get_or cs 0 absent_carried).owner)
   owned cs l =
-      let r = accent_at_lem (ascending src.accents) (get_or cs 0 no_carried).owner l.owner.0 (held_in_order _ ∙ l.owner.1) in
+      let r = accent_at_lem (ascending src.accents) (get_or cs 0 absent_carried).owner l.owner.0 (held_in_order _ ∙ l.owner.1) in
       (r.place, r.there, ap (λ (a : Accent). a.number) r.same ∙ r.number)
 
   list_fit : (i : ℕ) → i < length (lists_of (view_of src)) → ListFit src (get_or (lists_of (view_of src)) i [])

@@ -8,8 +8,8 @@ use Rattle.spec_arithmetic.specs.Files.{Out}
 use Rattle.spec_pack.specs.Pack.{holds}
 use Rattle.tonekit_core.proofs.Split.{split}
 use Rattle.spec_lookup.specs.Source.{Carried, Source}
-use Rattle.spec_sheet.specs.Sheet.{View, no_carried, rows_of, lists_of}
-use Rattle.spec_sheet.specs.Reader.{Sst, size_of, complete, due_next, list_crowded, list_fine, list_verdict, point_fine, points_fine, component_fine, component_verdict, body_verdict, added}
+use Rattle.spec_sheet.specs.Sheet.{View, absent_carried, rows_of, lists_of}
+use Rattle.spec_sheet.specs.Reader.{SheetRead, size_of, complete, due_next, list_crowded, list_fine, list_verdict, point_fine, points_fine, component_fine, component_verdict, body_verdict, added}
 use Rattle.tonekit_sheet.specs.Fit.{Bits, f32, ListFit}
 use Rattle.tonekit_sheet_laws.proofs.Place.{up_to, components_before, accent_at, list_at, read_to, last_of}
 use Rattle.tonekit_sheet_laws.proofs.Loops.{range_all}
@@ -24,7 +24,7 @@ use Rattle.tonekit_sheet_laws.proofs.Rows.{rows_due_lem}
 -- ---- one list's head
 module _ (src : Source) (cs : List Carried) (f : ListFit src cs) where
   abbrev first : Carried
-  first = get_or cs 0 no_carried
+  first = get_or cs 0 absent_carried
 
   pub ten : Ten cs
   ten j h = (f.each j h).ten
@@ -54,7 +54,7 @@ module _ (s : List ℕ) (o : ℕ) (c : Carried) (w : ComponentThere s o c) where
   unfolding points_fine
   points_fine_lem h = range_all (λ k. point_fine (f32_at s (o + 5 + 4 * k))) 0 10 (omega arith) (λ k _ l. ap (λ (x : ℕ). point_fine (of_bits binary32 x)) (w.points k l) ∙ h k l)
 
-module _ (s : List ℕ) (d : Out Sst) (src : Source) (v : View) (fit : ViewFit src v) (laid : Laid s v (lists_of v)) where
+module _ (s : List ℕ) (d : Out SheetRead) (src : Source) (v : View) (fit : ViewFit src v) (laid : Laid s v (lists_of v)) where
   abbrev lists : List (List Carried)
   lists = lists_of v
 
@@ -62,19 +62,19 @@ module _ (s : List ℕ) (d : Out Sst) (src : Source) (v : View) (fit : ViewFit s
   abbrev list : ℕ → List Carried
   list i = get_or lists i []
 
-  pub list_head : (i : ℕ) → i < length lists → HeadThere s (list_at v lists i) (i + 1) (get_or (list i) 0 no_carried) (length (list i))
-  list_head i h = head_there s (list_at v lists i) (i + 1) (get_or (list i) 0 no_carried) (length (list i)) (fit.lists i h).label (head_stands (i + 1) (list i) (laid.list i h))
+  pub list_head : (i : ℕ) → i < length lists → HeadThere s (list_at v lists i) (i + 1) (get_or (list i) 0 absent_carried) (length (list i))
+  list_head i h = head_there s (list_at v lists i) (i + 1) (get_or (list i) 0 absent_carried) (length (list i)) (fit.lists i h).label (head_stands (i + 1) (list i) (laid.list i h))
 
-  pub list_component : (i : ℕ) → i < length lists → (j : ℕ) → j < length (list i) → ComponentThere s (list_at v lists i + 7 + 45 * j) (get_or (list i) j no_carried)
+  pub list_component : (i : ℕ) → i < length lists → (j : ℕ) → j < length (list i) → ComponentThere s (list_at v lists i + 7 + 45 * j) (get_or (list i) j absent_carried)
   list_component i h j l =
       let f = (fit.lists i h).each j l in
-      component_there (get_or (list i) j no_carried) f.ten (weight_bits _ f.weight) f.points_bits (behind_head (i + 1) (list i) (ten src (list i) (fit.lists i h)) (laid.list i h) j l)
+      component_there (get_or (list i) j absent_carried) f.ten (weight_bits _ f.weight) f.points_bits (behind_head (i + 1) (list i) (ten src (list i) (fit.lists i h)) (laid.list i h) j l)
 
   -- after all rows and i lists; after the head of list i and j of its components
-  abbrev after : ℕ → Sst
+  abbrev after : ℕ → SheetRead
   after i = read_to v lists (last_of 20 22 i) (length v.tones) (length v.accents) (rows_of v) i 0 (components_before lists i)
 
-  abbrev within : ℕ → ℕ → Sst
+  abbrev within : ℕ → ℕ → SheetRead
   within i j = read_to v lists (last_of 21 22 j) (length v.tones) (length v.accents) (rows_of v) (suc i) (length (list i) - j) (components_before lists i + j)
 
   pub all_there : (i : ℕ) → complete (after i) ≡ true
@@ -87,7 +87,7 @@ module _ (s : List ℕ) (d : Out Sst) (src : Source) (v : View) (fit : ViewFit s
       let k = fit.owners i h in
       holds_one s (accent_at v) (length v.accents) (byte_at s (list_at v lists i + 2)) k.0 k.1 ((accent_read s d src v fit laid k.0 k.1).number ∙ k.2 ∙ sym (list_head i h).owner)
 
-  owner_some : (i : ℕ) → i < length lists → 1 ≤ (get_or (list i) 0 no_carried).owner
+  owner_some : (i : ℕ) → i < length lists → 1 ≤ (get_or (list i) 0 absent_carried).owner
   owner_some i h = let k = fit.owners i h in omega (arith, k.2, (fit.accents k.0 k.1).least)
 
   head_room : (i : ℕ) → i < length lists → list_crowded s (list_at v lists i) (after i) ≡ false
@@ -128,18 +128,18 @@ module _ (s : List ℕ) (d : Out Sst) (src : Source) (v : View) (fit : ViewFit s
       let e : length (up_to (list_at v lists) (suc i)) - 1 ≡ i = omega (arith, up_to_length (list_at v lists) (suc i)) in
       rw e (up_to_get (list_at v lists) (suc i) i (omega arith))
 
-  unit_weight : (i : ℕ) → i < length lists → (j : ℕ) → j < length (list i) → (eqb (get_or (list i) 0 no_carried).form 3 || eqb (get_or (list i) j no_carried).weight 0x3f80_0000) ≡ true
+  unit_weight : (i : ℕ) → i < length lists → (j : ℕ) → j < length (list i) → (eqb (get_or (list i) 0 absent_carried).form 3 || eqb (get_or (list i) j absent_carried).weight 0x3f80_0000) ≡ true
   unit_weight i h zero l =
-      split (eqb (get_or (list i) 0 no_carried).form 3) (λ e. rw e)
-      (λ e. rw (e, (fit.lists i h).unit (eqb-false (get_or (list i) 0 no_carried).form 3 e)))
+      split (eqb (get_or (list i) 0 absent_carried).form 3) (λ e. rw e)
+      (λ e. rw (e, (fit.lists i h).unit (eqb-false (get_or (list i) 0 absent_carried).form 3 e)))
   unit_weight i h (suc j) l =
-      split (eqb (get_or (list i) 0 no_carried).form 3) (λ e. rw e)
-      (λ e. absurd (omega (arith, (fit.lists i h).lone (eqb-false (get_or (list i) 0 no_carried).form 3 e))))
+      split (eqb (get_or (list i) 0 absent_carried).form 3) (λ e. rw e)
+      (λ e. absurd (omega (arith, (fit.lists i h).lone (eqb-false (get_or (list i) 0 absent_carried).form 3 e))))
 
   component_is_fine : (i : ℕ) → i < length lists → (j : ℕ) → j < length (list i) → component_fine s (list_at v lists i + 7 + 45 * j) (within i j) ≡ true
   component_is_fine i h j l =
       let o = list_at v lists i + 7 + 45 * j in
-      let c = get_or (list i) j no_carried in
+      let c = get_or (list i) j absent_carried in
       let f = (fit.lists i h).each j l in
       let w = list_component i h j l in
       rw (last_list_lem i j, (list_head i h).form, w.weight, f.weight, unit_weight i h j l) (points_fine_lem s o c w f.points)

@@ -6,15 +6,15 @@ use Rattle.tonekit_core.specs.Loop.{range_to}
 use Rattle.tonekit_core.proofs.LoopLaws.{to_again, to_stop}
 use Rattle.spec_arithmetic.specs.Fields.{byte_at}
 use Rattle.tonekit_core.proofs.Split.{split}
-use Rattle.spec_lookup.specs.Source.{Carried, Source}
+use Rattle.spec_lookup.specs.Source.{Carried, Source, absent_tone}
 use Rattle.spec_arithmetic.specs.Places.{number_at, index_of}
 use Rattle.tonekit_bytes.specs.Places.{index_turn}
 use Rattle.tonekit_expect.proofs.Walk.{index_found}
 use Rattle.spec_lookup.specs.declared.Context.{Context}
 use Rattle.spec_sheet.specs.Number.{place_in, number_in}
-use Rattle.spec_sheet.specs.Sheet.{View, no_tone, no_accent, prev_number, rows_of, lists_of}
+use Rattle.spec_sheet.specs.Sheet.{View, absent_accent, prev_number, rows_of, lists_of}
 use Rattle.spec_arithmetic.specs.Files.{Out}
-use Rattle.spec_sheet.specs.Reader.{Sst}
+use Rattle.spec_sheet.specs.Reader.{SheetRead}
 use Rattle.spec_sheet.specs.Reader.{row_at as row_in}
 use Rattle.spec_sheet.specs.FromSheet.{list_numbered, prev_found, look_placed}
 use Rattle.tonekit_sheet_laws.proofs.Place.{up_to, tone_at, accent_at, list_at, read_to}
@@ -55,16 +55,16 @@ pub record FoundAt (f : Found ℕ) (count : ℕ) (number : ℕ → ℕ) (n : ℕ
   pub there : at < count
   pub same : number at ≡ n
 
-module _ (s : List ℕ) (d : Out Sst) (src : Source) (v : View) (fit : ViewFit src v) (laid : Laid s v (lists_of v)) (last total : ℕ) where
+module _ (s : List ℕ) (d : Out SheetRead) (src : Source) (v : View) (fit : ViewFit src v) (laid : Laid s v (lists_of v)) (last total : ℕ) where
   abbrev lists : List (List Carried)
   lists = lists_of v
 
-  abbrev st : Sst
+  abbrev st : SheetRead
   st = read_to v lists last (length v.tones) (length v.accents) (rows_of v) (length lists) 0 total
 
   -- ---- accents and tones, found by number
-  pub accent_place_lem : (n m : ℕ) → m < length v.accents → (get_or v.accents m no_accent).number ≡ n
-      → FoundAt (index_of s (up_to (accent_at v) (length v.accents)) n) (length v.accents) (λ i. (get_or v.accents i no_accent).number) n
+  pub accent_place_lem : (n m : ℕ) → m < length v.accents → (get_or v.accents m absent_accent).number ≡ n
+      → FoundAt (index_of s (up_to (accent_at v) (length v.accents)) n) (length v.accents) (λ i. (get_or v.accents i absent_accent).number) n
   accent_place_lem n m h e =
       let a = length v.accents in
       let os = up_to (accent_at v) a in
@@ -73,8 +73,8 @@ module _ (s : List ℕ) (d : Out Sst) (src : Source) (v : View) (fit : ViewFit s
       let l : f.0 < a = omega (arith, g.inside, up_to_length (accent_at v) a) in
       record { at = f.0; is = f.1; there = l; same = sym (accent_read s d src v fit laid f.0 l).number ∙ ap (number_at s) (sym (up_to_get (accent_at v) a f.0 l)) ∙ g.number }
 
-  pub tone_place_lem : (n m : ℕ) → m < length v.tones → (get_or v.tones m no_tone).number ≡ n
-      → FoundAt (index_of s (up_to tone_at (length v.tones)) n) (length v.tones) (λ i. (get_or v.tones i no_tone).number) n
+  pub tone_place_lem : (n m : ℕ) → m < length v.tones → (get_or v.tones m absent_tone).number ≡ n
+      → FoundAt (index_of s (up_to tone_at (length v.tones)) n) (length v.tones) (λ i. (get_or v.tones i absent_tone).number) n
   tone_place_lem n m h e =
       let t = length v.tones in
       let os = up_to tone_at t in
@@ -87,7 +87,7 @@ module _ (s : List ℕ) (d : Out Sst) (src : Source) (v : View) (fit : ViewFit s
   pub prev_none : (n : ℕ) → n ≡ 0 → FoundAt (prev_found s st n) (suc (length v.tones)) (prev_number v.tones) n
   prev_none n e = record { at = 0; is = rw (eq-eqb n 0 e); there = omega arith; same = sym e }
 
-  pub prev_tone : (n m : ℕ) → m < length v.tones → (get_or v.tones m no_tone).number ≡ n → FoundAt (prev_found s st n) (suc (length v.tones)) (prev_number v.tones) n
+  pub prev_tone : (n m : ℕ) → m < length v.tones → (get_or v.tones m absent_tone).number ≡ n → FoundAt (prev_found s st n) (suc (length v.tones)) (prev_number v.tones) n
   prev_tone n m h e =
       let f = tone_place_lem n m h e in
       let least = (fit.tones m h).least in

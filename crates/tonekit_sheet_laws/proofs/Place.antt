@@ -3,7 +3,7 @@ use Rattle.std.specs.Prelude.{ℕ, zero, suc, ◌+◌, ◌*◌, List, [], ◌∷
 use Rattle.tonekit_core.specs.declared.layout.TheConstants.{SHEET_ROW_KIND, SHEET_LIST_SIZE, SHEET_COMPONENT_KIND, SHEET_COMPONENT_SIZE}
 use Rattle.tonekit_core.specs.Layout.{sheet_tone_at, sheet_accent_at, sheet_row_at}
 use Rattle.spec_lookup.specs.Source.{Carried, Source}
-use Rattle.spec_sheet.specs.Reader.{Sst}
+use Rattle.spec_sheet.specs.Reader.{SheetRead}
 use Rattle.spec_sheet.specs.Sheet.{View, view_of, rows_of, lists_of}
 use Rattle.tonekit_sheet.specs.Fit.{components_in}
 
@@ -31,7 +31,7 @@ abbrev pub list_at : View → List (List Carried) → ℕ → ℕ
 list_at v lists i = row_at v (rows_of v) + (SHEET_LIST_SIZE * i + SHEET_COMPONENT_SIZE * components_before lists i)
 
 -- what has been read after t tones, a accents, r rows and l lists
-abbrev pub read_to : View → List (List Carried) → ℕ → ℕ → ℕ → ℕ → ℕ → ℕ → ℕ → Sst
+abbrev pub read_to : View → List (List Carried) → ℕ → ℕ → ℕ → ℕ → ℕ → ℕ → ℕ → SheetRead
 read_to v lists last t a r l due total = record {
   last = last;
   tones = up_to tone_at t;
@@ -48,10 +48,10 @@ last_of before kind zero = before
 last_of before kind (suc n) = kind
 
 -- what the reader has at the end of a sheet
-unfoldable pub st_of_view : View → List (List Carried) → Sst
+unfoldable pub st_of_view : View → List (List Carried) → SheetRead
 st_of_view v lists =
     read_to v lists (last_of SHEET_ROW_KIND SHEET_COMPONENT_KIND (length lists)) (length v.tones) (length v.accents)
     (rows_of v) (length lists) 0 (components_in lists)
 
-unfoldable pub st_of : Source → Sst
+unfoldable pub st_of : Source → SheetRead
 st_of src = st_of_view (view_of src) (lists_of (view_of src))

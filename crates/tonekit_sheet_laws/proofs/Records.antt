@@ -4,7 +4,7 @@ use Rattle.spec_arithmetic.specs.Fields.{byte_at, u16_at, u32_at, le16, le32}
 use Rattle.spec_arithmetic.specs.Places.{number_at}
 use Rattle.spec_lookup.specs.Source.{Settings, Tone, Accent, Carried}
 use Rattle.spec_lookup.specs.declared.Context.{Context}
-use Rattle.spec_sheet.specs.Sheet.{settings_bytes, tone_bytes, accent_bytes, row_bytes, bits_bytes, components_bytes, no_carried, list_bytes}
+use Rattle.spec_sheet.specs.Sheet.{settings_bytes, tone_bytes, accent_bytes, row_bytes, bits_bytes, components_bytes, absent_carried, list_bytes}
 use Rattle.tonekit_sheet.specs.Fit.{Bits}
 use Rattle.tonekit_sheet.proofs.Components.{component_length}
 use Rattle.tonekit_bytes.proofs.Back.{le16_back, le32_back}
@@ -12,8 +12,8 @@ use Rattle.tonekit_bytes.proofs.Stands.{Stands, field16, field32, kind, stands_f
 use Rattle.tonekit_sheet.specs.Parts.{component_bytes}
 
 -- a list's head
-abbrev pub head_bytes : ℕ → Carried → ℕ → List ℕ
-head_bytes n c count = (21 ∷ n ∷ c.owner ∷ c.form ∷ []) ++ (le16 c.label ++ (count ∷ []))
+abbrev pub list_head_bytes : ℕ → Carried → ℕ → List ℕ
+list_head_bytes n c count = (21 ∷ n ∷ c.owner ∷ c.form ∷ []) ++ (le16 c.label ++ (count ∷ []))
 
 module _ (s : List ℕ) (o : ℕ) where
   pub record SettingsThere (x : Settings) : Type 0 where
@@ -100,7 +100,7 @@ module _ (s : List ℕ) (o : ℕ) where
     pub label : u16_at s (o + 4) ≡ c.label
     pub count : byte_at s (o + 6) ≡ many
 
-  pub head_there : (n : ℕ) (c : Carried) (count : ℕ) → c.label < 65536 → Stands s o (head_bytes n c count) → HeadThere n c count
+  pub head_there : (n : ℕ) (c : Carried) (count : ℕ) → c.label < 65536 → Stands s o (list_head_bytes n c count) → HeadThere n c count
   head_there n c count l w = record {
     kind = kind w (omega arith);
     whole = w.fits;
@@ -139,7 +139,7 @@ component_there {s} {o} c t b p w =
 
 -- each component of a list has ten points
 abbrev pub Ten : List Carried → Type 0
-Ten cs = (j : ℕ) → j < length cs → length (get_or cs j no_carried).points ≡ 10
+Ten cs = (j : ℕ) → j < length cs → length (get_or cs j absent_carried).points ≡ 10
 
 pub components_length : (cs : List Carried) → Ten cs → length (components_bytes cs) ≡ 45 * length cs
 unfolding components_bytes
@@ -147,7 +147,7 @@ components_length [] t = refl
 components_length (c ∷ cs) t =
     omega (arith, length-append (component_bytes c) (components_bytes cs), component_length c (t 0 (omega arith)), components_length cs (λ j h. t (suc j) (omega arith)))
 
-pub component_stands : {s : List ℕ} {o : ℕ} (cs : List Carried) → Ten cs → Stands s o (components_bytes cs) → (j : ℕ) → j < length cs → Stands s (o + 45 * j) (component_bytes (get_or cs j no_carried))
+pub component_stands : {s : List ℕ} {o : ℕ} (cs : List Carried) → Ten cs → Stands s o (components_bytes cs) → (j : ℕ) → j < length cs → Stands s (o + 45 * j) (component_bytes (get_or cs j absent_carried))
 unfolding components_bytes
 component_stands {o = o} [] t w j h = absurd (omega arith)
 component_stands {s = s} {o = o} (c ∷ cs) t w zero h = let e : o + 45 * 0 ≡ o = omega arith in rw e (stands_first (component_bytes c) (components_bytes cs) w)
@@ -160,8 +160,8 @@ pub list_length : (n : ℕ) (cs : List Carried) → Ten cs → length (list_byte
 list_length n cs t = omega (arith, components_length cs t)
 
 -- the components of a list stand behind its head
-pub head_stands : {s : List ℕ} {o : ℕ} (n : ℕ) (cs : List Carried) → Stands s o (list_bytes n cs) → Stands s o (head_bytes n (get_or cs 0 no_carried) (length cs))
-head_stands n cs w = stands_first (head_bytes n (get_or cs 0 no_carried) (length cs)) (components_bytes cs) w
+pub head_stands : {s : List ℕ} {o : ℕ} (n : ℕ) (cs : List Carried) → Stands s o (list_bytes n cs) → Stands s o (list_head_bytes n (get_or cs 0 absent_carried) (length cs))
+head_stands n cs w = stands_first (list_head_bytes n (get_or cs 0 absent_carried) (length cs)) (components_bytes cs) w
 
-pub behind_head : {s : List ℕ} {o : ℕ} (n : ℕ) (cs : List Carried) → Ten cs → Stands s o (list_bytes n cs) → (j : ℕ) → j < length cs → Stands s (o + 7 + 45 * j) (component_bytes (get_or cs j no_carried))
-behind_head {s} {o} n cs t w j h = component_stands cs t (stands_then (head_bytes n (get_or cs 0 no_carried) (length cs)) (components_bytes cs) (o + 7) refl w) j h
+pub behind_head : {s : List ℕ} {o : ℕ} (n : ℕ) (cs : List Carried) → Ten cs → Stands s o (list_bytes n cs) → (j : ℕ) → j < length cs → Stands s (o + 7 + 45 * j) (component_bytes (get_or cs j absent_carried))
+behind_head {s} {o} n cs t w j h = component_stands cs t (stands_then (list_head_bytes n (get_or cs 0 absent_carried) (length cs)) (components_bytes cs) (o + 7) refl w) j h

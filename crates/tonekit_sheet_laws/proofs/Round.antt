@@ -4,7 +4,7 @@ use Rattle.tonekit_core.specs.declared.Refusal.TheVariants.{CutShort}
 use Rattle.spec_lookup.specs.Source.{Carried, Source}
 use Rattle.spec_sheet.specs.Sheet.{View, view_of, rows_of, lists_of, sheet}
 use Rattle.spec_arithmetic.specs.Files.{Out, loaded, refused}
-use Rattle.spec_sheet.specs.Reader.{Sst, size_of, due_next, body_verdict, read_sheet, load_sheet, check_sheet, sheet_reader}
+use Rattle.spec_sheet.specs.Reader.{SheetRead, size_of, due_next, body_verdict, read_sheet, load_sheet, check_sheet, sheet_reader}
 use Rattle.tonekit_sheet.specs.Fit.{Fit}
 use Rattle.tonekit_sheet_laws.proofs.Place.{components_before, tone_at, accent_at, row_at, list_at, read_to, last_of, st_of_view, st_of}
 use Rattle.tonekit_bytes.proofs.Stands.{kind}
@@ -19,20 +19,20 @@ use Rattle.tonekit_sheet_laws.proofs.Lists.{ten, all_there, through_lists}
 use Rattle.tonekit_sheet_laws.proofs.Finished.{nothing_found}
 
 -- the same reading, from a place and a state that come to the same
-from : {s : List ℕ} {d : Out Sst} {a b : ℕ} {x y : Sst} (c : ℕ) (z : Sst) → Reach s d a x b y → a ≡ c → x ≡ z → Reach s d c z b y
-from {s} {d} {a} {b} {x} {y} c z r e f = subst (λ (w : Sst). Reach s d c w b y) f (subst (λ (n : ℕ). Reach s d n x b y) e r)
+from : {s : List ℕ} {d : Out SheetRead} {a b : ℕ} {x y : SheetRead} (c : ℕ) (z : SheetRead) → Reach s d a x b y → a ≡ c → x ≡ z → Reach s d c z b y
+from {s} {d} {a} {b} {x} {y} c z r e f = subst (λ (w : SheetRead). Reach s d c w b y) f (subst (λ (n : ℕ). Reach s d n x b y) e r)
 
 module _ (s : List ℕ) (src : Source) (v : View) (fit : ViewFit src v) (laid : Laid s v (lists_of v)) where
   abbrev lists : List (List Carried)
   lists = lists_of v
 
-  abbrev d : Out Sst
+  abbrev d : Out SheetRead
   d = refused CutShort (length s)
 
   abbrev end : ℕ
   end = list_at v lists (length lists)
 
-  abbrev at_end : Sst
+  abbrev at_end : SheetRead
   at_end = read_to v lists (last_of 20 22 (length lists)) (length v.tones) (length v.accents) (rows_of v) (length lists) 0 (components_before lists (length lists))
 
   some_rows : 1 ≤ rows_of v

@@ -3,11 +3,11 @@ use Rattle.std.proofs.Common.{ℕ, zero, suc, ◌+◌, ◌≤◌, ◌<◌, ◌�
 use Rattle.spec_arithmetic.specs.Fields.{byte_at}
 use Rattle.spec_arithmetic.specs.Files.{Out}
 use Rattle.spec_pack.specs.Pack.{zero_or_held}
-use Rattle.spec_lookup.specs.Source.{Source}
+use Rattle.spec_lookup.specs.Source.{Source, absent_tone}
 use Rattle.spec_lookup.specs.declared.Context.{Context}
 use Rattle.spec_sheet.specs.Number.{number_in}
-use Rattle.spec_sheet.specs.Sheet.{View, no_tone, no_accent, accent_place, tone_place, prev_place, prev_number, row_context, rows_of, lists_of}
-use Rattle.spec_sheet.specs.Reader.{Sst, size_of, due_next, rows_due, row_verdict, body_verdict, added}
+use Rattle.spec_sheet.specs.Sheet.{View, absent_accent, accent_place, tone_place, prev_place, prev_number, row_context, rows_of, lists_of}
+use Rattle.spec_sheet.specs.Reader.{SheetRead, size_of, due_next, rows_due, row_verdict, body_verdict, added}
 use Rattle.tonekit_sheet_laws.proofs.Place.{up_to, tone_at, accent_at, row_at, read_to, last_of}
 use Rattle.tonekit_sheet.specs.Parts.{row_fine, row_held}
 use Rattle.tonekit_sheet_laws.proofs.Placed.{up_to_length, holds_one, zero_or_one, zero_or_zero}
@@ -19,7 +19,7 @@ use Rattle.tonekit_sheet_laws.proofs.Turns.{all_pass, Passes, Reach, stay, then,
 use Rattle.tonekit_sheet_laws.proofs.Tones.{tone_read}
 use Rattle.tonekit_sheet_laws.proofs.Accents.{accent_read}
 
-module _ (s : List ℕ) (d : Out Sst) (src : Source) (v : View) (fit : ViewFit src v) (laid : Laid s v (lists_of v)) where
+module _ (s : List ℕ) (d : Out SheetRead) (src : Source) (v : View) (fit : ViewFit src v) (laid : Laid s v (lists_of v)) where
   -- the context of row r
   abbrev pub asks : ℕ → Context
   asks r = row_context v.tones v.accents r false
@@ -31,11 +31,11 @@ module _ (s : List ℕ) (d : Out Sst) (src : Source) (v : View) (fit : ViewFit s
   places r h = row_places (length v.accents) (length v.tones) r fit.some_tones h
 
   -- what a row has at its place
-  pub asks_accent : (r : ℕ) → (asks r).accent ≡ (get_or v.accents (accent_place (length v.tones) r) no_accent).number
+  pub asks_accent : (r : ℕ) → (asks r).accent ≡ (get_or v.accents (accent_place (length v.tones) r) absent_accent).number
   unfolding row_context
   asks_accent r = refl
 
-  pub asks_tone : (r : ℕ) → (asks r).tone ≡ (get_or v.tones (tone_place (length v.tones) r) no_tone).number
+  pub asks_tone : (r : ℕ) → (asks r).tone ≡ (get_or v.tones (tone_place (length v.tones) r) absent_tone).number
   unfolding row_context
   asks_tone r = refl
 
@@ -44,7 +44,7 @@ module _ (s : List ℕ) (d : Out Sst) (src : Source) (v : View) (fit : ViewFit s
   asks_prev r = refl
 
   -- after all tones, all accents and r rows
-  abbrev after : ℕ → Sst
+  abbrev after : ℕ → SheetRead
   after r = read_to v (lists_of v) (last_of 19 20 r) (length v.tones) (length v.accents) r 0 0 0
 
   pub rows_due_lem : (last r l due total : ℕ) → rows_due (read_to v (lists_of v) last (length v.tones) (length v.accents) r l due total) ≡ rows_of v

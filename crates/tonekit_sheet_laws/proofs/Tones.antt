@@ -5,9 +5,9 @@ use Rattle.spec_pack.specs.Ranges.{region_fine}
 use Rattle.spec_arithmetic.specs.Places.{number_at}
 use Rattle.spec_arithmetic.specs.Files.{Out}
 use Rattle.spec_pack.specs.Pack.{holds, settings_verdict}
-use Rattle.spec_lookup.specs.Source.{Tone, Source}
-use Rattle.spec_sheet.specs.Sheet.{View, no_tone, lists_of}
-use Rattle.spec_sheet.specs.Reader.{Sst, size_of, due_next, tone_fine, tone_verdict, body_verdict, added, sheet_reader}
+use Rattle.spec_lookup.specs.Source.{Tone, Source, absent_tone}
+use Rattle.spec_sheet.specs.Sheet.{View, lists_of}
+use Rattle.spec_sheet.specs.Reader.{SheetRead, size_of, due_next, tone_fine, tone_verdict, body_verdict, added, sheet_reader}
 use Rattle.tonekit_sheet.specs.Fit.{ToneFit, region_fits}
 use Rattle.tonekit_sheet_laws.proofs.Place.{up_to, tone_at, read_to, last_of}
 use Rattle.tonekit_sheet_laws.proofs.Placed.{up_to_length, holds_none}
@@ -28,17 +28,17 @@ tone_fine_lem : (s : List ℕ) (o : ℕ) (t : Tone) → ToneThere s o t → Tone
 tone_fine_lem s o t w f =
     rw (region_there s o t w, w.number, w.prior, ne_eqb t.number 0 (λ e. omega (arith, f.least)), f.prior) f.region
 
-module _ (s : List ℕ) (d : Out Sst) (src : Source) (v : View) (fit : ViewFit src v) (laid : Laid s v (lists_of v)) where
+module _ (s : List ℕ) (d : Out SheetRead) (src : Source) (v : View) (fit : ViewFit src v) (laid : Laid s v (lists_of v)) where
   pub settings_read : SettingsThere s 0 v.settings
   settings_read = settings_there s 0 v.settings fit.settings.temperature_bits fit.settings.threshold_bits laid.settings
 
-  pub tone_read : (i : ℕ) → i < length v.tones → ToneThere s (tone_at i) (get_or v.tones i no_tone)
+  pub tone_read : (i : ℕ) → i < length v.tones → ToneThere s (tone_at i) (get_or v.tones i absent_tone)
   tone_read i h =
       let f = fit.tones i h in
-      tone_there s (tone_at i) (get_or v.tones i no_tone) f.prior_bits f.from_bits f.to_bits (laid.tone i h)
+      tone_there s (tone_at i) (get_or v.tones i absent_tone) f.prior_bits f.from_bits f.to_bits (laid.tone i h)
 
   -- before any record, and after i tones
-  abbrev after : ℕ → Sst
+  abbrev after : ℕ → SheetRead
   after i = read_to v (lists_of v) (last_of 17 18 i) i 0 0 0 0 0
 
   settings_pass : Passes s 0 sheet_reader.start.st 17 9
@@ -81,7 +81,7 @@ module _ (s : List ℕ) (d : Out Sst) (src : Source) (v : View) (fit : ViewFit s
         body =
             all_pass (leb 8 (length (up_to tone_at i))) (tone_fine s (tone_at i)) (not (holds s (up_to tone_at i) (number_at s (tone_at i)))) true
             (lt-leb 8 (length (up_to tone_at i)) (omega (arith, up_to_length tone_at i, fit.few_tones)))
-            (tone_fine_lem s (tone_at i) (get_or v.tones i no_tone) w (fit.tones i h)) (tone_new i h) refl;
+            (tone_fine_lem s (tone_at i) (get_or v.tones i absent_tone) w (fit.tones i h)) (tone_new i h) refl;
       }
 
   tone_on : (i : ℕ) → i < length v.tones → Reach s d (tone_at i) (after i) (tone_at (suc i)) (after (suc i))

@@ -11,7 +11,7 @@ use Rattle.tonekit_bytes.proofs.Files.{Alike, read_same, read_keeps, single_same
 use Rattle.tonekit_pack.proofs.Front.{region_same, tolerances_same, holds_same, zero_or_same}
 use Rattle.spec_sheet.specs.Sheet.{accent_place, tone_place, prev_place}
 use Rattle.spec_arithmetic.specs.Files.{loaded, said}
-use Rattle.spec_sheet.specs.Reader.{Sst, rows_due, due_next, size_of, tone_verdict, accent_verdict, row_verdict, list_verdict, point_fine, points_fine, component_verdict, body_verdict, record_verdict, added, row_at, loose_row, accent_down, prev_due, row_due, row_names, row_wrong, named, list_size, same_lists, repeated, list_wrong, finished, sheet_reader, read_sheet, load_sheet, check_sheet}
+use Rattle.spec_sheet.specs.Reader.{SheetRead, rows_due, due_next, size_of, tone_verdict, accent_verdict, row_verdict, list_verdict, point_fine, points_fine, component_verdict, body_verdict, record_verdict, added, row_at, loose_row, accent_down, prev_due, row_due, row_names, row_wrong, named, list_size, same_lists, repeated, list_wrong, finished, sheet_reader, read_sheet, load_sheet, check_sheet}
 use Rattle.tonekit_sheet.specs.Parts.{point_turn, loose_turn, accent_turn, row_turn, names_turn, same_turn, equal_turn, list_turn}
 use Rattle.tonekit_sheet.proofs.RowPlaces.{rows_few, some_tone, row_places}
 use Rattle.tonekit_sheet.proofs.Records.{Complete, Due, due_is, settings, tone, accent, row, list, component, finish, sound, closes}
@@ -25,14 +25,14 @@ unfolding points_fine
 points_same n t s a o h = range_same (point_turn t o) (point_turn s o) 0 10 true (omega arith) (λ j y l. ap (λ (x : Float). y && point_fine x) (float n t s a (o + 4 * j) (omega arith)))
 
 -- no place is past the one that the limits of the counts give
-near : (s : List ℕ) (at : ℕ) (st : Sst) → Kept s at st → at ≤ 13265
+near : (s : List ℕ) (at : ℕ) (st : SheetRead) → Kept s at st → at ≤ 13265
 near s at st p =
     let r : rows_due st ≤ 576 = rows_few (length st.accents) (length st.tones) p.few_accents p.few_tones in
     split (leb 1 st.last)
     (λ a. omega (arith, p.placed.place (leb-true 1 st.last a), p.placed.few_rows, p.few_tones, p.few_accents, p.few_lists, p.few_in_all))
     (λ a. omega (arith, p.placed.first (omega (arith, leb-false 1 st.last a))))
 
-module _ (n : ℕ) (t s : List ℕ) (a : Agree n t s) (at : ℕ) (st : Sst) (p : Kept s at st) (low : at ≤ 13265) (room : 13400 ≤ n) where
+module _ (n : ℕ) (t s : List ℕ) (a : Agree n t s) (at : ℕ) (st : SheetRead) (p : Kept s at st) (low : at ≤ 13265) (room : 13400 ≤ n) where
   few_rows : st.rows ≤ 576
   few_rows = let r : rows_due st ≤ 576 = rows_few (length st.accents) (length st.tones) p.few_accents p.few_tones in omega (arith, p.placed.few_rows)
 
@@ -187,7 +187,7 @@ read_agrees : (n : ℕ) (t s : List ℕ) → Agree n t s → 13400 ≤ n → rea
 unfolding read_sheet
 read_agrees n t s a l = read_same sheet_reader t s (Kept s) (alike n t s a l) steady refl (kept_start s)
 
-end_near : (s : List ℕ) (st : Sst) (e : ℕ) → read_sheet s ≡ loaded st e → e ≤ 13266
+end_near : (s : List ℕ) (st : SheetRead) (e : ℕ) → read_sheet s ≡ loaded st e → e ≤ 13266
 unfolding read_sheet
 end_near s st e h =
     read_keeps sheet_reader s st e (Kept s)

@@ -4,10 +4,10 @@ use lib.ListN.{get_or-append}
 use Rattle.spec_arithmetic.specs.Fields.{byte_at}
 use Rattle.tonekit_core.proofs.Split.{split}
 use Rattle.tonekit_core.proofs.Lists.{last_snoc}
-use Rattle.spec_sheet.specs.Reader.{Sst, size_of, body_verdict, added, sheet_reader}
+use Rattle.spec_sheet.specs.Reader.{SheetRead, size_of, body_verdict, added, sheet_reader}
 use Rattle.tonekit_sheet.proofs.Every.{every_snoc}
 use Rattle.tonekit_sheet.proofs.Records.{Complete, rows_done, list_done, Due, settings, tone, accent, row, list, component, finish, tone_room, accent_room, list_room, list_some, component_room}
-use Rattle.tonekit_sheet_read.specs.Going.{Placed}
+use Rattle.tonekit_sheet_read.specs.Going.{InPlace}
 use Rattle.tonekit_sheet_read.proofs.Reading.{placed_start, placed_next, after_list}
 
 -- the list at o as far as it was read at a place: so many of its components are still due
@@ -20,8 +20,8 @@ pub record ListRead (s : List ℕ) (o due at : ℕ) : Type 0 where
 farther : {s : List ℕ} {o due at : ℕ} (more : ℕ) → ListRead s o due at → ListRead s o due (at + more)
 farther more l = record { some = l.some; few = l.few; left = l.left; extent = omega arith }
 
-pub record Kept (s : List ℕ) (at : ℕ) (st : Sst) : Type 0 where
-  pub placed : Placed at st
+pub record Kept (s : List ℕ) (at : ℕ) (st : SheetRead) : Type 0 where
+  pub placed : InPlace at st
   pub few_tones : length st.tones ≤ 8
   pub tones_at : (i : ℕ) → i < length st.tones → get_or st.tones i 0 ≡ 9 + 15 * i
   pub few_accents : length st.accents ≤ 8
@@ -48,11 +48,11 @@ kept_start s = record {
   few_in_all = omega arith;
 }
 
-pub no_due : {at : ℕ} {st : Sst} → Placed at st → Complete st → st.due ≡ 0
+pub no_due : {at : ℕ} {st : SheetRead} → InPlace at st → Complete st → st.due ≡ 0
 no_due p (rows_done l e) = (p.no_lists (omega arith)).2
 no_due p (list_done l e) = e
 
-module _ (s : List ℕ) (at : ℕ) (st : Sst) (p : Kept s at st) where
+module _ (s : List ℕ) (at : ℕ) (st : SheetRead) (p : Kept s at st) where
   count : ℕ
   count = byte_at s (at + 6)
 

@@ -5,7 +5,7 @@ use Rattle.spec_arithmetic.specs.Fields.{byte_at}
 use Rattle.spec_pack.specs.Pack.{holds, zero_or_held}
 use Rattle.tonekit_pack.proofs.Numbers.{not_held}
 use Rattle.tonekit_core.proofs.Split.{split}
-use Rattle.spec_sheet.specs.Reader.{Sst, named, list_size, same_lists, repeated}
+use Rattle.spec_sheet.specs.Reader.{SheetRead, named, list_size, same_lists, repeated}
 use Rattle.tonekit_sheet.specs.Parts.{same_turn, equal_turn, list_turn}
 use Rattle.tonekit_core.proofs.LoopLaws.{range_same}
 use Rattle.tonekit_sheet_read.proofs.Loops.{settled, range_parts}
@@ -33,7 +33,7 @@ repeated_same s os xs n o h =
     range_same (equal_turn s os o) (equal_turn s xs o) 0 n false (omega arith) (λ j t l. rw (h j l))
 
 -- a list's turn, with those before it as a part of their own
-module _ (s : List ℕ) (st : Sst) where
+module _ (s : List ℕ) (st : SheetRead) where
   turn_at : (i o : ℕ) → i < length st.lists → o ≡ get_or st.lists i 0
       → list_turn s st i 0
       ≡ cond (eqb (byte_at s (o + 1)) (i + 1) && (named s st (i + 1) && not (repeated s (take i st.lists) (length (take i st.lists)) o)))

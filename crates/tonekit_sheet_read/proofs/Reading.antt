@@ -7,10 +7,10 @@ use Rattle.tonekit_bytes.proofs.InOrder.{order_length}
 use Rattle.tonekit_bytes.proofs.Files as files
 use Rattle.tonekit_pack.proofs.Reading.{answer_alone, answer_told}
 use Rattle.tonekit_sheet.proofs.Turns.{steady}
-use Rattle.spec_sheet.specs.Reader.{Sst, rows_due, size_of, added, finished, body_verdict, record_verdict, sheet_reader, read_sheet, load_sheet, check_sheet}
+use Rattle.spec_sheet.specs.Reader.{SheetRead, rows_due, size_of, added, finished, body_verdict, record_verdict, sheet_reader, read_sheet, load_sheet, check_sheet}
 use Rattle.tonekit_sheet_read.specs.declared.Sheet.{Sheet}
 use Rattle.tonekit_sheet_read.specs.Held.{shown, answered, Follows}
-use Rattle.tonekit_sheet_read.specs.Going.{Placed, Going}
+use Rattle.tonekit_sheet_read.specs.Going.{InPlace, Going}
 use Rattle.tonekit_pack.specs.declared.Loaded.{Loaded}
 use Rattle.tonekit_pack.specs.Format.{alone, told}
 use Rattle.tonekit_core.specs.declared.Rejection.{Rejection}
@@ -18,7 +18,7 @@ use Rattle.tonekit_bytes.proofs.Stepped.{stepped_length}
 use Rattle.tonekit_sheet_read.proofs.Rows.{due_few}
 use Rattle.tonekit_sheet.proofs.Records.{Complete, rows_done, list_done, Due, settings, tone, accent, row, list, component, finish, Sound, sound, tone_room, accent_room, list_room, component_room}
 
-pub placed_start : Placed 0 sheet_reader.start.st
+pub placed_start : InPlace 0 sheet_reader.start.st
 placed_start = record {
   first = λ q. refl;
   place = λ q. absurd (omega arith);
@@ -30,22 +30,22 @@ placed_start = record {
   all_rows = λ q. absurd (omega arith);
 }
 
-full : (at : ℕ) (st : Sst) → Placed at st → Complete st → st.rows ≡ rows_due st
+full : (at : ℕ) (st : SheetRead) → InPlace at st → Complete st → st.rows ≡ rows_due st
 full at st p (rows_done l e) = e
 full at st p (list_done l e) = p.all_rows (omega arith)
 
-begun : (st : Sst) → Complete st → 1 ≤ st.last
+begun : (st : SheetRead) → Complete st → 1 ≤ st.last
 begun st (rows_done l e) = omega arith
 begun st (list_done l e) = omega arith
 
 -- components are due of a list that was read
-pub after_list : (at : ℕ) (st : Sst) → Placed at st → 0 < st.due → 21 ≤ st.last
+pub after_list : (at : ℕ) (st : SheetRead) → InPlace at st → 0 < st.due → 21 ≤ st.last
 after_list at st p h =
     split (leb st.last 20)
     (λ a. absurd (omega (arith, p.no_lists (leb-true st.last 20 a))))
     (λ a. omega (arith, leb-false st.last 20 a))
 
-pub placed_next : (at count : ℕ) (st : Sst) {k : ℕ} → Due st k → (k ≡ 23 → ⊥) → Placed at st → Placed (at + size_of k) (added k at count st)
+pub placed_next : (at count : ℕ) (st : SheetRead) {k : ℕ} → Due st k → (k ≡ 23 → ⊥) → InPlace at st → InPlace (at + size_of k) (added k at count st)
 unfolding added size_of
 placed_next at count st (settings z) n p = record {
   first = λ q. absurd (omega arith);

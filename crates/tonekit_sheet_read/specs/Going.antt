@@ -5,16 +5,16 @@ use Rattle.tonekit_core.specs.declared.Refusal.{Refusal}
 use Rattle.spec_arithmetic.specs.Files.{judged, refused}
 use Rattle.tonekit_bytes.specs.Onward as onward
 use Rattle.tonekit_bytes.specs.Onward.{Onward}
-use Rattle.spec_sheet.specs.Reader.{Sst, rows_due, due_next, size_of, body_verdict, record_verdict, sheet_reader, read_sheet}
+use Rattle.spec_sheet.specs.Reader.{SheetRead, rows_due, due_next, size_of, body_verdict, record_verdict, sheet_reader, read_sheet}
 use Rattle.tonekit_sheet_read.specs.declared.Sheet.{Sheet}
 use Rattle.tonekit_sheet_read.specs.Held.{shown}
 
 -- where the counts put the next record
-abbrev pub place_of : Sst → ℕ
+abbrev pub place_of : SheetRead → ℕ
 place_of st = 9 + 15 * length st.tones + 18 * length st.accents + 6 * st.rows + 7 * length st.lists + 45 * st.total
 
 -- before the first record all counts are 0; later kinds have come only after the earlier ones, and lists only after all rows
-pub record Placed (at : ℕ) (st : Sst) : Type 0 where
+pub record InPlace (at : ℕ) (st : SheetRead) : Type 0 where
   pub first : st.last ≡ 0 → at ≡ 0
   pub place : 1 ≤ st.last → at ≡ place_of st
   pub no_tones : st.last ≤ 17 → length st.tones ≡ 0
@@ -26,11 +26,11 @@ pub record Placed (at : ℕ) (st : Sst) : Type 0 where
 
 -- from here the reader gives what it gives of the whole
 pub record Going (s : List ℕ) (st : Sheet) (at : ℕ) : Type 0 where
-  pub placed : Placed at (shown st)
+  pub placed : InPlace at (shown st)
   pub onward : Onward sheet_reader s at (shown st)
 
 -- the verdict of a record is its tests in their order
-pub judges : (s : List ℕ) (o : ℕ) (st : Sst) → record_verdict s o st ≡ judged (due_next st) size_of (λ k. body_verdict k s o st) s o
+pub judges : (s : List ℕ) (o : ℕ) (st : SheetRead) → record_verdict s o st ≡ judged (due_next st) size_of (λ k. body_verdict k s o st) s o
 unfolding record_verdict
 judges s o st = refl
 

@@ -10,10 +10,10 @@ use Rattle.tonekit_pack.specs.Format.{answer}
 use Rattle.tonekit_sheet_read.specs.declared.Sheet.{Sheet}
 use Rattle.tonekit_sheet.specs.Kinds.{last_of}
 use Rattle.spec_arithmetic.specs.Files.{Out, loaded}
-use Rattle.spec_sheet.specs.Reader.{Sst, read_sheet}
+use Rattle.spec_sheet.specs.Reader.{SheetRead, read_sheet}
 
 -- tones and accents stand one behind the other, after the settings
-abbrev pub shown : Sheet → Sst
+abbrev pub shown : Sheet → SheetRead
 shown p = record {
   last = last_of p.last;
   tones = stepped SETTINGS_SIZE SHEET_TONE_SIZE p.tones;
@@ -24,7 +24,7 @@ shown p = record {
   total = p.total;
 }
 
-abbrev pub answered : Result (Loaded Sheet) Rejection → Out Sst
+abbrev pub answered : Result (Loaded Sheet) Rejection → Out SheetRead
 answered = answer shown
 
 -- the record of kind k at o, a list of so many components, may follow what was read: it stands where it is shown to, and there is room for it

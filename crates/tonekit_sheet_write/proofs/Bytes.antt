@@ -19,7 +19,7 @@ use Rattle.tonekit_expect.proofs.Carried.{named, components_length, components_a
 use Rattle.spec_sheet.specs.Pieces.{pieces, gather, Wrote}
 use Rattle.tonekit_sheet.proofs.Gather.{gather_length}
 use Rattle.spec_sheet.specs.Number.{number_in}
-use Rattle.spec_sheet.specs.Sheet.{no_carried, row_bytes, row_context, bits_bytes, components_bytes, list_bytes}
+use Rattle.spec_sheet.specs.Sheet.{absent_carried, row_bytes, row_context, bits_bytes, components_bytes, list_bytes}
 use Rattle.tonekit_sheet.proofs.Components.{bits_length, components_snoc}
 use Rattle.tonekit_sheet.specs.Parts.{row_piece, component_bytes}
 use Rattle.tonekit_sheet_plan.specs.declared.Entry.{Entry}
@@ -99,9 +99,9 @@ unfolding gather
 components_gather s l = components_pieces s l l.count ∙ (let q : l.count - 0 ≡ l.count = omega arith in rw q)
 
 -- ---- lists
-head_is : (s : List ℕ) (l : Listing) (n : ℕ) → Kept s l → (SHEET_LIST_KIND ∷ n ∷ (get_or (carried_by s l) 0 no_carried).owner ∷ (get_or (carried_by s l) 0 no_carried).form ∷ []) ++ (le16 (get_or (carried_by s l) 0 no_carried).label ++ (length (carried_by s l) ∷ [])) ≡ head_of n l
+head_is : (s : List ℕ) (l : Listing) (n : ℕ) → Kept s l → (SHEET_LIST_KIND ∷ n ∷ (get_or (carried_by s l) 0 absent_carried).owner ∷ (get_or (carried_by s l) 0 absent_carried).form ∷ []) ++ (le16 (get_or (carried_by s l) 0 absent_carried).label ++ (length (carried_by s l) ∷ [])) ≡ head_of n l
 head_is s l n k =
-    rw (components_at s l no_carried l.count 0 k.some, (named s l 0).owner, (named s l 0).form, (named s l 0).label, components_length s l l.count)
+    rw (components_at s l absent_carried l.count 0 k.some, (named s l 0).owner, (named s l 0).form, (named s l 0).label, components_length s l l.count)
 
 -- list i, from its listing
 module _ (s : List ℕ) (lists : List Entry) (i : ℕ) (h : i < length lists) {l : Listing} (e : l ≡ list_at s lists i) (k : Kept s l) where

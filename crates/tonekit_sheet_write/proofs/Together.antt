@@ -5,10 +5,10 @@ use Rattle.tonekit_core.specs.Layout.{sheet_row_at}
 use Rattle.tonekit_bytes.proofs.InOrder.{order_length}
 use Rattle.tonekit_pack.specs.Held.{shown}
 use Rattle.tonekit_pack.specs.declared.Pack.{Pack}
-use Rattle.spec_lookup.specs.Source.{Carried, tone_at, accent_at, settings_at, source_of_pack}
+use Rattle.spec_lookup.specs.Source.{Carried, tone_at, accent_at, settings_at, source_of_pack, absent_tone}
 use Rattle.spec_sheet.specs.Pieces.{gather, Wrote}
 use Rattle.tonekit_sheet.proofs.Gather.{gather_length, gather_more, gather_none, joined, room_first, room_then}
-use Rattle.spec_sheet.specs.Sheet.{view_of, no_tone, no_accent, settings_bytes, tone_bytes, accent_bytes, row_count, rows_of, lists_of, bytes_with, sheet}
+use Rattle.spec_sheet.specs.Sheet.{view_of, absent_accent, settings_bytes, tone_bytes, accent_bytes, row_count, rows_of, lists_of, bytes_with, sheet}
 use Rattle.tonekit_sheet.specs.Parts.{bytes_of, row_piece}
 use Rattle.tonekit_sheet_plan.specs.Rows.{pack_view, Ordered}
 use Rattle.tonekit_sheet_plan.proofs.Views.{view_tones, view_sorted, view_rows}
@@ -51,8 +51,8 @@ module _ (s : List ℕ) (p : Pack) (os : List ℕ) (n : ℕ) (its : List (List C
     parts =
         let v = pack_view s (shown p) in
         ap₂ (λ (x y : List ℕ). x ++ y) (ap settings_bytes settings_are)
-        (ap₂ (λ (x y : List ℕ). x ++ y) (made_is (tone_at 47 s) no_tone tone_bytes (shown p).tones (view_tones s (shown p)))
-        (ap₂ (λ (x y : List ℕ). x ++ y) (made_is (accent_at 3 s) no_accent accent_bytes os (view_sorted s (shown p) os o))
+        (ap₂ (λ (x y : List ℕ). x ++ y) (made_is (tone_at 47 s) absent_tone tone_bytes (shown p).tones (view_tones s (shown p)))
+        (ap₂ (λ (x y : List ℕ). x ++ y) (made_is (accent_at 3 s) absent_accent accent_bytes os (view_sorted s (shown p) os o))
         (ap (λ (d : ℕ). gather (row_piece v its) 0 d ++ (E ++ F)) rows_are)))
 
     -- what stands before a row past the last, the lists, and the end

@@ -9,12 +9,12 @@ use Rattle.std.specs.Prelude.{Some, None, Result, Ok, Err}
 use Rattle.tonekit_core.specs.declared.Rejection.{Rejection}
 use Rattle.spec_judgement.specs.declared.Tolerance.{Tolerance}
 use Rattle.tonekit_core.proofs.Split.{split}
-use Rattle.spec_lookup.specs.Source.{Tone, Accent, Carried, Source, accent_in, tone_in}
+use Rattle.spec_lookup.specs.Source.{Tone, Accent, Carried, Source, accent_in, tone_in, absent_tone}
 use Rattle.spec_lookup.specs.declared.Context.{Context}
 use Rattle.spec_shape.specs.Extract.{extent_of}
 use Rattle.spec_sheet.specs.Agree.{Held, Agree}
 use Rattle.spec_judgement.specs.Judge.{Listings}
-use Rattle.spec_judgement.specs.Gather.{Gathering, absent_tone, given_of, slotted, list_tone, listings, graded_of, gathered}
+use Rattle.spec_judgement.specs.Gather.{Gathering, given_of, slotted, list_tone, listings, graded_of, gathered}
 use Rattle.tonekit_inventory.specs.Fields.{tolerance_of}
 use Rattle.tonekit_inventory.proofs.Going.{nothing_yet}
 use Rattle.spec_judgement.specs.Judgement.{query_verdict, judge_gathered, on_query, judgement}

@@ -45,7 +45,7 @@ module _ (p s : List ℕ) (n : ℕ) (h : 10287 ≤ n) where
 
 -- whatever the sheet
 module _ (p s : List ℕ) (n : ℕ) (h : 10287 ≤ n) where
-  sheet_way : (o : files.Out sheet.Sst) → on_sheet p (take n s) o ≡ on_sheet p s o
+  sheet_way : (o : files.Out sheet.SheetRead) → on_sheet p (take n s) o ≡ on_sheet p s o
   sheet_way (files.refused r place) = refl
   sheet_way (files.loaded st e) = judgement_enough (source_of_sheet p st) s n h
 

@@ -84,7 +84,7 @@ module _ (p s : List ℕ) where
   unfolding judge_outcome
   pack_held = by_pack (load_pack p)
 
-  by_sheet : (o : files.Out sheet.Sst) → on_held (of-sheet.source_or p o) s ≡ on_sheet p s o
+  by_sheet : (o : files.Out sheet.SheetRead) → on_held (of-sheet.source_or p o) s ≡ on_sheet p s o
   by_sheet (files.refused r place) = refl
   by_sheet (files.loaded st e) = refl
 

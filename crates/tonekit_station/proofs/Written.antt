@@ -80,7 +80,7 @@ module _ (P : List ℕ → Type 0) (records : Records P) where
   pack_writes p s (files.refused r place) = tt
   pack_writes p s (files.loaded st e) = judgement_writes (source_of_pack p st) s
 
-  sheet_writes : (p s : List ℕ) (o : files.Out sheet.Sst) → Writes P (on_sheet p s o)
+  sheet_writes : (p s : List ℕ) (o : files.Out sheet.SheetRead) → Writes P (on_sheet p s o)
   sheet_writes p s (files.refused r place) = tt
   sheet_writes p s (files.loaded st e) = judgement_writes (source_of_sheet p st) s
 
