@@ -15,19 +15,16 @@ pub use spec_judgement::{
 use tonekit_core::MeasureIssue;
 use tonekit_shape::ToneShape;
 
-// The factor on every tolerance: 1.5 under LowSnr, Clipped or ColdStartRegister, else 1.
-#[tactic(auto, unfolding(spec_judgement::specs::Score::widen_for))]
+// The factor on every tolerance, 1 + 0.5 × b: b is 1 under LowSnr, Clipped or ColdStartRegister, else 0, in the same steps whatever the
+// issues. They are counted, not joined by `|`: of a b that the compiler knows to be a bit of the issues it makes a jump.
 pub fn widen_for(issues: u16) -> f32
     ensures { result ≡ widen_for issues }
 {
-    if tonekit_core::has_issue(issues, MeasureIssue::LowSnr)
-        || tonekit_core::has_issue(issues, MeasureIssue::Clipped)
-        || tonekit_core::has_issue(issues, MeasureIssue::ColdStartRegister)
-    {
-        1.5
-    } else {
-        1.0
-    }
+    let count = u16::from(tonekit_core::has_issue(issues, MeasureIssue::LowSnr))
+        + u16::from(tonekit_core::has_issue(issues, MeasureIssue::Clipped))
+        + u16::from(tonekit_core::has_issue(issues, MeasureIssue::ColdStartRegister));
+    let b = (count + 3) / 4;
+    1.0 + 0.5 * f32::from(b)
 }
 
 // A tolerance widened.

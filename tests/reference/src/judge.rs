@@ -84,26 +84,30 @@ struct Judge<'a, S: Source> {
 }
 
 impl<S: Source> Judge<'_, S> {
-    /// 1.5 under LowSnr, Clipped or ColdStartRegister.
-    fn widen(&self) -> f64 {
-        let poor = if planted(WIDEN_SHORT) {
-            LOW_SNR | CLIPPED | COLD_START | TOO_SHORT
-        } else if planted(WIDEN_NOT_CLIPPED) {
-            LOW_SNR | COLD_START
-        } else if planted(WIDEN_NOT_COLD) {
-            LOW_SNR | CLIPPED
-        } else {
-            LOW_SNR | CLIPPED | COLD_START
-        };
-        if self.shape.issues & poor != 0 {
-            if planted(WIDEN_TWICE) {
-                2.25
-            } else {
-                1.5
-            }
-        } else {
-            1.0
+    /// "b … is 1 if any of LowSnr, Clipped or ColdStartRegister is set and 0 otherwise"
+    fn poor(&self) -> u16 {
+        let issues = self.shape.issues;
+        let set = |issue: u16| u16::from(issues & issue != 0);
+        let (low, clipped, cold) = (set(LOW_SNR), set(CLIPPED), set(COLD_START));
+        match () {
+            _ if planted(WIDEN_SHORT) => low | clipped | cold | set(TOO_SHORT),
+            _ if planted(WIDEN_NOT_CLIPPED) => low | cold,
+            _ if planted(WIDEN_NOT_COLD) => low | clipped,
+            _ if planted(WIDEN_NOT_LOW_SNR) => clipped | cold,
+            _ if planted(WIDEN_COUNTED) => low + clipped + cold,
+            _ if planted(WIDEN_SHORT_FOR_COLD) => low | clipped | set(TOO_SHORT),
+            _ if planted(WIDEN_CANCELLED) => low ^ clipped ^ cold,
+            _ if planted(WIDEN_BY_ALL) => low & clipped & cold,
+            _ if planted(WIDEN_BY_VALUE) => issues & (LOW_SNR | CLIPPED | COLD_START),
+            _ if planted(WIDEN_BIT_EARLY) => set(LOW_SNR >> 1) | set(CLIPPED >> 1) | set(COLD_START >> 1),
+            _ => low | clipped | cold,
         }
+    }
+
+    /// "1 + 0.5 × b", in f32.
+    fn widen(&self) -> f64 {
+        let more = if planted(WIDEN_TWICE) { 1.25 } else { 0.5 };
+        f64::from(1.0 + more * f32::from(self.poor()))
     }
 
     fn too_short(&self) -> bool {

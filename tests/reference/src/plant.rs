@@ -363,4 +363,12 @@ mistakes! {
     354 SHORT_WRITES "9 after writing what fits";
     355 REFUSED_CLEARS "a refused call clears the buffer";
     356 PAST_CLEARED "bytes past the output cleared";
+    // Widening (change request 4)
+    361 WIDEN_NOT_LOW_SNR "LowSnr does not widen";
+    362 WIDEN_COUNTED "1 + 0.5 for each of the three that is set";
+    363 WIDEN_SHORT_FOR_COLD "TooShort widens in ColdStartRegister's place";
+    364 WIDEN_CANCELLED "two of the three cancel";
+    365 WIDEN_BY_ALL "only all three together widen";
+    366 WIDEN_BY_VALUE "1 + 0.5 × the bits as they stand";
+    367 WIDEN_BIT_EARLY "bits 0, 1 and 3 widen";
 }
