@@ -40,8 +40,8 @@ def instruction(f, name, words):
     elif name == 'blx' and re.match(r'r\d|ip', words):
         sys.exit(f'{f.name} calls through a register: {words}')
     if name[0] == 'b' or name in ('cbz', 'cbnz'):
-        for address, within in re.findall(r'([0-9a-f]+) <[^>+]+(?:\+0x([0-9a-f]+))?>', words):
-            target = int(address, 16) - int(within or '0', 16)
+        if m := re.search(r'([0-9a-f]+) <.+?(?:\+0x([0-9a-f]+))?>$', words):  # A name may have < and + in it.
+            target = int(m[1], 16) - int(m[2] or '0', 16)
             if target != f.address:
                 f.calls.add((target, name in ('bl', 'blx')))
     if name != 'nop' and not (name == 'movs' and words.replace(' ', '') == 'r0,r0'):
