@@ -46,9 +46,9 @@ abbrev pub read : {S : Type 0} → Reader S → List ℕ → Out S
 read f s = loop_to (λ h. on_verdict f s h (f.verdict s h.at h.st)) (refused CutShort (length s)) (length s + 1) f.start
 
 -- a single file: 3 at the first byte behind it
-abbrev pub singly : {S : Type 0} → List ℕ → Out S → Out S
-singly s (loaded st e) = cond (ltb e (length s)) (refused Overrun e) (loaded st e)
-singly s (refused r place) = refused r place
+abbrev pub single_file : {S : Type 0} → List ℕ → Out S → Out S
+single_file s (loaded st e) = cond (ltb e (length s)) (refused Overrun e) (loaded st e)
+single_file s (refused r place) = refused r place
 
 -- a check of it: it loads, or its refusal and place
 abbrev pub said : {S : Type 0} → Out S → Result Unit Rejection

@@ -4,7 +4,7 @@ use Rattle.tonekit_core.specs.Loop.{loop_to, loop_on}
 use Rattle.tonekit_core.specs.declared.Refusal.{Refusal}
 use Rattle.tonekit_core.specs.declared.Refusal.TheVariants.{Misplaced, CutShort, Overrun, OffScale}
 use Rattle.spec_arithmetic.specs.Fields.{byte_at}
-use Rattle.spec_arithmetic.specs.Files.{judged, loaded, refused, Reader, read, singly, said}
+use Rattle.spec_arithmetic.specs.Files.{judged, loaded, refused, Reader, read, single_file, said}
 
 abbrev size_of : ℕ → ℕ
 size_of k = cond (eqb k 1) 2 1
@@ -64,11 +64,11 @@ front : read counted (1 ∷ 7 ∷ 2 ∷ 0 ∷ 0 ∷ []) ≡ loaded 1 3
 unfolding loop_to loop_on
 front = refl
 
-behind : singly (1 ∷ 7 ∷ 2 ∷ 0 ∷ 0 ∷ []) (read counted (1 ∷ 7 ∷ 2 ∷ 0 ∷ 0 ∷ [])) ≡ refused Overrun 3
+behind : single_file (1 ∷ 7 ∷ 2 ∷ 0 ∷ 0 ∷ []) (read counted (1 ∷ 7 ∷ 2 ∷ 0 ∷ 0 ∷ [])) ≡ refused Overrun 3
 unfolding loop_to loop_on
 behind = refl
 
-alone : singly (1 ∷ 7 ∷ 2 ∷ []) (read counted (1 ∷ 7 ∷ 2 ∷ [])) ≡ loaded 1 3
+alone : single_file (1 ∷ 7 ∷ 2 ∷ []) (read counted (1 ∷ 7 ∷ 2 ∷ [])) ≡ loaded 1 3
 unfolding loop_to loop_on
 alone = refl
 

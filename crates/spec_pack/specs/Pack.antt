@@ -10,7 +10,7 @@ use Rattle.tonekit_core.specs.declared.Refusal.TheVariants.{Crowded, OffScale, D
 use Rattle.tonekit_core.specs.declared.Rejection.{Rejection}
 use Rattle.spec_arithmetic.specs.Fields.{byte_at, u32_at, f32_at}
 use Rattle.spec_arithmetic.specs.Places.{number_at}
-use Rattle.spec_arithmetic.specs.Files.{judged, Out, loaded, Reader, read, singly, said}
+use Rattle.spec_arithmetic.specs.Files.{judged, Out, loaded, Reader, read, single_file, said}
 use Rattle.spec_pack.specs.Ranges.{above_zero, probability_fine, weight_fine, knots_fine, region_fine, tolerances_fine}
 
 -- what has been read: the last kind; the offsets of tones, accents and rules, in order; for each accent how many rules stood before it;
@@ -149,7 +149,7 @@ unfoldable pub read_pack : List ℕ → Out PackRead
 read_pack s = read pack_reader s
 
 unfoldable pub load_pack : List ℕ → Out PackRead
-load_pack s = singly s (read_pack s)
+load_pack s = single_file s (read_pack s)
 
 unfoldable pub check_pack : List ℕ → Result Unit Rejection
 check_pack s = said (load_pack s)

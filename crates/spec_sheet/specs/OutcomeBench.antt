@@ -10,7 +10,7 @@ use Rattle.spec_pack.specs.Pack.{parts_from, due_after, size_of, holds, zero_or_
 use Rattle.spec_lookup.specs.Knots.{point_at, first_points, knots_at}
 use Rattle.spec_lookup.specs.Lookup.{best_rule, climb_turn, find_rule, look_up, component_of}
 use Rattle.spec_lookup.specs.Source.{accent_in, carried, components, source_of_pack}
-use Rattle.spec_sheet.specs.Pieces.{pieces, gather}
+use Rattle.spec_sheet.specs.Pieces.{pieces, piecewise}
 use Rattle.spec_sheet.specs.Number.{same_carried, seen_in, place_in, noted, number_in, same_by}
 use Rattle.spec_sheet.specs.Sheet.{asc_from, ascending, row_context, view_of, lists_of, bits_bytes, components_bytes, bytes_with, sheet}
 use Rattle.spec_sheet.specs.Outcome.{sheet_outcome}
@@ -39,7 +39,7 @@ its =
     ++ ((20 ∷ 5 ∷ 2 ∷ 0 ∷ 2 ∷ 2 ∷ 20 ∷ 5 ∷ 2 ∷ 2 ∷ 2 ∷ 2 ∷ []) ++ (list 1 3 ++ (list 2 5 ++ (23 ∷ []))))))))
 
 whole : sheet_outcome pack ≡ written its
-unfolding sheet_outcome load_pack read_pack record_verdict due_after size_of body_verdict settings_verdict tone_verdict accent_verdict rule_verdict part_verdict holds zero_or_held added above_zero probability_fine knot_fine weight_fine slot_fine knots_fine region_fine tolerances_fine range turns range_to turns_to loop_to loop_on le lt of_bits to_bits sheet bytes_with view_of source_of_pack ascending asc_from accent_in row_context lists_of noted number_in seen_in place_in same_by same_carried gather pieces bits_bytes components_bytes look_up find_rule climb_turn best_rule index_of parts_from components carried component_of knots_at first_points point_at
+unfolding sheet_outcome load_pack read_pack record_verdict due_after size_of body_verdict settings_verdict tone_verdict accent_verdict rule_verdict part_verdict holds zero_or_held added above_zero probability_fine knot_fine weight_fine slot_fine knots_fine region_fine tolerances_fine range turns range_to turns_to loop_to loop_on le lt of_bits to_bits sheet bytes_with view_of source_of_pack ascending asc_from accent_in row_context lists_of noted number_in seen_in place_in same_by same_carried piecewise pieces bits_bytes components_bytes look_up find_rule climb_turn best_rule index_of parts_from components carried component_of knots_at first_points point_at
 whole = refl
 
 -- one byte short: the length is answered

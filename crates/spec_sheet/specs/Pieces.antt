@@ -9,9 +9,9 @@ module _ (f : ℕ → List ℕ) where
   pieces zero i = []
   pieces (suc k) i = f i ++ pieces k (i + 1)
 
-  unfoldable pub gather : ℕ → ℕ → List ℕ
+  unfoldable pub piecewise : ℕ → ℕ → List ℕ
   unfolding pieces
-  gather lo hi = pieces (hi - lo) lo
+  piecewise lo hi = pieces (hi - lo) lo
 
 -- bs was written at `at`, and r is the place past it
 pub record Wrote (bs : List ℕ) (at : ℕ) (before after : List ℕ) (r : ℕ) : Type 0 where

@@ -14,7 +14,7 @@ use Rattle.tonekit_core.specs.declared.Rejection.{Rejection}
 use Rattle.spec_arithmetic.specs.Fields.{byte_at, u16_at, u32_at, f32_at}
 use Rattle.spec_pack.specs.Ranges.{probability_fine, weight_fine, region_fine}
 use Rattle.spec_arithmetic.specs.Places.{number_at}
-use Rattle.spec_arithmetic.specs.Files.{judged, Out, loaded, refused, Reader, read, singly, said}
+use Rattle.spec_arithmetic.specs.Files.{judged, Out, loaded, refused, Reader, read, single_file, said}
 use Rattle.spec_pack.specs.Pack.{holds, zero_or_held, in_turn, settings_verdict, accent_fine}
 use Rattle.spec_sheet.specs.Sheet.{row_count, accent_place, tone_place, prev_place}
 
@@ -221,7 +221,7 @@ unfoldable pub read_sheet : List ℕ → Out SheetRead
 read_sheet s = read sheet_reader s
 
 unfoldable pub load_sheet : List ℕ → Out SheetRead
-load_sheet s = singly s (read_sheet s)
+load_sheet s = single_file s (read_sheet s)
 
 unfoldable pub check_sheet : List ℕ → Result (Unit {0}) Rejection
 check_sheet s = said (load_sheet s)

@@ -8,7 +8,7 @@ use Rattle.spec_arithmetic.specs.Fields.{le16, le32}
 use Rattle.spec_lookup.specs.Source.{Settings, Tone, Accent, Carried, Source, accent_in, absent_tone}
 use Rattle.spec_lookup.specs.declared.Context.{Context}
 use Rattle.spec_sheet.specs.Number.{noted, number_in}
-use Rattle.spec_sheet.specs.Pieces.{gather}
+use Rattle.spec_sheet.specs.Pieces.{piecewise}
 
 -- the accents that are held "ascending by number": of the numbers from n on, k of them
 abbrev pub or_skip : Option Accent → List Accent → List Accent
@@ -107,10 +107,10 @@ list_bytes n cs =
 unfoldable pub bytes_with : View → List (List Carried) → List ℕ
 bytes_with v lists =
     settings_bytes v.settings
-    ++ (gather (λ i. tone_bytes (get_or v.tones i absent_tone)) 0 (length v.tones)
-    ++ (gather (λ i. accent_bytes (get_or v.accents i absent_accent)) 0 (length v.accents)
-    ++ (gather (λ r. row_bytes (row_context v.tones v.accents r false) (number_in lists (v.row r false)) (number_in lists (v.row r true))) 0 (rows_of v)
-    ++ (gather (λ i. list_bytes (i + 1) (get_or lists i [])) 0 (length lists) ++ (SHEET_END_KIND ∷ [])))))
+    ++ (piecewise (λ i. tone_bytes (get_or v.tones i absent_tone)) 0 (length v.tones)
+    ++ (piecewise (λ i. accent_bytes (get_or v.accents i absent_accent)) 0 (length v.accents)
+    ++ (piecewise (λ r. row_bytes (row_context v.tones v.accents r false) (number_in lists (v.row r false)) (number_in lists (v.row r true))) 0 (rows_of v)
+    ++ (piecewise (λ i. list_bytes (i + 1) (get_or lists i [])) 0 (length lists) ++ (SHEET_END_KIND ∷ [])))))
 
 -- "A pack's sheet is the bytes this section fixes for it": a function of what the pack's lookups give
 unfoldable pub sheet : Source → List ℕ

@@ -9,7 +9,7 @@ use Rattle.spec_arithmetic.specs.Places.{index_of}
 use Rattle.spec_lookup.specs.declared.Context.{Context}
 use Rattle.spec_sheet.specs.Agree.{Held}
 use Rattle.spec_sheet.specs.Number.{same_carried, same, seen_in, place_in, noted, number_in, same_by}
-use Rattle.spec_sheet.specs.Pieces.{pieces, gather}
+use Rattle.spec_sheet.specs.Pieces.{pieces, piecewise}
 use Rattle.spec_sheet.specs.Sheet.{asc_from, ascending, row_context, view_of, lists_of, bits_bytes, components_bytes, bytes_with, sheet}
 use Rattle.spec_sheet.specs.Sheet.{settings_bytes, tone_bytes, accent_bytes, row_bytes, list_bytes}
 use Rattle.spec_sheet.specs.Reader.{SheetRead, row_due, row_names, list_size}
@@ -74,7 +74,7 @@ small_sheet : sheet small
     ++ ((20 ∷ 5 ∷ 1 ∷ 1 ∷ 2 ∷ 2 ∷ [])
     ++ ((21 ∷ 1 ∷ 3 ∷ 2 ∷ 7 ∷ 0 ∷ 1 ∷ 22 ∷ replicate 44 0)
     ++ ((21 ∷ 2 ∷ 3 ∷ 2 ∷ 8 ∷ 0 ∷ 1 ∷ 22 ∷ replicate 44 0) ++ (23 ∷ []))))))))))
-unfolding sheet bytes_with view_of ascending asc_from accent_in lists_of row_context noted number_in seen_in place_in same_by same_carried bits_bytes components_bytes gather pieces range turns
+unfolding sheet bytes_with view_of ascending asc_from accent_in lists_of row_context noted number_in seen_in place_in same_by same_carried bits_bytes components_bytes piecewise pieces range turns
 small_sheet = refl
 
 -- a source of tones 7 and 4, in this order, and of accent 3. After tone 4, tone 7 takes the list of label 9, and nothing at the end of
@@ -106,7 +106,7 @@ pair_sheet : sheet pair
     ++ ((21 ∷ 1 ∷ 3 ∷ 2 ∷ 7 ∷ 0 ∷ 1 ∷ 22 ∷ replicate 44 0)
     ++ ((21 ∷ 2 ∷ 3 ∷ 2 ∷ 9 ∷ 0 ∷ 1 ∷ 22 ∷ replicate 44 0)
     ++ ((21 ∷ 3 ∷ 3 ∷ 2 ∷ 8 ∷ 0 ∷ 1 ∷ 22 ∷ replicate 44 0) ++ (23 ∷ [])))))))))))))
-unfolding sheet bytes_with view_of ascending asc_from accent_in lists_of row_context noted number_in seen_in place_in same_by same_carried bits_bytes components_bytes gather pieces range turns
+unfolding sheet bytes_with view_of ascending asc_from accent_in lists_of row_context noted number_in seen_in place_in same_by same_carried bits_bytes components_bytes piecewise pieces range turns
 pair_sheet = refl
 
 -- "A lookup takes accent, tone, prev (a held tone or 0) and final (0 or 1)": after none at the end of a phrase, after tone 4 elsewhere

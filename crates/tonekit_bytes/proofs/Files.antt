@@ -9,7 +9,7 @@ use Rattle.tonekit_core.specs.declared.Refusal.TheVariants.{Misplaced, CutShort,
 use Rattle.std.specs.Prelude.{Result, Ok, Err}
 use Rattle.tonekit_core.proofs.Split.{split}
 use Rattle.spec_arithmetic.specs.Fields.{byte_at}
-use Rattle.spec_arithmetic.specs.Files.{judged, Out, loaded, refused, Reader, read, singly}
+use Rattle.spec_arithmetic.specs.Files.{judged, Out, loaded, refused, Reader, read, single_file}
 use Rattle.tonekit_bytes.specs.Onward.{Onward, record_turn}
 
 pub not_fine : {P : Type 0} (r : Refusal) → ◌≡◌ {A = Result Unit Refusal} (Err r) (Ok tt) → P
@@ -174,7 +174,7 @@ module _ {S : Type 0} (f : Reader S) (t s : List ℕ) (P : ℕ → S → Type 0)
 
 -- ---- a single file
 -- an input that loads as one is a file at its front, and nothing behind it
-pub single : {S : Type 0} (s : List ℕ) (o : Out S) (st : S) (e : ℕ) → singly s o ≡ loaded st e → (o ≡ loaded st e) × (length s ≤ e)
+pub single : {S : Type 0} (s : List ℕ) (o : Out S) (st : S) (e : ℕ) → single_file s o ≡ loaded st e → (o ≡ loaded st e) × (length s ≤ e)
 single s (loaded fin at) st e h =
     split (ltb at (length s))
     (λ b. not_loaded Overrun at e st (rw b at h))
@@ -183,6 +183,6 @@ single s (loaded fin at) st e h =
 single s (refused r place) st e h = not_loaded r place e st h
 
 -- inputs that both go on behind a file, or both end with it
-pub single_same : {S : Type 0} (t s : List ℕ) (o : Out S) → ((st : S) (e : ℕ) → o ≡ loaded st e → ltb e (length t) ≡ ltb e (length s)) → singly t o ≡ singly s o
+pub single_same : {S : Type 0} (t s : List ℕ) (o : Out S) → ((st : S) (e : ℕ) → o ≡ loaded st e → ltb e (length t) ≡ ltb e (length s)) → single_file t o ≡ single_file s o
 single_same t s (loaded st e) h = rw (h st e refl) refl
 single_same t s (refused r place) h = refl

@@ -6,7 +6,7 @@ use Rattle.tonekit_pack.proofs.Single.{loads_alone}
 use Rattle.spec_lookup.specs.Source.{Source}
 use Rattle.spec_sheet.specs.Sheet.{sheet}
 use Rattle.spec_sheet.specs.Agree.{Bytes, Agree}
-use Rattle.tonekit_sheet.specs.Fit.{Fit}
+use Rattle.tonekit_sheet.specs.Sheetable.{Sheetable}
 use Rattle.tonekit_sheet_fit.proofs.Fits.{fit_of_pack}
 use Rattle.tonekit_sheet_laws.proofs.Round.{round}
 use Rattle.tonekit_sheet_laws.proofs.Back.{read_back, settings_back, tones_back, accents_back, lookups_back}
@@ -18,7 +18,7 @@ use Rattle.tonekit_station.proofs.Depends.{judgement_same}
 use Rattle.tonekit_demand.specs.Demand3.{Loads, holds, SheetOf, OneSheetEach, SameOutcome, SameAnswer, StationsAgree, OneSheetExactly}
 
 -- what a source's own sheet holds agrees with the source, and so is judged alike
-module _ (src : Source) (fit : Fit src) where
+module _ (src : Source) (fit : Sheetable src) where
   back_agrees : Agree src (read_back src)
   back_agrees = record {
     settings = sym (settings_back src fit);
@@ -32,7 +32,7 @@ module _ (src : Source) (fit : Fit src) where
   from_sheet q = ap (on_sheet (sheet src) q) (round src fit) ∙ sym (judgement_same src (read_back src) back_agrees q)
 
 module _ (p : List ℕ) (bytes : Bytes p) (l : Loads p) where
-  fits : Fit (holds p l)
+  fits : Sheetable (holds p l)
   fits = fit_of_pack p bytes l.held l.end (loads_alone p l.held l.end l.loads).0
 
   -- every pack that loads has its sheet, and no other

@@ -7,7 +7,7 @@ ghost use Rattle.std.specs.Float.Ieee.{le, lt};
 ghost use Rattle.tonekit_core.specs.declared.layout.TheConstants.{MIXTURE_FORM};
 ghost use Rattle.tonekit_core.specs.Loop.{range};
 ghost use Rattle.spec_arithmetic.specs.Places.{index_of};
-ghost use Rattle.tonekit_pack.specs.Held.{shown};
+ghost use Rattle.tonekit_pack.specs.Held.{records_of};
 ghost use Rattle.spec_lookup.specs.Knots.{on_line, point_at, expanded, knots_at, Point, Knots};
 ghost use Rattle.spec_pack.specs.Pack.{parts_from};
 ghost use Rattle.spec_lookup.specs.Lookup.{final_of, meets, matches, stated, specificity, better_of, best_rule, find_rule, rule_listing, citation, listed, look_up, component_of};
@@ -23,7 +23,7 @@ use tonekit_pack::PackView;
 // The place of the accent with number n among a pack's accents, or none.
 // Stays: accents and tones are one call each of the one search, which takes the offsets already; the two names say whose.
 pub fn accent_index(v: PackView<'_>, n: u8) -> Option<usize>
-    ensures { result ≡ index_of v.entry.bytes.now (shown v.entry.pack).accents n }
+    ensures { result ≡ index_of v.entry.bytes.now (records_of v.entry.pack).accents n }
 {
     index_of(v.bytes, v.pack.accents.offsets(), n)
 }
@@ -31,7 +31,7 @@ pub fn accent_index(v: PackView<'_>, n: u8) -> Option<usize>
 // The place of the tone with number n among a pack's tones, or none.
 // Stays: see `accent_index`.
 pub fn tone_index(v: PackView<'_>, n: u8) -> Option<usize>
-    ensures { result ≡ index_of v.entry.bytes.now (shown v.entry.pack).tones n }
+    ensures { result ≡ index_of v.entry.bytes.now (records_of v.entry.pack).tones n }
 {
     index_of(v.bytes, v.pack.tones.offsets(), n)
 }
@@ -125,7 +125,7 @@ fn best_among(s: &[u8], c: Context, at: &[u16], from: usize, to: usize) -> Optio
 // The best of accent i's own rules.
 fn best_rule(v: PackView<'_>, c: Context, i: usize) -> Option<usize>
     requires { i < v.pack.accents.count }
-    ensures { result ≡ best_rule v.entry.bytes.now (shown v.entry.pack) c i }
+    ensures { result ≡ best_rule v.entry.bytes.now (records_of v.entry.pack) c i }
 {
     let from = usize::from(v.pack.firstrule[i]);
     let to = if i + 1 < v.pack.accents.count {
@@ -139,7 +139,7 @@ fn best_rule(v: PackView<'_>, c: Context, i: usize) -> Option<usize>
 // The place of accent i's parent, or none.
 fn parent_index(v: PackView<'_>, i: usize) -> Option<usize>
     requires { i < v.pack.accents.count }
-    ensures { result ≡ parent_of v.entry.bytes.now (shown v.entry.pack) i }
+    ensures { result ≡ parent_of v.entry.bytes.now (records_of v.entry.pack) i }
 {
     let o = usize::from(v.pack.accents.at[i]);
     accent_index(v, byte_at(v.bytes, o, layout::ACCENT_PARENT))
@@ -149,7 +149,7 @@ fn parent_index(v: PackView<'_>, i: usize) -> Option<usize>
 // one that matches; i is the place of one of the pack's accents.
 pub fn find_rule(v: PackView<'_>, c: Context, i: usize) -> Option<Winner>
     requires { i < v.pack.accents.count }
-    ensures { result ≡ find_rule v.entry.bytes.now (shown v.entry.pack) c i }
+    ensures { result ≡ find_rule v.entry.bytes.now (records_of v.entry.pack) c i }
 {
     let mut a = i;
     for _ in 0..v.pack.accents.count {
@@ -211,7 +211,7 @@ pub fn citation(owner: u8, o: usize) -> Listing
 // What the winning rule gives, or the citation of the tone at o.
 fn listing_of(v: PackView<'_>, c: Context, o: usize, w: Option<Winner>) -> Option<Listing>
     requires { Placed v.pack.accents.count w }
-    ensures { result ≡ listed v.entry.bytes.now (shown v.entry.pack) c o w }
+    ensures { result ≡ listed v.entry.bytes.now (records_of v.entry.pack) c o w }
 {
     match w {
         Some(w) => {
@@ -231,7 +231,7 @@ fn listing_of(v: PackView<'_>, c: Context, o: usize, w: Option<Winner>) -> Optio
 // The curves of a context: those of the rule that its walk found, else the tone's citation; nothing
 // where that is for contexts only, or accent or tone is not held.
 pub fn look_up(v: PackView<'_>, c: Context) -> Option<Listing>
-    ensures { result ≡ look_up v.entry.bytes.now (shown v.entry.pack) c }
+    ensures { result ≡ look_up v.entry.bytes.now (records_of v.entry.pack) c }
 {
     let i = accent_index(v, c.accent)?;
     let t = tone_index(v, c.tone)?;

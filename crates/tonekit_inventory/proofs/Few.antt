@@ -5,7 +5,7 @@ use Rattle.spec_arithmetic.specs.Files.{Out, loaded, refused}
 use Rattle.spec_pack.specs.Pack.{PackRead, read_pack, parts_from}
 use Rattle.spec_arithmetic.specs.Places.{number_at, index_of}
 use Rattle.tonekit_pack.specs.declared.Pack.{Pack}
-use Rattle.tonekit_pack.specs.Held.{shown}
+use Rattle.tonekit_pack.specs.Held.{records_of}
 use Rattle.tonekit_core.proofs.Split.{split}
 use Rattle.tonekit_pack.proofs.Loads.{Loads, loads, firsts_bound, parts_few}
 use Rattle.std.specs.Prelude.{Option, Some, None}
@@ -54,20 +54,20 @@ look_few s st e p c l q = of_places s st e (loads s st e p) c l (index_of s st.a
 -- a pack as its reader handed it back for these bytes, which load
 record ReadFrom (s : List ℕ) (p : Pack) : Type 0 where
   end : ℕ
-  reads : read_pack s ≡ loaded (shown p) end
+  reads : read_pack s ≡ loaded (records_of p) end
 
 -- a pack that is held was read from its bytes
-read_from : (s : List ℕ) (p : Pack) (o : Out PackRead) → read_pack s ≡ o → pack_in o ≡ Some (shown p) → ReadFrom s p
-read_from s p (loaded st e) q h = let is : st ≡ shown p = cc in record { end = e; reads = q ∙ ap (λ (x : PackRead). loaded x e) is }
+read_from : (s : List ℕ) (p : Pack) (o : Out PackRead) → read_pack s ≡ o → pack_in o ≡ Some (records_of p) → ReadFrom s p
+read_from s p (loaded st e) q h = let is : st ≡ records_of p = cc in record { end = e; reads = q ∙ ap (λ (x : PackRead). loaded x e) is }
 read_from s p (refused r place) q h = let n : ◌≡◌ {A = ℕ} 0 1 = cc in absurd (omega arith)
 
 -- what a lookup in a pack that loads finds
 abbrev pub Looked : List ℕ → Option Listing → Type 0
 Looked s k = (l : Listing) → k ≡ Some l → Short s l
 
-pub looked : (s : List ℕ) (p : Pack) → pack_in (read_pack s) ≡ Some (shown p) → (c : Context) (k : Option Listing) → k ≡ look_up s (shown p) c → Looked s k
+pub looked : (s : List ℕ) (p : Pack) → pack_in (read_pack s) ≡ Some (records_of p) → (c : Context) (k : Option Listing) → k ≡ look_up s (records_of p) c → Looked s k
 looked s p h c k e l q =
     let r = read_from s p (read_pack s) refl h in
-    let is : look_up s (shown p) c ≡ Some l = sym e ∙ q in
-    let f = look_few s (shown p) r.end r.reads c l is in
-    record { some = f.some; few = f.few; each = λ j h. listed_fine s (shown p) r.end r.reads c l j is h }
+    let is : look_up s (records_of p) c ≡ Some l = sym e ∙ q in
+    let f = look_few s (records_of p) r.end r.reads c l is in
+    record { some = f.some; few = f.few; each = λ j h. listed_fine s (records_of p) r.end r.reads c l j is h }

@@ -7,7 +7,7 @@ use Rattle.tonekit_core.specs.Loop.{Turn, next, stop, turns_to, range_to}
 use Rattle.spec_arithmetic.specs.Places.{number_at, index_of}
 use Rattle.tonekit_bytes.specs.Places.{index_turn}
 use Rattle.tonekit_pack.specs.declared.Pack.{Pack}
-use Rattle.tonekit_pack.specs.Held.{shown}
+use Rattle.tonekit_pack.specs.Held.{records_of}
 use Rattle.tonekit_core.proofs.Split.{or_cond}
 use Rattle.tonekit_bytes.proofs.InOrder.{order_length, order_get}
 use Rattle.tonekit_bytes.proofs.Searched.{pick, searched}
@@ -53,16 +53,16 @@ tolerance s o =
 
 -- the accent that a search in a pack finds, with its tolerances
 module _ (s : List ℕ) (p : Pack) (n : ℕ) where
-  pub graded_found : (i : ℕ) → i < p.accents.count → index_of s (shown p).accents n ≡ Some i → (t : Tolerance) → t ≡ tolerance_at s (get_or p.accents.at i 0 + 3)
-      → Some t ≡ graded_of (accent_in (source_of_pack s (shown p)).accents n)
+  pub graded_found : (i : ℕ) → i < p.accents.count → index_of s (records_of p).accents n ≡ Some i → (t : Tolerance) → t ≡ tolerance_at s (get_or p.accents.at i 0 + 3)
+      → Some t ≡ graded_of (accent_in (source_of_pack s (records_of p)).accents n)
   unfolding source_of_pack
   graded_found i h e t q =
-      rw (accent_found s (shown p).accents n (accent_at 3 s) (λ o. refl) i e, order_get p.accents.at p.accents.count i h)
+      rw (accent_found s (records_of p).accents n (accent_at 3 s) (λ o. refl) i e, order_get p.accents.at p.accents.count i h)
       (ap Some (q ∙ tolerance s (get_or p.accents.at i 0)))
 
-  pub graded_none : index_of s (shown p).accents n ≡ None → None ≡ graded_of (accent_in (source_of_pack s (shown p)).accents n)
+  pub graded_none : index_of s (records_of p).accents n ≡ None → None ≡ graded_of (accent_in (source_of_pack s (records_of p)).accents n)
   unfolding source_of_pack
-  graded_none e = rw (accent_none s (shown p).accents n (accent_at 3 s) (λ o. refl) e)
+  graded_none e = rw (accent_none s (records_of p).accents n (accent_at 3 s) (λ o. refl) e)
 
-  pub inside : (i : ℕ) → index_of s (shown p).accents n ≡ Some i → i < p.accents.count
-  inside i e = omega (arith, (index_found s (shown p).accents n i e).inside, order_length p.accents.at p.accents.count)
+  pub inside : (i : ℕ) → index_of s (records_of p).accents n ≡ Some i → i < p.accents.count
+  inside i e = omega (arith, (index_found s (records_of p).accents n i e).inside, order_length p.accents.at p.accents.count)

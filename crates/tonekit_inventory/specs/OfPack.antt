@@ -3,7 +3,7 @@ use Rattle.std.specs.Prelude.{ℕ, ◌≤◌, ◌<◌, ◌≡◌, List, Option, 
 use Rattle.tonekit_core.specs.declared.Rejection.{Rejection}
 use Rattle.spec_arithmetic.specs.Files.{Out, loaded, refused}
 use Rattle.spec_pack.specs.Pack.{PackRead, load_pack}
-use Rattle.tonekit_pack.specs.Held.{shown}
+use Rattle.tonekit_pack.specs.Held.{records_of}
 use Rattle.tonekit_pack.specs.declared.Pack.{Pack}
 use Rattle.tonekit_expect.specs.Pieces as lookup
 use Rattle.spec_lookup.specs.Source.{Source, source_of_pack}
@@ -11,7 +11,7 @@ use Rattle.spec_lookup.specs.declared.Listing.{Listing}
 
 -- what a pack that was read from these bytes stands for
 abbrev pub source_in : List ℕ → Pack → Source
-source_in s p = source_of_pack s (shown p)
+source_in s p = source_of_pack s (records_of p)
 
 -- what the bytes of a pack hold, or why they are none
 abbrev pub source_or : List ℕ → Out PackRead → Result Source Rejection

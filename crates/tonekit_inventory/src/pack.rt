@@ -3,7 +3,7 @@
 ghost use Rattle.std.specs.Prelude.{◌≡◌, ◌≤◌, ◌<◌, Some};
 ghost use Rattle.std.proofs.Props.{props};
 ghost use Rattle.spec_pack.specs.Pack.{read_pack};
-ghost use Rattle.tonekit_pack.specs.Held.{shown};
+ghost use Rattle.tonekit_pack.specs.Held.{records_of};
 ghost use Rattle.spec_lookup.specs.Source.{components};
 ghost use Rattle.spec_judgement.specs.Gather.{put_in};
 ghost use Rattle.tonekit_inventory.specs.OfPack.{source_in, load_source, pack_in, Short};
@@ -37,7 +37,7 @@ fn fill(s: &[u8], l: Listing, t: usize, slots: &mut Slots)
 #[derive(Clone, Copy)]
 pub struct HeldPack<'a> {
     pub view: PackView<'a>,
-    pub ghost read: { pack_in (read_pack view.bytes.now) ≡ Some (shown view.pack) } by { Prim.hlevel props },
+    pub ghost read: { pack_in (read_pack view.bytes.now) ≡ Some (records_of view.pack) } by { Prim.hlevel props },
 }
 
 impl<'a> Held<'a> for HeldPack<'a> {

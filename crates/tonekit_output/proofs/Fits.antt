@@ -3,7 +3,7 @@ use Rattle.std.proofs.Common.{ℕ, Bool, true, false, cond, ◌≡◌, refl, Lis
 use Rattle.tonekit_core.specs.Calls.{Outcome}
 use Rattle.tonekit_core.specs.declared.layout.TheConstants.{SHAPE_SIZE, SHEET_MOST}
 use Rattle.spec_arithmetic.specs.Fields.{f32s_bytes}
-use Rattle.tonekit_report.proofs.Told.{Fits}
+use Rattle.tonekit_report.proofs.Told.{HasRoom}
 use Rattle.spec_query.specs.Query.{load_query, frames_of}
 use Rattle.std.specs.Prelude.{Result, Ok, Err}
 use Rattle.tonekit_core.specs.declared.Rejection.{Rejection}
@@ -18,7 +18,7 @@ use Rattle.tonekit_sheet_fit.proofs.Size.{suffices}
 use Rattle.spec_sheet.specs.Outcome.{sheet_of, sheet_outcome}
 
 -- ---- the shape record
-either : (room : ℕ) (b : Bool) (o p : Outcome) → Fits room o → Fits room p → Fits room (cond b o p)
+either : (room : ℕ) (b : Bool) (o p : Outcome) → HasRoom room o → HasRoom room p → HasRoom room (cond b o p)
 either room true o p x y = x
 either room false o p x y = y
 
@@ -27,7 +27,7 @@ shape_size_lem : (start end issues : ℕ) (frames : List ℕ) (e : Extent) (floo
 unfolding shape_bytes fit_bytes measure_bytes f32s_bytes shape_of list_of
 shape_size_lem start end issues frames e floor ceil = refl
 
-of_query : (s : List ℕ) (q : Result Query Rejection) → Fits SHAPE_SIZE (shaped_from s q)
+of_query : (s : List ℕ) (q : Result Query Rejection) → HasRoom SHAPE_SIZE (shaped_from s q)
 of_query s (Err r) = tt
 of_query s (Ok q) =
     let frames = frames_of s q.count in
@@ -35,15 +35,15 @@ of_query s (Ok q) =
     let n = shape_size_lem q.start q.end q.issues frames e q.floor q.ceil in
     either SHAPE_SIZE (ltb e.count 3) _ _ tt (omega (arith, n))
 
-pub shape_fits : (s : List ℕ) → Fits SHAPE_SIZE (shape_outcome s)
+pub shape_fits : (s : List ℕ) → HasRoom SHAPE_SIZE (shape_outcome s)
 unfolding shape_outcome
 shape_fits s = of_query s (load_query s)
 
 -- ---- the sheet
-of_pack : (s : List ℕ) (o : Out PackRead) → load_pack s ≡ o → Fits SHEET_MOST (sheet_of s o)
+of_pack : (s : List ℕ) (o : Out PackRead) → load_pack s ≡ o → HasRoom SHEET_MOST (sheet_of s o)
 of_pack s (refused r place) e = tt
 of_pack s (loaded st end) e = suffices.enough s st end (loads_alone s st end e).0
 
-pub sheet_fits : (s : List ℕ) → Fits SHEET_MOST (sheet_outcome s)
+pub sheet_fits : (s : List ℕ) → HasRoom SHEET_MOST (sheet_outcome s)
 unfolding sheet_outcome
 sheet_fits s = of_pack s (load_pack s) refl

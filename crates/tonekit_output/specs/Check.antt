@@ -2,7 +2,7 @@
 use Rattle.std.specs.Prelude.{ℕ, ◌≡◌, Option, Some, None, Result, Ok, Err, List, [], ◌∷◌, ◌++◌, length, drop}
 use Rattle.tonekit_core.specs.Calls.{Outcome, written, refused}
 use Rattle.tonekit_core.specs.declared.Rejection.{Rejection}
-use Rattle.tonekit_report.specs.Report.{told}
+use Rattle.tonekit_report.specs.Report.{output_of}
 use Rattle.spec_pack.specs.Pack.{check_pack}
 use Rattle.spec_query.specs.Query.{check_query}
 use Rattle.spec_sheet.specs.Reader.{check_sheet}
@@ -25,8 +25,8 @@ check_outcome (Err e) = refused e.why e.place
 -- what is told of a check: how many bytes, and the lent buffer with them at its front
 abbrev pub Said : Result (Unit {0}) Rejection → List ℕ → Option ℕ → List ℕ → Type 0
 Said c held r out =
-    (r ≡ Some (length (told (check_outcome c))))
-    × (out ≡ told (check_outcome c) ++ drop (length (told (check_outcome c))) held)
+    (r ≡ Some (length (output_of (check_outcome c))))
+    × (out ≡ output_of (check_outcome c) ++ drop (length (output_of (check_outcome c))) held)
 
 -- by the word; and of any other word nothing
 pub record Checks (word s held : List ℕ) (r : Option ℕ) (out : List ℕ) : Type 0 where

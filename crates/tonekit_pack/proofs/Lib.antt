@@ -1,7 +1,7 @@
 pub mod SlotTurn
 pub mod Numbers
 pub mod ByKind
-pub mod Roomy
+pub mod Limits
 pub mod Each
 pub mod Records
 pub mod Turns

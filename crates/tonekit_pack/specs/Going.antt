@@ -7,7 +7,7 @@ use Rattle.spec_arithmetic.specs.Files.{judged, refused}
 use Rattle.tonekit_bytes.specs.Onward as onward
 use Rattle.tonekit_bytes.specs.Onward.{Onward}
 use Rattle.spec_pack.specs.Pack.{PackRead, due_after, size_of, body_verdict, record_verdict, pack_reader, read_pack}
-use Rattle.tonekit_pack.specs.Held.{shown}
+use Rattle.tonekit_pack.specs.Held.{records_of}
 
 -- a place is behind one settings record and the records counted; before the first accent, behind tones alone
 pub record Near (at : ℕ) (st : PackRead) : Type 0 where
@@ -17,8 +17,8 @@ pub record Near (at : ℕ) (st : PackRead) : Type 0 where
 
 -- from here the reader gives what it gives of the whole
 pub record Going (s : List ℕ) (st : Pack) (at : ℕ) : Type 0 where
-  pub near : Near at (shown st)
-  pub onward : Onward pack_reader s at (shown st)
+  pub near : Near at (records_of st)
+  pub onward : Onward pack_reader s at (records_of st)
 
 -- the verdict of a record is its tests in their order
 pub judges : (s : List ℕ) (o : ℕ) (st : PackRead) → record_verdict s o st ≡ judged (due_after st.last) size_of (λ k. body_verdict k s o st) s o
@@ -26,6 +26,6 @@ unfolding record_verdict
 judges s o st = refl
 
 -- a record that is refused ends the reading
-pub refuses : (s : List ℕ) (st : Pack) (at : ℕ) → Going s st at → (r : Refusal) → record_verdict s at (shown st) ≡ Err r → refused r at ≡ read_pack s
+pub refuses : (s : List ℕ) (st : Pack) (at : ℕ) → Going s st at → (r : Refusal) → record_verdict s at (records_of st) ≡ Err r → refused r at ≡ read_pack s
 unfolding read_pack
-refuses s st at g r v = onward.refuses pack_reader s at (shown st) g.onward r v
+refuses s st at g r v = onward.refuses pack_reader s at (records_of st) g.onward r v

@@ -10,8 +10,8 @@ use Rattle.tonekit_pack.specs.Format.{answer}
 use Rattle.spec_arithmetic.specs.Files.{Out}
 
 -- of each array as many entries as were read
-abbrev pub shown : Pack → PackRead
-shown p = record {
+abbrev pub records_of : Pack → PackRead
+records_of p = record {
   last = last_of p.last;
   tones = in_order p.tones.at p.tones.count;
   accents = in_order p.accents.at p.accents.count;
@@ -23,4 +23,4 @@ shown p = record {
 
 -- what the reader answers
 abbrev pub answered : Result (Loaded Pack) Rejection → Out PackRead
-answered = answer shown
+answered = answer records_of

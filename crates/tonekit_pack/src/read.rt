@@ -4,7 +4,7 @@ ghost use Rattle.tonekit_core.specs.declared.layout.TheConstants.{TONE_SIZE, ACC
 ghost use Rattle.spec_arithmetic.specs.Fields.{byte_at};
 ghost use Rattle.tonekit_pack.specs.Kinds.{number, last_of};
 ghost use Rattle.spec_pack.specs.Pack.{due_after, size_of, holds, zero_or_held, in_turn, settings_verdict, tone_verdict, accent_verdict, rule_verdict, single, part_verdict, body_verdict, record_verdict, added, read_pack, pack_reader};
-ghost use Rattle.tonekit_pack.specs.Held.{shown, answered};
+ghost use Rattle.tonekit_pack.specs.Held.{records_of, answered};
 ghost use Rattle.tonekit_pack.specs.Going.{Going, judges, refuses};
 
 use crate::format::Format;
@@ -66,7 +66,7 @@ impl Pack {
     // Before the first record.
     #[tactic(auto, unfolding(tonekit_bytes::specs::Places::in_order))]
     pub fn nothing() -> Pack
-        ensures read { shown result ≡ pack_reader.start.st }
+        ensures read { records_of result ≡ pack_reader.start.st }
         ensures tones { result.tones.at ≡ replicate 8 0 }
         ensures accents { (result.accents.at ≡ replicate 8 0) × (result.firstrule ≡ replicate 8 0) }
         ensures rules { result.rules.at ≡ replicate 64 0 }
@@ -87,7 +87,7 @@ impl Pack {
     #[tactic(auto, unfolding(spec_pack::specs::Pack::tone_verdict))]
     fn tone_verdict(&self, s: &[u8], o: usize) -> Result<(), Refusal>
         requires { o + TONE_SIZE ≤ length s.now }
-        ensures { result ≡ tone_verdict s.now o (shown self.now) }
+        ensures { result ≡ tone_verdict s.now o (records_of self.now) }
     {
         let number = byte_at(s, o, layout::OWN_NUMBER);
         let share = probability_fine(f32_at(s, o, layout::TONE_PRIOR));
@@ -105,7 +105,7 @@ impl Pack {
     #[tactic(auto, unfolding(spec_pack::specs::Pack::accent_verdict))]
     fn accent_verdict(&self, s: &[u8], o: usize) -> Result<(), Refusal>
         requires { o + ACCENT_SIZE ≤ length s.now }
-        ensures { result ≡ accent_verdict s.now o (shown self.now) }
+        ensures { result ≡ accent_verdict s.now o (records_of self.now) }
     {
         let number = byte_at(s, o, layout::OWN_NUMBER);
         let parent = byte_at(s, o, layout::ACCENT_PARENT);
@@ -123,7 +123,7 @@ impl Pack {
     // A rule: tone, prev, final, form.
     #[tactic(auto, unfolding(spec_pack::specs::Pack::rule_verdict))]
     fn rule_verdict(&self, s: &[u8], o: usize) -> Result<(), Refusal>
-        ensures { result ≡ rule_verdict s.now o (shown self.now) }
+        ensures { result ≡ rule_verdict s.now o (records_of self.now) }
     {
         let tones = self.tones.offsets();
         let tone = byte_at(s, o, layout::RULE_TONE);
@@ -137,7 +137,7 @@ impl Pack {
 
     // Whether the last rule is single.
     fn single(&self, s: &[u8]) -> bool
-        ensures { result ≡ single s.now (shown self.now) }
+        ensures { result ≡ single s.now (records_of self.now) }
     {
         byte_at(s, self.rules.last(), layout::RULE_FORM) == layout::SINGLE_FORM
     }
@@ -146,7 +146,7 @@ impl Pack {
     #[tactic(auto, unfolding(spec_pack::specs::Pack::part_verdict))]
     fn part_verdict(&self, s: &[u8], o: usize) -> Result<(), Refusal>
         requires { o + PART_SIZE ≤ length s.now }
-        ensures { result ≡ part_verdict s.now o (shown self.now) }
+        ensures { result ≡ part_verdict s.now o (records_of self.now) }
     {
         let weight = u32_at(s, o, layout::PART_WEIGHT);
         let knots = byte_at(s, o, layout::PART_KNOT_COUNT);
@@ -165,7 +165,7 @@ impl Pack {
     pub fn keep(&mut self, k: Kind, o: usize)
         requires { (o < 65536) × (number k ≡ TONE_KIND → self.old.tones.count < 8) × (number k ≡ ACCENT_KIND → self.old.accents.count < 8)
             × (number k ≡ RULE_KIND → self.old.rules.count < 64) × (number k ≡ PART_KIND → (self.old.parts < 4) × (self.old.total < 128)) }
-        ensures { shown self.new ≡ added (number k) o (shown self.old) }
+        ensures { records_of self.new ≡ added (number k) o (records_of self.old) }
     {
         self.last = Some(k);
         match k {
@@ -198,15 +198,15 @@ impl Format for Pack {
 
     ghost size = { size_of };
 
-    ghost tests = { λ p s o n. body_verdict n s o (shown p) };
+    ghost tests = { λ p s o n. body_verdict n s o (records_of p) };
 
-    ghost verdict = { λ s o p. record_verdict s o (shown p) };
+    ghost verdict = { λ s o p. record_verdict s o (records_of p) };
 
     ghost so_far = { λ s o p. Going s p o };
 
     ghost reads = { λ s r. answered r ≡ read_pack s };
 
-    ghost judges = { λ s o p. judges s o (shown p) };
+    ghost judges = { λ s o p. judges s o (records_of p) };
 
     ghost refuses = { λ s o p r g v. refuses s p o g r v };
 

@@ -9,15 +9,15 @@ use Rattle.tonekit_core.specs.declared.Rejection.{Rejection}
 use Rattle.tonekit_report.specs.Report.{refusal_bytes, Told, told_count, told_buffer}
 
 -- so much room is enough for what an outcome writes
-abbrev pub Fits : ℕ → Outcome → Type 0
-Fits room o = Writes (λ bs. length bs ≤ room) o
+abbrev pub HasRoom : ℕ → Outcome → Type 0
+HasRoom room o = Writes (λ bs. length bs ≤ room) o
 
 -- a buffer is as long as it was with bytes at its front
 front_length : (bs held : List ℕ) → length bs ≤ length held → length (bs ++ drop (length bs) held) ≡ length held
 front_length bs held h = omega (arith, h, length-append bs (drop (length bs) held), length-drop (length bs) held)
 
 -- so a short buffer, 9, is never told
-pub tells : (room : ℕ) (o : Outcome) (held mid out : List ℕ) (a : Result ℕ Rejection) (n : ℕ) → length held ≡ room → REFUSAL_SIZE ≤ room → Fits room o
+pub tells : (room : ℕ) (o : Outcome) (held mid out : List ℕ) (a : Result ℕ Rejection) (n : ℕ) → length held ≡ room → REFUSAL_SIZE ≤ room → HasRoom room o
     → Delivers o held a mid → n ≡ told_count a → out ≡ told_buffer mid a → Told o held n out
 unfolding answer_in buffer_after
 tells room (written bs) held mid out a n k h f d c b =

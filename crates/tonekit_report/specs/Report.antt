@@ -13,14 +13,14 @@ abbrev pub refusal_bytes : Refusal → ℕ → List ℕ
 refusal_bytes r place = REFUSAL_KIND ∷ refusal_number r ∷ le32 place
 
 -- all that a program writes of what a call makes of its input
-abbrev pub told : Outcome → List ℕ
-told (written bs) = bs
-told (refused r place) = refusal_bytes r place
+abbrev pub output_of : Outcome → List ℕ
+output_of (written bs) = bs
+output_of (refused r place) = refusal_bytes r place
 
 -- what a program's function owes of an outcome: the number of bytes to write, these bytes at the front of the lent buffer, and what it held behind them
 pub record Told (o : Outcome) (held : List ℕ) (n : ℕ) (out : List ℕ) : Type 0 where
-  pub count : n ≡ length (told o)
-  pub buffer : out ≡ told o ++ drop (length (told o)) held
+  pub count : n ≡ length (output_of o)
+  pub buffer : out ≡ output_of o ++ drop (length (output_of o)) held
   pub same : length out ≡ length held
 
 -- of a call's answer: how many bytes there are to write, and the buffer, with the refusal's record at its front

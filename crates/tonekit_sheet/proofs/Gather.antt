@@ -8,21 +8,21 @@ use Rattle.std.proofs.Math.ListN.{length, length-append}
 use Rattle.std.proofs.lemmas.List.Edits.{sets}
 use Rattle.std.proofs.Math.Seq.{length-sets}
 use Rattle.tonekit_bytes.proofs.Write.{sets_append}
-use Rattle.spec_sheet.specs.Pieces.{pieces, gather, Wrote}
+use Rattle.spec_sheet.specs.Pieces.{pieces, piecewise, Wrote}
 
 module _ (f : ℕ → List ℕ) where
-  pub gather_done : (i hi : ℕ) → hi ≤ i → gather f i hi ≡ []
-  unfolding pieces gather
+  pub gather_done : (i hi : ℕ) → hi ≤ i → piecewise f i hi ≡ []
+  unfolding pieces piecewise
   gather_done i hi h = let e : hi - i ≡ 0 = omega arith in rw e
 
-  pub gather_step : (i hi : ℕ) → i < hi → gather f i hi ≡ f i ++ gather f (i + 1) hi
-  unfolding pieces gather
+  pub gather_step : (i hi : ℕ) → i < hi → piecewise f i hi ≡ f i ++ piecewise f (i + 1) hi
+  unfolding pieces piecewise
   gather_step i hi h = let e : hi - i ≡ suc (hi - (i + 1)) = omega arith in rw e
 
-  pub gather_more : (i hi : ℕ) → i < hi → length (gather f i hi) ≡ length (f i) + length (gather f (i + 1) hi)
-  gather_more i hi h = ap length (gather_step i hi h) ∙ length-append (f i) (gather f (i + 1) hi)
+  pub gather_more : (i hi : ℕ) → i < hi → length (piecewise f i hi) ≡ length (f i) + length (piecewise f (i + 1) hi)
+  gather_more i hi h = ap length (gather_step i hi h) ∙ length-append (f i) (piecewise f (i + 1) hi)
 
-  pub gather_none : (i hi : ℕ) → hi ≤ i → length (gather f i hi) ≡ 0
+  pub gather_none : (i hi : ℕ) → hi ≤ i → length (piecewise f i hi) ≡ 0
   gather_none i hi h = ap length (gather_done i hi h)
 
   -- each piece has n bytes
@@ -37,8 +37,8 @@ module _ (f : ℕ → List ℕ) where
         let d : n * suc k ≡ n + n * k = mul-suc n k ∙ add_comm (n * k) n in
         omega arith)
 
-    pub gather_length : (lo hi : ℕ) → length (gather f lo hi) ≡ n * (hi - lo)
-    unfolding gather
+    pub gather_length : (lo hi : ℕ) → length (piecewise f lo hi) ≡ n * (hi - lo)
+    unfolding piecewise
     gather_length lo hi = pieces_length (hi - lo) lo
 
 -- two runs of bytes, one after the other
@@ -51,12 +51,12 @@ joined {a} {b} {at} {r} {q} {l} {m} {n} v w = record {
 -- what the loop of a writer keeps: what is left, written from o on, gives what all of bs gives, written at `at`
 pub record Writing (f : ℕ → List ℕ) (hi at : ℕ) (bs before out : List ℕ) (i o : ℕ) : Type 0 where
   pub few : i ≤ hi
-  pub place : o + length (gather f i hi) ≡ at + length bs
+  pub place : o + length (piecewise f i hi) ≡ at + length bs
   pub size : length out ≡ length before
-  pub same : sets out o (gather f i hi) ≡ sets before at bs
+  pub same : sets out o (piecewise f i hi) ≡ sets before at bs
 
 module _ (f : ℕ → List ℕ) where
-  pub write_begun : (lo hi at : ℕ) (out : List ℕ) → lo ≤ hi → Writing f hi at (gather f lo hi) out out lo at
+  pub write_begun : (lo hi at : ℕ) (out : List ℕ) → lo ≤ hi → Writing f hi at (piecewise f lo hi) out out lo at
   write_begun lo hi at out h = record { few = h; place = refl; size = refl; same = refl }
 
   module _ {hi at : ℕ} {bs before out : List ℕ} {i o : ℕ} (w : Writing f hi at bs before out i o) where
@@ -65,21 +65,21 @@ module _ (f : ℕ → List ℕ) where
 
     pub write_next : i < hi → {out' : List ℕ} {o' : ℕ} → Wrote (f i) o out out' o' → Writing f hi at bs before out' (i + 1) o'
     write_next h {out'} {o'} t =
-        let g : gather f i hi ≡ f i ++ gather f (i + 1) hi = gather_step f i hi h in
+        let g : piecewise f i hi ≡ f i ++ piecewise f (i + 1) hi = gather_step f i hi h in
         record {
           few = omega arith;
           place = omega (arith, gather_more f i hi h, w.place, t.place);
           size = ap length t.same ∙ length-sets out o (f i) ∙ w.size;
           same =
-              ap (λ (x : List ℕ). sets x o' (gather f (i + 1) hi)) t.same
-              ∙ sets_append out o (f i) (gather f (i + 1) hi) o' t.place
+              ap (λ (x : List ℕ). sets x o' (piecewise f (i + 1) hi)) t.same
+              ∙ sets_append out o (f i) (piecewise f (i + 1) hi) o' t.place
               ∙ ap (sets out o) (sym g)
               ∙ w.same;
         }
 
     pub write_ended : hi ≤ i → Wrote bs at before out o
     write_ended h =
-        let g : gather f i hi ≡ [] = gather_done f i hi h in
+        let g : piecewise f i hi ≡ [] = gather_done f i hi h in
         record { place = omega (arith, gather_none f i hi h, w.place); same = ap (sets out o) (sym g) ∙ w.same }
 
 -- the room of a run of bytes is that of its parts

@@ -1,4 +1,4 @@
-pub mod Fit
+pub mod Sheetable
 pub mod Marks
 pub mod Kinds
 pub mod Parts

@@ -15,7 +15,7 @@ use Rattle.spec_lookup.specs.Lookup.{component_of}
 use Rattle.spec_lookup.specs.Source.{carried}
 use Rattle.tonekit_expect.proofs.Carried.{component_ten}
 use Rattle.spec_sheet.specs.Reader.{point_fine}
-use Rattle.tonekit_sheet.specs.Fit.{Bits, f32}
+use Rattle.tonekit_sheet.specs.Sheetable.{Bits, f32}
 
 -- ---- weights
 -- a pattern below infinity's, the sign clear, is that of its float

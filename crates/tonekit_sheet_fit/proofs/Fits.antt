@@ -14,7 +14,7 @@ use Rattle.spec_lookup.specs.Source.{Carried, carried_of, tone_at, accent_at, so
 use Rattle.tonekit_expect.proofs.Carried.{components_length}
 use Rattle.spec_sheet.specs.Agree.{Bytes}
 use Rattle.spec_sheet.specs.Sheet.{view_of, lists_of}
-use Rattle.tonekit_sheet.specs.Fit.{components_in, Fit}
+use Rattle.tonekit_sheet.specs.Sheetable.{components_in, Sheetable}
 use Rattle.tonekit_sheet_fit.proofs.Budget.{sum_same, sum_scaled, weigh, Pooled, whole, budget}
 use Rattle.tonekit_sheet_fit.proofs.Drawn.{Drawn, ruled, cited, rule_of, citation_of, list_of, drawn}
 use Rattle.tonekit_sheet_fit.proofs.Parts.{parts_of, few_parts}
@@ -89,7 +89,7 @@ module _ (s : List ℕ) (st : PackRead) (e : ℕ) (p : read_pack s ≡ loaded st
       )
 
 -- ---- together
-pub fit_of_pack : (s : List ℕ) → Bytes s → (st : PackRead) (e : ℕ) → read_pack s ≡ loaded st e → Fit (source_of_pack s st)
+pub fit_of_pack : (s : List ℕ) → Bytes s → (st : PackRead) (e : ℕ) → read_pack s ≡ loaded st e → Sheetable (source_of_pack s st)
 unfolding source_of_pack
 fit_of_pack s b st e p =
     let l = loads s st e p in

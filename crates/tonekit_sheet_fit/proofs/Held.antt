@@ -13,7 +13,7 @@ use Rattle.tonekit_pack.proofs.Loads.{ToneFine, AccentFine, Loads, tones_once, a
 use Rattle.spec_lookup.specs.Source.{Tone, Accent, settings_at, tone_at, accent_at, accent_in, absent_tone}
 use Rattle.spec_sheet.specs.Agree.{Bytes}
 use Rattle.spec_sheet.specs.Sheet.{absent_accent}
-use Rattle.tonekit_sheet.specs.Fit.{SettingsFit, region_fits, ToneFit, AccentFit}
+use Rattle.tonekit_sheet.specs.Sheetable.{SettingsFit, region_fits, ToneFit, AccentFit}
 
 module _ (s : List ℕ) (b : Bytes s) where
   region_fits_lem : (o : ℕ) → region_fine s (o + 47) ≡ true → region_fits (tone_at 47 s o) ≡ true

@@ -18,7 +18,7 @@ use Rattle.tonekit_expect.proofs.Curves.{points_fine_lem}
 use Rattle.tonekit_expect.proofs.Carried.{named, part_number, citation_weight, components_length, components_at, carried_ten}
 use Rattle.spec_sheet.specs.Agree.{Bytes}
 use Rattle.spec_sheet.specs.Sheet.{absent_carried}
-use Rattle.tonekit_sheet.specs.Fit.{CarriedFit, ListFit}
+use Rattle.tonekit_sheet.specs.Sheetable.{CarriedFit, ListFit}
 use Rattle.tonekit_sheet_fit.proofs.Bits.{weight_again, carried_bits, carried_fine}
 use Rattle.tonekit_sheet_fit.proofs.Drawn.{Drawn, ruled, cited, accent_of, list_of, drawn}
 use Rattle.tonekit_sheet_fit.proofs.Held.{accent_there}

@@ -10,7 +10,7 @@ use Rattle.tonekit_pack.proofs.Loads.{loads}
 use Rattle.spec_lookup.specs.declared.Listing.{Listing}
 use Rattle.spec_lookup.specs.Lookup.{component_of}
 use Rattle.spec_lookup.specs.Source.{Accent, Carried, accent_in, carried, components, tone_at, accent_at, source_of_pack}
-use Rattle.spec_sheet.specs.Pieces.{pieces, gather}
+use Rattle.spec_sheet.specs.Pieces.{pieces, piecewise}
 use Rattle.tonekit_sheet.proofs.Gather.{gather_length}
 use Rattle.spec_sheet.specs.Sheet.{or_skip, asc_from, ascending, View, rows_of, view_of, lists_of, bits_bytes, components_bytes, bytes_with, sheet}
 use Rattle.tonekit_sheet.proofs.Components.{component_length, components_snoc}
@@ -79,8 +79,8 @@ lists_from_lem lists (suc k) i h =
     let r = lists_from_lem lists k (i + 1) (omega arith) ∙ ap (λ (j : ℕ). weigh list_size (drop j lists)) (add-one i) in
     rw (drop-cons lists i [] (omega arith)) (omega (arith, length-append (list_piece lists i) (pieces (list_piece lists) k (i + 1)), r))
 
-lists_length : (lists : List (List Carried)) → length (gather (list_piece lists) 0 (length lists)) ≡ weigh list_size lists
-unfolding gather
+lists_length : (lists : List (List Carried)) → length (piecewise (list_piece lists) 0 (length lists)) ≡ weigh list_size lists
+unfolding piecewise
 lists_length lists = lists_from_lem lists (length lists - 0) 0 (omega arith)
 
 -- ---- a sheet's bytes, from its counts
@@ -91,10 +91,10 @@ module _ (v : View) (lists : List (List Carried)) (few_tones : length v.tones �
   bytes_most : weigh list_size lists ≤ 9536 → length (bytes_with v lists) ≤ SHEET_MOST
   unfolding bytes_with
   bytes_most h =
-      let tones = gather (tone_piece v) 0 (length v.tones) in
-      let accents = gather (accent_piece v) 0 (length v.accents) in
-      let rows = gather (row_piece v lists) 0 (rows_of v) in
-      let own = gather (list_piece lists) 0 (length lists) in
+      let tones = piecewise (tone_piece v) 0 (length v.tones) in
+      let accents = piecewise (accent_piece v) 0 (length v.accents) in
+      let rows = piecewise (row_piece v lists) 0 (rows_of v) in
+      let own = piecewise (list_piece lists) 0 (length lists) in
       omega (
         arith,
         few_rows,

@@ -13,7 +13,7 @@ use Rattle.spec_sheet.specs.Reader.{SheetRead, row_at, read_sheet}
 use Rattle.spec_sheet.specs.FromSheet.{list_numbered, prev_found, look_sheet}
 use Rattle.tonekit_sheet.specs.Parts.{row_place, final_place}
 use Rattle.tonekit_sheet_read.specs.declared.Sheet.{Sheet}
-use Rattle.tonekit_sheet_read.specs.Held.{shown}
+use Rattle.tonekit_sheet_read.specs.Held.{records_of}
 use Rattle.tonekit_bytes.proofs.Stepped.{stepped_length}
 use Rattle.tonekit_sheet_inverse.proofs.Loads.{reads}
 use Rattle.tonekit_sheet_inventory.specs.Look.{list_place, sheet_in, ListPlace, list_given, ShortList, Looks}
@@ -39,23 +39,23 @@ module _ (s : List ℕ) (st : SheetRead) (n : ℕ) where
 
 -- ---- what is found is there
 module _ (s : List ℕ) (st : Sheet) (n : ℕ) where
-  pub accent_held : (a : ℕ) → index_of s (shown st).accents n ≡ Some a → a < st.accents
-  accent_held a e = omega (arith, (index_found s (shown st).accents n a e).inside, stepped_length (9 + 15 * st.tones) 18 st.accents)
+  pub accent_held : (a : ℕ) → index_of s (records_of st).accents n ≡ Some a → a < st.accents
+  accent_held a e = omega (arith, (index_found s (records_of st).accents n a e).inside, stepped_length (9 + 15 * st.tones) 18 st.accents)
 
-  pub tone_held : (t : ℕ) → index_of s (shown st).tones n ≡ Some t → t < st.tones
-  tone_held t e = omega (arith, (index_found s (shown st).tones n t e).inside, stepped_length 9 15 st.tones)
+  pub tone_held : (t : ℕ) → index_of s (records_of st).tones n ≡ Some t → t < st.tones
+  tone_held t e = omega (arith, (index_found s (records_of st).tones n t e).inside, stepped_length 9 15 st.tones)
 
-  pub prev_held : (p : ℕ) → prev_found s (shown st) n ≡ Some p → p ≤ st.tones
-  prev_held p e = omega (arith, prev_inside s (shown st) n p e, stepped_length 9 15 st.tones)
+  pub prev_held : (p : ℕ) → prev_found s (records_of st) n ≡ Some p → p ≤ st.tones
+  prev_held p e = omega (arith, prev_inside s (records_of st) n p e, stepped_length 9 15 st.tones)
 
 -- ---- a sheet that is held was read from its bytes
 -- as its reader handed it back for these bytes, which load
 pub record ReadFrom (s : List ℕ) (p : Sheet) : Type 0 where
   pub end : ℕ
-  pub reads : read_sheet s ≡ loaded (shown p) end
+  pub reads : read_sheet s ≡ loaded (records_of p) end
 
-pub read_from : (s : List ℕ) (p : Sheet) (o : Out SheetRead) → read_sheet s ≡ o → sheet_in o ≡ Some (shown p) → ReadFrom s p
-read_from s p (loaded st e) q h = let is : st ≡ shown p = cc in record { end = e; reads = q ∙ ap (λ (x : SheetRead). loaded x e) is }
+pub read_from : (s : List ℕ) (p : Sheet) (o : Out SheetRead) → read_sheet s ≡ o → sheet_in o ≡ Some (records_of p) → ReadFrom s p
+read_from s p (loaded st e) q h = let is : st ≡ records_of p = cc in record { end = e; reads = q ∙ ap (λ (x : SheetRead). loaded x e) is }
 read_from s p (refused r place) q h = let n : ◌≡◌ {A = ℕ} 0 1 = cc in absurd (omega arith)
 
 -- ---- the ways

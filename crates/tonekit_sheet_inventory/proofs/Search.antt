@@ -12,7 +12,7 @@ use Rattle.tonekit_inventory.specs.Fields.{tolerance_of}
 use Rattle.tonekit_inventory.proofs.Search.{accent_found, accent_none}
 use Rattle.spec_sheet.specs.FromSheet.{source_of_sheet}
 use Rattle.tonekit_sheet_read.specs.declared.Sheet.{Sheet}
-use Rattle.tonekit_sheet_read.specs.Held.{shown}
+use Rattle.tonekit_sheet_read.specs.Held.{records_of}
 use Rattle.tonekit_bytes.proofs.Stepped.{stepped_get}
 
 -- the tolerances stand behind an accent's kind and number
@@ -25,13 +25,13 @@ tolerance s o =
     rw (onset, offset, turning)
 
 module _ (s : List ℕ) (st : Sheet) (n : ℕ) where
-  pub graded_found : (i : ℕ) → i < st.accents → index_of s (shown st).accents n ≡ Some i → (o : ℕ) → o ≡ sheet_accent_at st.tones i → (t : Tolerance) → t ≡ tolerance_at s (o + 2)
-      → Some t ≡ graded_of (accent_in (source_of_sheet s (shown st)).accents n)
+  pub graded_found : (i : ℕ) → i < st.accents → index_of s (records_of st).accents n ≡ Some i → (o : ℕ) → o ≡ sheet_accent_at st.tones i → (t : Tolerance) → t ≡ tolerance_at s (o + 2)
+      → Some t ≡ graded_of (accent_in (source_of_sheet s (records_of st)).accents n)
   unfolding source_of_sheet
   graded_found i h e o o_is t q =
-      rw (accent_found s (shown st).accents n (accent_at 2 s) (λ o. refl) i e, stepped_get (9 + 15 * st.tones) 18 st.accents i h)
+      rw (accent_found s (records_of st).accents n (accent_at 2 s) (λ o. refl) i e, stepped_get (9 + 15 * st.tones) 18 st.accents i h)
       (ap Some (q ∙ (tolerance s o ∙ ap (λ (y : ℕ). tolerance_of (accent_at 2 s y)) o_is)))
 
-  pub graded_none : index_of s (shown st).accents n ≡ None → None ≡ graded_of (accent_in (source_of_sheet s (shown st)).accents n)
+  pub graded_none : index_of s (records_of st).accents n ≡ None → None ≡ graded_of (accent_in (source_of_sheet s (records_of st)).accents n)
   unfolding source_of_sheet
-  graded_none e = rw (accent_none s (shown st).accents n (accent_at 2 s) (λ o. refl) e)
+  graded_none e = rw (accent_none s (records_of st).accents n (accent_at 2 s) (λ o. refl) e)

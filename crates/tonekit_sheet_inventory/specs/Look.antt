@@ -11,12 +11,12 @@ use Rattle.spec_arithmetic.specs.Files.{Out, loaded, refused}
 use Rattle.spec_sheet.specs.Reader.{SheetRead, load_sheet}
 use Rattle.spec_judgement.specs.declared.ToneListing.{ToneListing}
 use Rattle.spec_sheet.specs.FromSheet.{carried_from, look_sheet, source_of_sheet}
-use Rattle.tonekit_sheet_read.specs.Held.{shown}
+use Rattle.tonekit_sheet_read.specs.Held.{records_of}
 use Rattle.tonekit_sheet_read.specs.declared.Sheet.{Sheet}
 
 -- what a sheet that was read from these bytes stands for
 abbrev pub source_in : List ℕ → Sheet → Source
-source_in s p = source_of_sheet s (shown p)
+source_in s p = source_of_sheet s (records_of p)
 
 -- what the bytes of a sheet hold, or why they are none
 abbrev pub source_or : List ℕ → Out SheetRead → Result Source Rejection

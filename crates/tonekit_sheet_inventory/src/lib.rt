@@ -10,7 +10,7 @@ ghost use Rattle.spec_judgement.specs.Gather.{f32, put_in};
 ghost use Rattle.spec_sheet.specs.Reader.{row_at, read_sheet};
 ghost use Rattle.spec_sheet.specs.FromSheet.{bits_at, prev_found, carried_from};
 ghost use Rattle.tonekit_sheet.specs.Parts.{row_place, final_place};
-ghost use Rattle.tonekit_sheet_read.specs.Held.{shown};
+ghost use Rattle.tonekit_sheet_read.specs.Held.{records_of};
 ghost use Rattle.tonekit_sheet_inventory.specs.Look.{source_in, load_source, sheet_in, ListPlace, ShortList, Looks, name_at};
 
 use spec_judgement::{Settings, Slot, Slots, Tolerance, ToneEntry, ToneListing};
@@ -25,13 +25,13 @@ use tonekit_sheet_read::SheetView;
 #[derive(Clone, Copy)]
 pub struct HeldSheet<'a> {
     pub view: SheetView<'a>,
-    pub ghost read: { sheet_in (read_sheet view.bytes.now) ≡ Some (shown view.sheet) } by { Prim.hlevel props },
+    pub ghost read: { sheet_in (read_sheet view.bytes.now) ≡ Some (records_of view.sheet) } by { Prim.hlevel props },
 }
 
 impl HeldSheet<'_> {
     // The place of what stood before among a row's: none first, then the tones.
     fn prev_index(&self, n: u8) -> Option<usize>
-        ensures { result ≡ prev_found self.now.view.bytes.now (shown self.now.view.sheet) n }
+        ensures { result ≡ prev_found self.now.view.bytes.now (records_of self.now.view.sheet) n }
     {
         if n == 0 {
             return Some(0);
@@ -43,7 +43,7 @@ impl HeldSheet<'_> {
     // The place of the row of accent a, tone t and place p of what stood before.
     fn row_place(&self, a: usize, t: usize, p: usize) -> usize
         requires { (a < self.now.view.sheet.accents) × (t < self.now.view.sheet.tones) × (p ≤ self.now.view.sheet.tones) }
-        ensures { (result ≡ row_place (shown self.now.view.sheet) a t p) × (result < 576) }
+        ensures { (result ≡ row_place (records_of self.now.view.sheet) a t p) × (result < 576) }
     {
         (a * self.view.sheet.tones + t) * (self.view.sheet.tones + 1) + p
     }
@@ -51,7 +51,7 @@ impl HeldSheet<'_> {
     // The list number of that row, at a phrase's end or not.
     fn list_number(&self, a: usize, t: usize, p: usize, c: Context) -> u8
         requires { (a < self.now.view.sheet.accents) × (t < self.now.view.sheet.tones) × (p ≤ self.now.view.sheet.tones) }
-        ensures { result ≡ byte_at self.now.view.bytes.now (row_at (shown self.now.view.sheet) (row_place (shown self.now.view.sheet) a t p) + final_place c) }
+        ensures { result ≡ byte_at self.now.view.bytes.now (row_at (records_of self.now.view.sheet) (row_place (records_of self.now.view.sheet) a t p) + final_place c) }
     {
         let row = self.row_place(a, t, p);
         let o = layout::sheet_row_at(self.view.sheet.tones, self.view.sheet.accents, row);
@@ -65,7 +65,7 @@ impl HeldSheet<'_> {
     #[tactic(auto, using(tonekit_bytes::proofs::InOrder::order_length))]
     fn list_at(&self, i: usize) -> u16
         requires { i < self.now.view.sheet.lists.count }
-        ensures { result ≡ get_or (shown self.now.view.sheet).lists i 0 }
+        ensures { result ≡ get_or (records_of self.now.view.sheet).lists i 0 }
     {
         self.view.sheet.lists.offsets()[i]
     }
@@ -73,7 +73,7 @@ impl HeldSheet<'_> {
     // The offset of the list with a number, of at most as many as there are.
     fn list_place(&self, number: u8) -> Option<usize>
         requires { number ≤ self.now.view.sheet.lists.count }
-        ensures { ListPlace (shown self.now.view.sheet) number result }
+        ensures { ListPlace (records_of self.now.view.sheet) number result }
     {
         if number == 0 {
             return None;
@@ -84,7 +84,7 @@ impl HeldSheet<'_> {
     // The offset of the list that a context takes, or none: the row by position, and of its two lists
     // the one for this place in the phrase.
     pub fn look(&self, c: Context) -> Option<usize>
-        ensures { Looks self.now.view.bytes.now (shown self.now.view.sheet) c result }
+        ensures { Looks self.now.view.bytes.now (records_of self.now.view.sheet) c result }
     {
         let a = self.view.accent_index(c.accent)?;
         let t = self.view.tone_index(c.tone)?;

@@ -6,7 +6,7 @@ use Rattle.spec_arithmetic.specs.Places.{number_at}
 use Rattle.tonekit_core.proofs.Split.{absurd_bool}
 use Rattle.spec_lookup.specs.Source.{Tone, Accent, settings_at, tone_at, accent_at, absent_tone}
 use Rattle.spec_sheet.specs.Agree.{Bytes}
-use Rattle.spec_sheet.specs.Pieces.{gather}
+use Rattle.spec_sheet.specs.Pieces.{piecewise}
 use Rattle.spec_sheet.specs.Number.{number_in}
 use Rattle.spec_sheet.specs.Sheet.{ascending, absent_accent, row_context, View, view_of, rows_of, lists_of, tone_bytes, accent_bytes, list_bytes, bytes_with, sheet}
 use Rattle.spec_sheet.specs.Reader.{SheetRead, row_at, list_size, load_sheet}
@@ -66,7 +66,7 @@ module _ (s : List ℕ) (b : Bytes s) (st : SheetRead) (e : ℕ) (l : Loads s st
   lists_same = rw rows_are (lists_are s st different o (view_at s st).row (λ r h. look_row s st e l o r false h) (λ r h. look_row s st e l o r true h))
 
   -- ---- its pieces
-  tones_span : Spans s 9 (9 + 15 * length st.tones) (gather (tone_piece (view_at s st)) 0 (length (tones_of s st)))
+  tones_span : Spans s 9 (9 + 15 * length st.tones) (piecewise (tone_piece (view_at s st)) 0 (length (tones_of s st)))
   tones_span =
       rw (length-map st.tones (tone_at 6 s))
       (gather_spans s (tone_piece (view_at s st)) (λ i. 9 + 15 * i) (length st.tones)
@@ -75,7 +75,7 @@ module _ (s : List ℕ) (b : Bytes s) (st : SheetRead) (e : ℕ) (l : Loads s st
       rw (get_or-map (tone_at 6 s) st.tones i 0 absent_tone h, ← t.place) x)
       9 (9 + 15 * length st.tones) refl refl)
 
-  accents_span : Spans s (9 + 15 * length st.tones) (rows_from st) (gather (accent_piece (view_at s st)) 0 (length (accents_of s st)))
+  accents_span : Spans s (9 + 15 * length st.tones) (rows_from st) (piecewise (accent_piece (view_at s st)) 0 (length (accents_of s st)))
   accents_span =
       let t = length st.tones in
       rw (length-map st.accents (accent_at 2 s))
@@ -93,7 +93,7 @@ module _ (s : List ℕ) (b : Bytes s) (st : SheetRead) (e : ℕ) (l : Loads s st
       let m : number_in (contents s st (length st.lists)) ((view_at s st).row r true) ≡ final_list s st r = rw (look_row s st e l o r true h) (number_is s st different (final_list s st r) q.final_held) in
       rw (n, m, row_context_lem s st e l o r false h) (row_spans s b (row_at st r) (row_at st (r + 1)) (context_at s st r false) (omega arith) (l.rows r h) q.accent q.tone q.prev)
 
-  rows_span : Spans s (rows_from st) (lists_from st) (gather (row_piece (view_at s st) (contents s st (length st.lists))) 0 (rows_of (view_at s st)))
+  rows_span : Spans s (rows_from st) (lists_from st) (piecewise (row_piece (view_at s st) (contents s st (length st.lists))) 0 (rows_of (view_at s st)))
   rows_span = rw rows_are (gather_spans s (row_piece (view_at s st) (contents s st (length st.lists))) (row_at st) st.rows row_span (rows_from st) (lists_from st) (omega arith) refl)
 
   list_span : (i : ℕ) → i < length st.lists → Spans s (list_place s (lists_from st) i) (list_place s (lists_from st) (i + 1)) (list_piece (contents s st (length st.lists)) i)
@@ -105,7 +105,7 @@ module _ (s : List ℕ) (b : Bytes s) (st : SheetRead) (e : ℕ) (l : Loads s st
       ap (list_place s (lists_from st)) (add-one i) ∙ ap (λ (n : ℕ). n + list_size s n) (sym t.place) in
       rw (contents_get s st (length st.lists) i h, q, ← t.place, ← (o.lists i h).number) x
 
-  lists_span : Spans s (lists_from st) (list_place s (lists_from st) (length st.lists)) (gather (list_piece (contents s st (length st.lists))) 0 (length (contents s st (length st.lists))))
+  lists_span : Spans s (lists_from st) (list_place s (lists_from st) (length st.lists)) (piecewise (list_piece (contents s st (length st.lists))) 0 (length (contents s st (length st.lists))))
   lists_span =
       let n = length st.lists in
       rw (contents_length s st n) (gather_spans s (list_piece (contents s st n)) (list_place s (lists_from st)) n list_span (lists_from st) (list_place s (lists_from st) n) refl refl)

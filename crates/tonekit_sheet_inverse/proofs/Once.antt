@@ -6,7 +6,7 @@ use Rattle.spec_arithmetic.specs.Files.{loaded}
 use Rattle.spec_sheet.specs.Reader.{SheetRead, load_sheet}
 use Rattle.spec_sheet.specs.FromSheet.{source_of_sheet}
 use Rattle.spec_sheet.specs.Agree.{Bytes, Agree}
-use Rattle.tonekit_sheet.specs.Fit.{Fit}
+use Rattle.tonekit_sheet.specs.Sheetable.{Sheetable}
 use Rattle.tonekit_sheet_laws.proofs.Place.{st_of}
 use Rattle.tonekit_sheet_laws.proofs.Round.{round}
 use Rattle.tonekit_sheet_laws.proofs.Exactly.{agree_same, loaded_same}
@@ -26,7 +26,7 @@ pub sheets_exactly : (s t : List ℕ) → Bytes s → Bytes t → (x y : SheetRe
 sheets_exactly s t b c x y d e h g =
     (λ q. let p : x ≡ y = loaded_same x y d e (sym h ∙ ap load_sheet q ∙ g) in rw (q, p) (agree_refl (source_of_sheet t y)), says_once s t b c x y d e h g)
 
-agree_back : (a : Source) → Fit a → Agree a (read_back a)
+agree_back : (a : Source) → Sheetable a → Agree a (read_back a)
 agree_back a f = record {
   settings = sym (settings_back a f);
   tones = sym (tones_back a f);
@@ -34,7 +34,7 @@ agree_back a f = record {
   lookups = λ c h. sym (lookups_back a f c h);
 }
 
-pub sheet_exactly : (a : Source) → Fit a → (s : List ℕ) → Bytes s → (st : SheetRead) (e : ℕ) → load_sheet s ≡ loaded st e
+pub sheet_exactly : (a : Source) → Sheetable a → (s : List ℕ) → Bytes s → (st : SheetRead) (e : ℕ) → load_sheet s ≡ loaded st e
     → (sheet a ≡ s) ↔ Agree a (source_of_sheet s st)
 sheet_exactly a f s b st e h = (
   λ q. let p : st ≡ st_of a = loaded_same st (st_of a) e _ (sym h ∙ ap load_sheet (sym q) ∙ round a f) in rw (← q, p) (agree_back a f),

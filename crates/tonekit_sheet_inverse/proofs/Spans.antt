@@ -4,7 +4,7 @@ use lib.ListN.{get_or-append}
 use Rattle.spec_arithmetic.specs.Fields.{byte_at, u16_at, u32_at, le16, le32}
 use Rattle.tonekit_core.proofs.Split.{split}
 use Rattle.spec_sheet.specs.Agree.{Bytes}
-use Rattle.spec_sheet.specs.Pieces.{gather}
+use Rattle.spec_sheet.specs.Pieces.{piecewise}
 use Rattle.tonekit_sheet.proofs.Gather.{gather_done, gather_step}
 use Rattle.tonekit_bytes.proofs.Back.{le16_of, le32_of}
 
@@ -55,9 +55,9 @@ module _ (s : List ℕ) (b : Bytes s) where
 
 -- ---- pieces: piece i from p i up to p (i + 1)
 module _ (s : List ℕ) (f : ℕ → List ℕ) (p : ℕ → ℕ) (n : ℕ) (each : (i : ℕ) → i < n → Spans s (p i) (p (i + 1)) (f i)) where
-  from : (k i : ℕ) → i + k ≡ n → Spans s (p i) (p n) (gather f i n)
+  from : (k i : ℕ) → i + k ≡ n → Spans s (p i) (p n) (piecewise f i n)
   from zero i e = let q : i ≡ n = omega arith in rw (gather_done f i n (omega arith), q) (none_spans s (p n))
   from (suc k) i e = rw (gather_step f i n (omega arith)) (joined (each i (omega arith)) (from k (i + 1) (omega arith)))
 
-  pub gather_spans : (o e : ℕ) → o ≡ p 0 → e ≡ p n → Spans s o e (gather f 0 n)
+  pub gather_spans : (o e : ℕ) → o ≡ p 0 → e ≡ p n → Spans s o e (piecewise f 0 n)
   gather_spans o e q r = rw (q, r) (from n 0 (omega arith))

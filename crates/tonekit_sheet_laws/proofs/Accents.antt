@@ -8,7 +8,7 @@ use Rattle.spec_pack.specs.Pack.{holds, accent_fine}
 use Rattle.spec_lookup.specs.Source.{Accent, Source}
 use Rattle.spec_sheet.specs.Sheet.{View, absent_accent, lists_of}
 use Rattle.spec_sheet.specs.Reader.{SheetRead, size_of, due_next, accent_verdict, body_verdict, added}
-use Rattle.tonekit_sheet.specs.Fit.{AccentFit}
+use Rattle.tonekit_sheet.specs.Sheetable.{AccentFit}
 use Rattle.tonekit_sheet_laws.proofs.Place.{up_to, accent_at, read_to, last_of}
 use Rattle.tonekit_sheet_laws.proofs.Placed.{up_to_length, holds_none}
 use Rattle.tonekit_sheet_laws.proofs.Records.{AccentThere, accent_there}

@@ -11,7 +11,7 @@ use Rattle.spec_arithmetic.specs.Files.{Out, refused}
 use Rattle.spec_sheet.specs.Reader.{SheetRead}
 use Rattle.spec_sheet.specs.FromSheet.{prev_found, look_sheet, source_of_sheet}
 use Rattle.spec_sheet.specs.Agree.{Held}
-use Rattle.tonekit_sheet.specs.Fit.{Fit, components_in}
+use Rattle.tonekit_sheet.specs.Sheetable.{Sheetable, components_in}
 use Rattle.tonekit_core.specs.declared.Refusal.TheVariants.{CutShort}
 use Rattle.tonekit_sheet_laws.proofs.Place.{up_to, tone_at, accent_at, read_to, last_of, st_of_view, st_of}
 use Rattle.tonekit_sheet_laws.proofs.Placed.{up_to_length, up_to_get}
@@ -82,7 +82,7 @@ module _ (s : List ℕ) (d : Out SheetRead) (src : Source) (v : View) (fit : Vie
 abbrev pub read_back : Source → Source
 read_back src = source_of_sheet (sheet src) (st_of src)
 
-module _ (src : Source) (fit : Fit src) where
+module _ (src : Source) (fit : Sheetable src) where
   abbrev d : Out SheetRead
   d = refused CutShort 0
 

@@ -9,7 +9,7 @@ use Rattle.spec_sheet.specs.Sheet.{View, absent_carried, lists_of}
 use Rattle.spec_arithmetic.specs.Files.{Out}
 use Rattle.spec_sheet.specs.Reader.{SheetRead}
 use Rattle.spec_sheet.specs.FromSheet.{bits_at, carried_at, carried_from}
-use Rattle.tonekit_sheet.specs.Fit.{CarriedFit}
+use Rattle.tonekit_sheet.specs.Sheetable.{CarriedFit}
 use Rattle.tonekit_sheet_laws.proofs.Place.{list_at}
 use Rattle.tonekit_sheet_laws.proofs.Records.{HeadThere, ComponentThere}
 use Rattle.tonekit_sheet_laws.proofs.Laid.{Laid}

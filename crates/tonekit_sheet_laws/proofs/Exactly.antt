@@ -4,14 +4,14 @@ use mathlib.Core.Option.{Option}
 use Rattle.spec_lookup.specs.Source.{Tone, Accent, Carried, Source, accent_in, tone_in}
 use Rattle.spec_lookup.specs.declared.Context.{Context}
 use Rattle.spec_sheet.specs.Number.{noted, number_in}
-use Rattle.spec_sheet.specs.Pieces.{gather}
+use Rattle.spec_sheet.specs.Pieces.{piecewise}
 use Rattle.spec_sheet.specs.Sheet.{or_skip, asc_from, ascending, View, row_context, row_bytes, view_of, rows_of, lists_of, bytes_with, sheet}
 use Rattle.spec_arithmetic.specs.Files.{loaded}
 use Rattle.spec_sheet.specs.Reader.{SheetRead, load_sheet}
 use Rattle.tonekit_sheet.specs.Parts.{bytes_of, note_turn, row_piece}
 use Rattle.spec_sheet.specs.FromSheet.{source_of_sheet}
 use Rattle.spec_sheet.specs.Agree.{Held, Agree}
-use Rattle.tonekit_sheet.specs.Fit.{Fit}
+use Rattle.tonekit_sheet.specs.Sheetable.{Sheetable}
 use Rattle.tonekit_sheet_laws.proofs.Place.{st_of}
 use Rattle.tonekit_core.proofs.LoopLaws.{range_same}
 use Rattle.tonekit_sheet_laws.proofs.Bytes.{gather_same}
@@ -42,7 +42,7 @@ module _ (v w : View) (settings : v.settings ≡ w.settings) (tones : v.tones �
       range_same (note_turn v) (note_turn mixed) 0 (rows_of v) [] (omega arith)
       (λ r l h. ap₂ (λ (x y : Option (List Carried)). noted (noted l x) y) (same r false h) (same r true h))
 
-  rows_same : (lists : List (List Carried)) → gather (row_piece v lists) 0 (rows_of v) ≡ gather (row_piece mixed lists) 0 (rows_of v)
+  rows_same : (lists : List (List Carried)) → piecewise (row_piece v lists) 0 (rows_of v) ≡ piecewise (row_piece mixed lists) 0 (rows_of v)
   unfolding mixed
   rows_same lists =
       gather_same (row_piece v lists) (row_piece mixed lists) (rows_of v)
@@ -72,7 +72,7 @@ module _ (a b : Source) (agree : Agree a b) where
 pub loaded_same : (x y : SheetRead) (m n : ℕ) → loaded x m ≡ loaded y n → x ≡ y
 loaded_same x y m n h = cc
 
-module _ (a b : Source) (fa : Fit a) (fb : Fit b) (e : sheet a ≡ sheet b) where
+module _ (a b : Source) (fa : Sheetable a) (fb : Sheetable b) (e : sheet a ≡ sheet b) where
   read_same : read_back a ≡ read_back b
   read_same = ap₂ source_of_sheet e (loaded_same (st_of a) (st_of b) _ _ (sym (round a fa) ∙ ap load_sheet e ∙ round b fb))
 
@@ -97,5 +97,5 @@ module _ (a b : Source) (fa : Fit a) (fb : Fit b) (e : sheet a ≡ sheet b) wher
     lookups = λ c h. sym (lookups_back a fa c h) ∙ ap (λ (x : Source). x.look c) read_same ∙ lookups_back b fb c (held_too c h);
   }
 
-pub exactly : (a b : Source) → Fit a → Fit b → (sheet a ≡ sheet b) ↔ Agree a b
+pub exactly : (a b : Source) → Sheetable a → Sheetable b → (sheet a ≡ sheet b) ↔ Agree a b
 exactly a b fa fb = (agrees a b fa fb, agree_same a b)

@@ -7,10 +7,10 @@ use Rattle.tonekit_core.specs.Loop.{range, turns}
 use Rattle.spec_pack.specs.Ranges.{above_zero, probability_fine, weight_fine}
 use Rattle.spec_lookup.specs.Source.{Carried, Source, accent_in, absent_tone}
 use Rattle.spec_sheet.specs.Number.{same_carried, seen_in, place_in, noted, number_in, same_by}
-use Rattle.spec_sheet.specs.Pieces.{pieces, gather}
+use Rattle.spec_sheet.specs.Pieces.{pieces, piecewise}
 use Rattle.spec_sheet.specs.Sheet.{asc_from, ascending, absent_accent, absent_carried, row_context, view_of, lists_of, bits_bytes, components_bytes, bytes_with, sheet}
 use Rattle.spec_sheet.specs.Reader.{point_fine}
-use Rattle.tonekit_sheet.specs.Fit.{f32, SettingsFit, ToneFit, AccentFit, CarriedFit, ListFit, components_in, Fit}
+use Rattle.tonekit_sheet.specs.Sheetable.{f32, SettingsFit, ToneFit, AccentFit, CarriedFit, ListFit, components_in, Sheetable}
 
 -- the bits of 1
 abbrev one : ℕ
@@ -36,7 +36,7 @@ pub small_bytes : sheet small ≡
     ∷ 20 ∷ 7 ∷ 3 ∷ 3 ∷ 1 ∷ 1
     ∷ 21 ∷ 1 ∷ 7 ∷ 1 ∷ 0 ∷ 0 ∷ 1
     ∷ 22 ∷ 0 ∷ 0 ∷ 128 ∷ 63 ∷ (replicate 40 0 ++ (23 ∷ []))
-unfolding sheet bytes_with view_of ascending asc_from accent_in lists_of range turns noted seen_in place_in same_by same_carried number_in gather pieces row_context bits_bytes components_bytes
+unfolding sheet bytes_with view_of ascending asc_from accent_in lists_of range turns noted seen_in place_in same_by same_carried number_in piecewise pieces row_context bits_bytes components_bytes
 small_bytes = refl
 
 -- ---- it fits
@@ -108,7 +108,7 @@ small_lists : lists_of (view_of small) ≡ (flat ∷ []) ∷ []
 unfolding view_of ascending asc_from accent_in lists_of range turns noted seen_in same_by same_carried row_context
 small_lists = refl
 
-pub small_fits : Fit small
+pub small_fits : Sheetable small
 unfolding components_in
 small_fits = record {
   settings = settings_fit;

@@ -2,7 +2,7 @@
 use Rattle.std.proofs.Common.{ℕ, ◌≤◌, ◌<◌, ◌≡◌, sym, ap, ◌∙◌, subst, List, [], arith, length, get_or}
 use Rattle.spec_lookup.specs.Source.{Accent, Carried, Source, accent_in, absent_tone}
 use Rattle.spec_sheet.specs.Sheet.{View, absent_accent, absent_carried, ascending, row_context, view_of, lists_of}
-use Rattle.tonekit_sheet.specs.Fit.{SettingsFit, ToneFit, AccentFit, ListFit, Fit, components_in}
+use Rattle.tonekit_sheet.specs.Sheetable.{SettingsFit, ToneFit, AccentFit, ListFit, Sheetable, components_in}
 use Rattle.tonekit_sheet_laws.proofs.FirstUse.{list_used}
 use Rattle.tonekit_sheet_laws.proofs.Ascending.{accent_at_lem, accent_found, ascending_rising, ascending_few, ascending_held, ascending_same}
 use Rattle.tonekit_sheet_laws.proofs.Asked.{row_asks, row_held_lem}
@@ -26,7 +26,7 @@ pub record ViewFit (src : Source) (v : View) : Type 0 where
   pub few_lists : length (lists_of v) ≤ 128
   pub few_components : components_in (lists_of v) ≤ 192
 
-module _ (src : Source) (fit : Fit src) where
+module _ (src : Source) (fit : Sheetable src) where
   -- each of the accents in order is one of those held
   in_order : (i : ℕ) → i < length (ascending src.accents) → AccentFit (get_or (ascending src.accents) i absent_accent)
   in_order i h =

@@ -1,7 +1,7 @@
 -- Where each record of a sheet's bytes stands. Assumes nothing.
 use Rattle.std.proofs.Common.{ℕ, zero, suc, ◌+◌, ◌-◌, ◌*◌, ◌≤◌, ◌<◌, ◌≡◌, refl, ap, subst, List, [], ◌∷◌, ◌++◌, arith, add-one, length, get_or, length-append}
 use Rattle.spec_lookup.specs.Source.{Carried}
-use Rattle.spec_sheet.specs.Pieces.{gather}
+use Rattle.spec_sheet.specs.Pieces.{piecewise}
 use Rattle.tonekit_sheet.proofs.Gather.{gather_done, gather_length}
 use Rattle.spec_sheet.specs.Sheet.{View, rows_of, settings_bytes, bytes_with}
 use Rattle.tonekit_sheet_laws.proofs.Place.{components_before, tone_at, accent_at, row_at, list_at}
@@ -23,28 +23,28 @@ pub record Laid (s : List ℕ) (v : View) (lists : List (List Carried)) : Type 0
 
 module _ (lists : List (List Carried)) (ten : (i : ℕ) → i < length lists → Ten (get_or lists i [])) where
   -- the bytes of the first lists
-  lists_length : (i : ℕ) → i ≤ length lists → length (gather (list_piece lists) 0 i) ≡ 7 * i + 45 * components_before lists i
+  lists_length : (i : ℕ) → i ≤ length lists → length (piecewise (list_piece lists) 0 i) ≡ 7 * i + 45 * components_before lists i
   unfolding components_before
   lists_length zero h = ap length (gather_done (list_piece lists) 0 0 (omega arith))
   lists_length (suc i) h =
-      let a : length (gather (list_piece lists) 0 (suc i)) ≡ length (gather (list_piece lists) 0 i) + length (list_piece lists i) = rw add-one at (gather_next (list_piece lists) i) in
+      let a : length (piecewise (list_piece lists) 0 (suc i)) ≡ length (piecewise (list_piece lists) 0 i) + length (list_piece lists i) = rw add-one at (gather_next (list_piece lists) i) in
       omega (arith, a, lists_length i (omega arith), list_length (i + 1) (get_or lists i []) (ten i h))
 
-even : (f : ℕ → List ℕ) (m n : ℕ) → ((j : ℕ) → length (f j) ≡ m) → length (gather f 0 n) ≡ m * n
+even : (f : ℕ → List ℕ) (m n : ℕ) → ((j : ℕ) → length (f j) ≡ m) → length (piecewise f 0 n) ≡ m * n
 even f m n h = let e : n - 0 ≡ n = omega arith in rw e at (gather_length f m h 0 n)
 
 module _ (v : View) (lists : List (List Carried)) (ten : (i : ℕ) → i < length lists → Ten (get_or lists i [])) where
   abbrev tones : List ℕ
-  tones = gather (tone_piece v) 0 (length v.tones)
+  tones = piecewise (tone_piece v) 0 (length v.tones)
 
   abbrev accents : List ℕ
-  accents = gather (accent_piece v) 0 (length v.accents)
+  accents = piecewise (accent_piece v) 0 (length v.accents)
 
   abbrev rows : List ℕ
-  rows = gather (row_piece v lists) 0 (rows_of v)
+  rows = piecewise (row_piece v lists) 0 (rows_of v)
 
   abbrev listed : List ℕ
-  listed = gather (list_piece lists) 0 (length lists)
+  listed = piecewise (list_piece lists) 0 (length lists)
 
   tones_size : length tones ≡ 15 * length v.tones
   tones_size = even (tone_piece v) 15 (length v.tones) (λ j. refl)

@@ -10,7 +10,7 @@ use Rattle.tonekit_core.proofs.Split.{split}
 use Rattle.spec_lookup.specs.Source.{Carried, Source}
 use Rattle.spec_sheet.specs.Sheet.{View, absent_carried, rows_of, lists_of}
 use Rattle.spec_sheet.specs.Reader.{SheetRead, size_of, complete, due_next, list_crowded, list_fine, list_verdict, point_fine, points_fine, component_fine, component_verdict, body_verdict, added}
-use Rattle.tonekit_sheet.specs.Fit.{Bits, f32, ListFit}
+use Rattle.tonekit_sheet.specs.Sheetable.{Bits, f32, ListFit}
 use Rattle.tonekit_sheet_laws.proofs.Place.{up_to, components_before, accent_at, list_at, read_to, last_of}
 use Rattle.tonekit_sheet_laws.proofs.Loops.{range_all}
 use Rattle.tonekit_sheet_laws.proofs.Placed.{up_to_length, up_to_get, holds_one, before_next, before_below}

@@ -5,7 +5,7 @@ use Rattle.tonekit_core.specs.Layout.{sheet_tone_at, sheet_accent_at, sheet_row_
 use Rattle.spec_lookup.specs.Source.{Carried, Source}
 use Rattle.spec_sheet.specs.Reader.{SheetRead}
 use Rattle.spec_sheet.specs.Sheet.{View, view_of, rows_of, lists_of}
-use Rattle.tonekit_sheet.specs.Fit.{components_in}
+use Rattle.tonekit_sheet.specs.Sheetable.{components_in}
 
 -- f 0, f 1, .. up to n, without it
 unfoldable pub up_to : (ℕ → ℕ) → ℕ → List ℕ

@@ -7,7 +7,7 @@ use Rattle.spec_pack.specs.Pack.{holds, zero_or_held}
 use Rattle.tonekit_core.proofs.Split.{split}
 use Rattle.tonekit_pack.proofs.Numbers.{held_at, not_held}
 use Rattle.spec_lookup.specs.Source.{Carried}
-use Rattle.tonekit_sheet.specs.Fit.{components_in}
+use Rattle.tonekit_sheet.specs.Sheetable.{components_in}
 use Rattle.tonekit_sheet_laws.proofs.Place.{up_to, components_before}
 
 module _ (f : ℕ → ℕ) where

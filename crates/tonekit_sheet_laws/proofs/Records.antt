@@ -5,7 +5,7 @@ use Rattle.spec_arithmetic.specs.Places.{number_at}
 use Rattle.spec_lookup.specs.Source.{Settings, Tone, Accent, Carried}
 use Rattle.spec_lookup.specs.declared.Context.{Context}
 use Rattle.spec_sheet.specs.Sheet.{settings_bytes, tone_bytes, accent_bytes, row_bytes, bits_bytes, components_bytes, absent_carried, list_bytes}
-use Rattle.tonekit_sheet.specs.Fit.{Bits}
+use Rattle.tonekit_sheet.specs.Sheetable.{Bits}
 use Rattle.tonekit_sheet.proofs.Components.{component_length}
 use Rattle.tonekit_bytes.proofs.Back.{le16_back, le32_back}
 use Rattle.tonekit_bytes.proofs.Stands.{Stands, field16, field32, kind, stands_first, stands_then}

@@ -5,7 +5,7 @@ use Rattle.spec_lookup.specs.Source.{Carried, Source}
 use Rattle.spec_sheet.specs.Sheet.{View, view_of, rows_of, lists_of, sheet}
 use Rattle.spec_arithmetic.specs.Files.{Out, loaded, refused}
 use Rattle.spec_sheet.specs.Reader.{SheetRead, size_of, due_next, body_verdict, read_sheet, load_sheet, check_sheet, sheet_reader}
-use Rattle.tonekit_sheet.specs.Fit.{Fit}
+use Rattle.tonekit_sheet.specs.Sheetable.{Sheetable}
 use Rattle.tonekit_sheet_laws.proofs.Place.{components_before, tone_at, accent_at, row_at, list_at, read_to, last_of, st_of_view, st_of}
 use Rattle.tonekit_bytes.proofs.Stands.{kind}
 use Rattle.tonekit_sheet_laws.proofs.Placed.{before_none, before_all}
@@ -71,15 +71,15 @@ module _ (s : List ℕ) (src : Source) (v : View) (fit : ViewFit src v) (laid : 
   loads = rw (reads, le-ltb (length s) (length s) (omega arith), before_all lists)
 
 -- where its records stand
-pub sheet_laid : (src : Source) → Fit src → Laid (sheet src) (view_of src) (lists_of (view_of src))
+pub sheet_laid : (src : Source) → Sheetable src → Laid (sheet src) (view_of src) (lists_of (view_of src))
 unfolding sheet
 sheet_laid src fit = laid (view_of src) (lists_of (view_of src)) (λ i h. ten src (get_or (lists_of (view_of src)) i []) ((view_fit src fit).lists i h))
 
-pub round : (src : Source) → Fit src → load_sheet (sheet src) ≡ loaded (st_of src) (length (sheet src))
+pub round : (src : Source) → Sheetable src → load_sheet (sheet src) ≡ loaded (st_of src) (length (sheet src))
 unfolding st_of
 round src fit = loads (sheet src) src (view_of src) (view_fit src fit) (sheet_laid src fit)
 
 -- so it loads
-pub sheet_loads : (src : Source) → Fit src → check_sheet (sheet src) ≡ Ok tt
+pub sheet_loads : (src : Source) → Sheetable src → check_sheet (sheet src) ≡ Ok tt
 unfolding check_sheet
 sheet_loads src fit = rw (round src fit)

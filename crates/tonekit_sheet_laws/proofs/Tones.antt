@@ -8,7 +8,7 @@ use Rattle.spec_pack.specs.Pack.{holds, settings_verdict}
 use Rattle.spec_lookup.specs.Source.{Tone, Source, absent_tone}
 use Rattle.spec_sheet.specs.Sheet.{View, lists_of}
 use Rattle.spec_sheet.specs.Reader.{SheetRead, size_of, due_next, tone_fine, tone_verdict, body_verdict, added, sheet_reader}
-use Rattle.tonekit_sheet.specs.Fit.{ToneFit, region_fits}
+use Rattle.tonekit_sheet.specs.Sheetable.{ToneFit, region_fits}
 use Rattle.tonekit_sheet_laws.proofs.Place.{up_to, tone_at, read_to, last_of}
 use Rattle.tonekit_sheet_laws.proofs.Placed.{up_to_length, holds_none}
 use Rattle.tonekit_sheet_laws.proofs.Records.{SettingsThere, settings_there, ToneThere, tone_there}

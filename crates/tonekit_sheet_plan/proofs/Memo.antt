@@ -13,7 +13,7 @@ use Rattle.tonekit_sheet_plan.specs.declared.Entry.{Entry}
 use Rattle.tonekit_sheet_plan.specs.declared.Known.{Known}
 use Rattle.tonekit_sheet_plan.specs.Listings.{carried_by, record_of, Kept}
 use Rattle.tonekit_sheet_plan.specs.Marks.{mark_of}
-use Rattle.tonekit_sheet_plan.specs.Entries.{entry_listing, known_listing, no_entry, no_known, list_at, planned, Marked, Right, Sane, FirstPlace, Noted}
+use Rattle.tonekit_sheet_plan.specs.Entries.{entry_listing, known_listing, no_entry, no_known, list_at, planned, Marked, Right, Consistent, FirstPlace, Noted}
 
 -- the list of a listing, under a mark, and what the memo says of a listing whose list has this number
 abbrev pub entry_of : Listing → ℕ → Entry
@@ -85,19 +85,19 @@ right_more s its more e r = record {
   number = r.number ∙ ap suc (sym (place_more (carried_by s (known_listing s e)) its more r.seen));
 }
 
-module _ (s : List ℕ) (lists : List Entry) (memo : List Known) (g : Sane s lists memo) where
-  pub sane_list : (e : Entry) → Marked s (entry_listing s e) e.mark → Sane s (lists ++ (e ∷ [])) memo
+module _ (s : List ℕ) (lists : List Entry) (memo : List Known) (g : Consistent s lists memo) where
+  pub sane_list : (e : Entry) → Marked s (entry_listing s e) e.mark → Consistent s (lists ++ (e ∷ [])) memo
   sane_list e m = record {
     marked = entries_more no_entry (λ x. Marked s (entry_listing s x) x.mark) lists e g.marked m;
     right = λ i b. subst (λ (v : List (List Carried)). Right s v (get_or memo i no_known)) (sym (planned_more s lists e))
         (right_more s (planned s lists) (carried_by s (entry_listing s e) ∷ []) (get_or memo i no_known) (g.right i b));
   }
 
-  pub sane_known : (e : Known) → Right s (planned s lists) e → Sane s lists (memo ++ (e ∷ []))
+  pub sane_known : (e : Known) → Right s (planned s lists) e → Consistent s lists (memo ++ (e ∷ []))
   sane_known e r = record { marked = g.marked; right = entries_more no_known (Right s (planned s lists)) memo e g.right r }
 
 -- ---- a listing that is noted or numbered
-module _ (s : List ℕ) (lists : List Entry) (memo : List Known) (l : Listing) (g : Sane s lists memo) (k : Kept s l) where
+module _ (s : List ℕ) (lists : List Entry) (memo : List Known) (l : Listing) (g : Consistent s lists memo) (k : Kept s l) where
   abbrev its : List Carried
   its = carried_by s l
 

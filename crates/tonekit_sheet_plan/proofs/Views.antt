@@ -5,7 +5,7 @@ use lib.ListN.{length-map}
 use Rattle.tonekit_core.specs.Loop.{turns, range}
 use Rattle.tonekit_core.proofs.LoopLaws.{range_step}
 use Rattle.spec_pack.specs.Pack.{PackRead, read_pack}
-use Rattle.tonekit_pack.specs.Held.{shown}
+use Rattle.tonekit_pack.specs.Held.{records_of}
 use Rattle.tonekit_pack.specs.declared.Pack.{Pack}
 use Rattle.tonekit_core.proofs.Split.{split}
 use Rattle.tonekit_bytes.proofs.InOrder.{order_length}
@@ -78,13 +78,13 @@ module _ (v : View) where
       omega (arith, l, range_grows (i + 1) hi (note_turn v i lists), ap length e)
 
 -- ---- the loop over the rows begins with no list
-pub lists_begun : (s : List ℕ) (p : Pack) (os : List ℕ) → Ordered s (shown p) os → (n : ℕ) (lists : List (List Carried)) → n ≡ row_count (length os) p.tones.count → lists ≡ []
-    → range (note_turn (pack_view s (shown p))) 0 n lists ≡ lists_of (pack_view s (shown p))
+pub lists_begun : (s : List ℕ) (p : Pack) (os : List ℕ) → Ordered s (records_of p) os → (n : ℕ) (lists : List (List Carried)) → n ≡ row_count (length os) p.tones.count → lists ≡ []
+    → range (note_turn (pack_view s (records_of p))) 0 n lists ≡ lists_of (pack_view s (records_of p))
 unfolding lists_of
 lists_begun s p os o n lists e z =
-    let h : rows_of (pack_view s (shown p)) ≡ n = view_rows s (shown p) os o ∙ ap (row_count (length os)) (order_length p.tones.at p.tones.count) ∙ sym e in
+    let h : rows_of (pack_view s (records_of p)) ≡ n = view_rows s (records_of p) os o ∙ ap (row_count (length os)) (order_length p.tones.at p.tones.count) ∙ sym e in
     rw (z, h)
 
 -- ---- a pack that was read has a tone
-pub some_tone : (s : List ℕ) (p : Pack) → Reads s (shown p) → 1 ≤ p.tones.count
-some_tone s p r = omega (arith, some_tones s (shown p) (end_of (read_pack s)) (loads s (shown p) (end_of (read_pack s)) r.loads), order_length p.tones.at p.tones.count)
+pub some_tone : (s : List ℕ) (p : Pack) → Reads s (records_of p) → 1 ≤ p.tones.count
+some_tone s p r = omega (arith, some_tones s (records_of p) (end_of (read_pack s)) (loads s (records_of p) (end_of (read_pack s)) r.loads), order_length p.tones.at p.tones.count)

@@ -40,7 +40,7 @@ pub record Right (s : List ℕ) (its : List (List Carried)) (e : Known) : Type 0
   pub number : e.number ≡ suc (place_in (carried_by s (known_listing s e)) its)
 
 -- lists have their marks, and can be read; what the memo says is right
-pub record Sane (s : List ℕ) (lists : List Entry) (memo : List Known) : Type 0 where
+pub record Consistent (s : List ℕ) (lists : List Entry) (memo : List Known) : Type 0 where
   pub marked : (i : ℕ) → i < length lists → Marked s (list_at s lists i) (get_or lists i no_entry).mark
   pub right : (i : ℕ) → i < length memo → Right s (planned s lists) (get_or memo i no_known)
 

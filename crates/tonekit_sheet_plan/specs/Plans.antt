@@ -2,7 +2,7 @@
 use Rattle.std.specs.Prelude.{Option}
 use Rattle.std.specs.Prelude.{ℕ, ◌≡◌, List, []}
 use Rattle.std.proofs.Math.Option.{some}
-use Rattle.tonekit_pack.specs.Held.{shown}
+use Rattle.tonekit_pack.specs.Held.{records_of}
 use Rattle.tonekit_pack.specs.declared.Pack.{Pack}
 use Rattle.spec_lookup.specs.Source.{Carried, carried_of}
 use Rattle.spec_lookup.specs.declared.Listing.{Listing}
@@ -35,4 +35,4 @@ abbrev pub with_look : Plan → Option Listing → List (List Carried)
 with_look plan x = noted (planned_by plan) (carried_of plan.bytes.now x)
 
 abbrev pub with_row : Pack → Plan → ℕ → List (List Carried)
-with_row p plan row = note_turn (pack_view plan.bytes.now (shown p)) row (planned_by plan)
+with_row p plan row = note_turn (pack_view plan.bytes.now (records_of p)) row (planned_by plan)

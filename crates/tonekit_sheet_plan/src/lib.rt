@@ -4,13 +4,13 @@
 
 ghost use Rattle.std.specs.Prelude.{◌≡◌, ◌≤◌, ◌<◌, IfSome, length, [], ◌∷◌, ◌++◌};
 ghost use Rattle.std.proofs.Math.Option.{some};
-ghost use Rattle.tonekit_pack.specs.Held.{shown};
+ghost use Rattle.tonekit_pack.specs.Held.{records_of};
 ghost use Rattle.spec_lookup.specs.Source.{carried_of};
 ghost use Rattle.spec_sheet.specs.Number.{same, number_in};
 ghost use Rattle.spec_sheet.specs.Sheet.{lists_of};
 ghost use Rattle.tonekit_sheet_plan.specs.Rows.{pack_view};
 ghost use Rattle.tonekit_sheet_plan.specs.Listings.{carried_by, listing_from, Kept, LookKept};
-ghost use Rattle.tonekit_sheet_plan.specs.Entries.{entry_listing, list_at, Marked, Right, Sane, FirstPlace, Noted};
+ghost use Rattle.tonekit_sheet_plan.specs.Entries.{entry_listing, list_at, Marked, Right, Consistent, FirstPlace, Noted};
 
 mod curves;
 pub mod rows;
@@ -47,7 +47,7 @@ pub struct Plan<'a> {
     pub bytes: &'a [u8],
     pub lists: ArrayVec<Entry, 128>,
     pub memo: ArrayVec<Known, 128>,
-    pub ghost sane: { Sane bytes.now lists.items memo.items },
+    pub ghost sane: { Consistent bytes.now lists.items memo.items },
 }
 
 impl Entry {
@@ -208,7 +208,7 @@ impl<'a> Plan<'a> {
     // loads.
     pub fn note_rows(&mut self, rows: &Rows<'_>)
         requires { (self.old.bytes.now ≡ rows.now.view.bytes.now) × Blank self.old }
-        ensures { PlanOf (lists_of (pack_view rows.now.view.bytes.now (shown rows.now.view.pack)))
+        ensures { PlanOf (lists_of (pack_view rows.now.view.bytes.now (records_of rows.now.view.pack)))
             rows.now.view.bytes.now self.new }
     {
         for i in 0..row_count(rows.accents.count, rows.view.pack.tones.count) {

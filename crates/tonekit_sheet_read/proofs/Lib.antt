@@ -1,4 +1,4 @@
-pub mod Roomy
+pub mod Limits
 pub mod Rows
 pub mod Loops
 pub mod Lists

@@ -9,10 +9,10 @@ use Rattle.tonekit_pack.proofs.Reading.{answer_alone, answer_told}
 use Rattle.tonekit_sheet.proofs.Turns.{steady}
 use Rattle.spec_sheet.specs.Reader.{SheetRead, rows_due, size_of, added, finished, body_verdict, record_verdict, sheet_reader, read_sheet, load_sheet, check_sheet}
 use Rattle.tonekit_sheet_read.specs.declared.Sheet.{Sheet}
-use Rattle.tonekit_sheet_read.specs.Held.{shown, answered, Follows}
+use Rattle.tonekit_sheet_read.specs.Held.{records_of, answered, Follows}
 use Rattle.tonekit_sheet_read.specs.Going.{InPlace, Going}
 use Rattle.tonekit_pack.specs.declared.Loaded.{Loaded}
-use Rattle.tonekit_pack.specs.Format.{alone, told}
+use Rattle.tonekit_pack.specs.Format.{alone, checked_as}
 use Rattle.tonekit_core.specs.declared.Rejection.{Rejection}
 use Rattle.tonekit_bytes.proofs.Stepped.{stepped_length}
 use Rattle.tonekit_sheet_read.proofs.Rows.{due_few}
@@ -113,33 +113,33 @@ placed_next at count st (finish d) n p = absurd (n refl)
 
 -- what a kind that is due and fine shows of the counts
 module _ (s : List ℕ) (st : Sheet) (at : ℕ) (g : Going s st at) where
-  tones_are : length (shown st).tones ≡ st.tones
+  tones_are : length (records_of st).tones ≡ st.tones
   tones_are = stepped_length 9 15 st.tones
 
-  accents_are : length (shown st).accents ≡ st.accents
+  accents_are : length (records_of st).accents ≡ st.accents
   accents_are = stepped_length (9 + 15 * st.tones) 18 st.accents
 
-  lists_are : length (shown st).lists ≡ st.lists.count
+  lists_are : length (records_of st).lists ≡ st.lists.count
   lists_are = order_length st.lists.at st.lists.count
 
   pub near_end : at ≤ 13265
   near_end =
-      let last = (shown st).last in
+      let last = (records_of st).last in
       split (leb 1 last)
       (λ a. omega (arith, g.placed.place (leb-true 1 last a), tones_are, accents_are, lists_are))
       (λ a. omega (arith, g.placed.first (omega (arith, leb-false 1 last a))))
 
-  pub few_rows : rows_due (shown st) ≤ 576
+  pub few_rows : rows_due (records_of st) ≤ 576
   few_rows = due_few st
 
   -- what a record that is due and fine shows: it stands where `add` takes it to stand, and there is room
   other : {k : ℕ} → (k ≡ 18 → ⊥) → (k ≡ 19 → ⊥) → (k ≡ 20 → ⊥) → (k ≡ 21 → ⊥) → (k ≡ 22 → ⊥) → (count : ℕ) → Follows k at count st
   other a b c d e count = record { tone = λ q. absurd (a q); accent = λ q. absurd (b q); row = λ q. absurd (c q); list = λ q. absurd (d q); component = λ q. absurd (e q) }
 
-  follows_of : {k : ℕ} → Due (shown st) k → body_verdict k s at (shown st) ≡ Ok tt → Follows k at (byte_at s (at + 6)) st
+  follows_of : {k : ℕ} → Due (records_of st) k → body_verdict k s at (records_of st) ≡ Ok tt → Follows k at (byte_at s (at + 6)) st
   follows_of (settings z) b = other (λ q. omega arith) (λ q. omega arith) (λ q. omega arith) (λ q. omega arith) (λ q. omega arith) (byte_at s (at + 6))
   follows_of (tone l u) b = record {
-    tone = λ q. (omega (arith, g.placed.place (omega arith), g.placed.no_accents u, g.placed.no_rows (omega arith), g.placed.no_lists (omega arith), tones_are), omega (arith, tone_room s at (shown st) b, tones_are), omega (arith, g.placed.no_accents u, accents_are));
+    tone = λ q. (omega (arith, g.placed.place (omega arith), g.placed.no_accents u, g.placed.no_rows (omega arith), g.placed.no_lists (omega arith), tones_are), omega (arith, tone_room s at (records_of st) b, tones_are), omega (arith, g.placed.no_accents u, accents_are));
     accent = λ q. absurd (omega arith);
     row = λ q. absurd (omega arith);
     list = λ q. absurd (omega arith);
@@ -147,7 +147,7 @@ module _ (s : List ℕ) (st : Sheet) (at : ℕ) (g : Going s st at) where
   }
   follows_of (accent l u) b = record {
     tone = λ q. absurd (omega arith);
-    accent = λ q. (omega (arith, g.placed.place (omega arith), g.placed.no_rows u, g.placed.no_lists (omega arith), tones_are, accents_are), omega (arith, accent_room s at (shown st) b, accents_are));
+    accent = λ q. (omega (arith, g.placed.place (omega arith), g.placed.no_rows u, g.placed.no_lists (omega arith), tones_are, accents_are), omega (arith, accent_room s at (records_of st) b, accents_are));
     row = λ q. absurd (omega arith);
     list = λ q. absurd (omega arith);
     component = λ q. absurd (omega arith);
@@ -163,7 +163,7 @@ module _ (s : List ℕ) (st : Sheet) (at : ℕ) (g : Going s st at) where
     tone = λ q. absurd (omega arith);
     accent = λ q. absurd (omega arith);
     row = λ q. absurd (omega arith);
-    list = λ q. let r = list_room s at (shown st) b in (omega (arith, near_end), omega (arith, r.few, lists_are), r.count);
+    list = λ q. let r = list_room s at (records_of st) b in (omega (arith, near_end), omega (arith, r.few, lists_are), r.count);
     component = λ q. absurd (omega arith);
   }
   follows_of (component d) b = record {
@@ -171,36 +171,36 @@ module _ (s : List ℕ) (st : Sheet) (at : ℕ) (g : Going s st at) where
     accent = λ q. absurd (omega arith);
     row = λ q. absurd (omega arith);
     list = λ q. absurd (omega arith);
-    component = λ q. (omega arith, component_room s at (shown st) b);
+    component = λ q. (omega arith, component_room s at (records_of st) b);
   }
   follows_of (finish d) b = other (λ q. omega arith) (λ q. omega arith) (λ q. omega arith) (λ q. omega arith) (λ q. omega arith) (byte_at s (at + 6))
 
-  module _ (v : record_verdict s at (shown st) ≡ Ok tt) where
-    pub ok : Sound s at (shown st)
-    ok = sound s at (shown st) v
+  module _ (v : record_verdict s at (records_of st) ≡ Ok tt) where
+    pub ok : Sound s at (records_of st)
+    ok = sound s at (records_of st) v
 
-    pub ends : byte_at s at ≡ 23 → finished s (shown st) (at + 1) ≡ read_sheet s
+    pub ends : byte_at s at ≡ 23 → finished s (records_of st) (at + 1) ≡ read_sheet s
     unfolding read_sheet
-    ends e = files.ends sheet_reader s at (shown st) g.onward v e
+    ends e = files.ends sheet_reader s at (records_of st) g.onward v e
 
     pub follows : Follows (byte_at s at) at (byte_at s (at + 6)) st
     follows = follows_of ok.due ok.body
 
-    pub goes : (st' : Sheet) → (byte_at s at ≡ 23 → ⊥) → shown st' ≡ added (byte_at s at) at (byte_at s (at + 6)) (shown st) → Going s st' (at + size_of (byte_at s at))
+    pub goes : (st' : Sheet) → (byte_at s at ≡ 23 → ⊥) → records_of st' ≡ added (byte_at s at) at (byte_at s (at + 6)) (records_of st) → Going s st' (at + size_of (byte_at s at))
     goes st' n e = record {
-      placed = rw e (placed_next at (byte_at s (at + 6)) (shown st) ok.due n g.placed);
-      onward = rw e (files.goes sheet_reader s at (shown st) g.onward v steady n);
+      placed = rw e (placed_next at (byte_at s (at + 6)) (records_of st) ok.due n g.placed);
+      onward = rw e (files.goes sheet_reader s at (records_of st) g.onward v steady n);
     }
 
 -- before the first record
-pub begins : (s : List ℕ) (p : Sheet) → shown p ≡ sheet_reader.start.st → Going s p 0
-begins s p e = record { placed = rw e placed_start; onward = files.begins sheet_reader refl s (shown p) e }
+pub begins : (s : List ℕ) (p : Sheet) → records_of p ≡ sheet_reader.start.st → Going s p 0
+begins s p e = record { placed = rw e placed_start; onward = files.begins sheet_reader refl s (records_of p) e }
 
 -- an input that is one sheet, and the check of it
 pub alone_is : (s : List ℕ) (r : Result (Loaded Sheet) Rejection) → answered r ≡ read_sheet s → answered (alone (length s) r) ≡ load_sheet s
 unfolding load_sheet
-alone_is s r e = answer_alone shown s r (read_sheet s) e
+alone_is s r e = answer_alone records_of s r (read_sheet s) e
 
-pub told_is : (s : List ℕ) (r : Result (Loaded Sheet) Rejection) → answered r ≡ read_sheet s → told (alone (length s) r) ≡ check_sheet s
+pub told_is : (s : List ℕ) (r : Result (Loaded Sheet) Rejection) → answered r ≡ read_sheet s → checked_as (alone (length s) r) ≡ check_sheet s
 unfolding check_sheet
-told_is s r e = answer_told shown (alone (length s) r) (load_sheet s) (alone_is s r e)
+told_is s r e = answer_told records_of (alone (length s) r) (load_sheet s) (alone_is s r e)

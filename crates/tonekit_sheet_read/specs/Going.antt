@@ -7,7 +7,7 @@ use Rattle.tonekit_bytes.specs.Onward as onward
 use Rattle.tonekit_bytes.specs.Onward.{Onward}
 use Rattle.spec_sheet.specs.Reader.{SheetRead, rows_due, due_next, size_of, body_verdict, record_verdict, sheet_reader, read_sheet}
 use Rattle.tonekit_sheet_read.specs.declared.Sheet.{Sheet}
-use Rattle.tonekit_sheet_read.specs.Held.{shown}
+use Rattle.tonekit_sheet_read.specs.Held.{records_of}
 
 -- where the counts put the next record
 abbrev pub place_of : SheetRead → ℕ
@@ -26,8 +26,8 @@ pub record InPlace (at : ℕ) (st : SheetRead) : Type 0 where
 
 -- from here the reader gives what it gives of the whole
 pub record Going (s : List ℕ) (st : Sheet) (at : ℕ) : Type 0 where
-  pub placed : InPlace at (shown st)
-  pub onward : Onward sheet_reader s at (shown st)
+  pub placed : InPlace at (records_of st)
+  pub onward : Onward sheet_reader s at (records_of st)
 
 -- the verdict of a record is its tests in their order
 pub judges : (s : List ℕ) (o : ℕ) (st : SheetRead) → record_verdict s o st ≡ judged (due_next st) size_of (λ k. body_verdict k s o st) s o
@@ -35,6 +35,6 @@ unfolding record_verdict
 judges s o st = refl
 
 -- a record that is refused ends the reading
-pub refuses : (s : List ℕ) (st : Sheet) (at : ℕ) → Going s st at → (r : Refusal) → record_verdict s at (shown st) ≡ Err r → refused r at ≡ read_sheet s
+pub refuses : (s : List ℕ) (st : Sheet) (at : ℕ) → Going s st at → (r : Refusal) → record_verdict s at (records_of st) ≡ Err r → refused r at ≡ read_sheet s
 unfolding read_sheet
-refuses s st at g r v = onward.refuses sheet_reader s at (shown st) g.onward r v
+refuses s st at g r v = onward.refuses sheet_reader s at (records_of st) g.onward r v

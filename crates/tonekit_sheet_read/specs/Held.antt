@@ -13,8 +13,8 @@ use Rattle.spec_arithmetic.specs.Files.{Out, loaded}
 use Rattle.spec_sheet.specs.Reader.{SheetRead, read_sheet}
 
 -- tones and accents stand one behind the other, after the settings
-abbrev pub shown : Sheet → SheetRead
-shown p = record {
+abbrev pub records_of : Sheet → SheetRead
+records_of p = record {
   last = last_of p.last;
   tones = stepped SETTINGS_SIZE SHEET_TONE_SIZE p.tones;
   accents = stepped (sheet_tone_at p.tones) SHEET_ACCENT_SIZE p.accents;
@@ -25,7 +25,7 @@ shown p = record {
 }
 
 abbrev pub answered : Result (Loaded Sheet) Rejection → Out SheetRead
-answered = answer shown
+answered = answer records_of
 
 -- the record of kind k at o, a list of so many components, may follow what was read: it stands where it is shown to, and there is room for it
 pub record Follows (k o count : ℕ) (p : Sheet) : Type 0 where

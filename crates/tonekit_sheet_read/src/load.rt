@@ -3,7 +3,7 @@ ghost use Rattle.std.specs.Prelude.{◌≡◌, ◌≤◌, eqb};
 ghost use Rattle.tonekit_core.specs.declared.layout.TheConstants.{SHEET_END_KIND};
 ghost use Rattle.tonekit_sheet.specs.Kinds.{number};
 ghost use Rattle.spec_sheet.specs.Reader.{rows_due, due_next, size_of, body_verdict, record_verdict, finished, read_sheet, load_sheet, check_sheet};
-ghost use Rattle.tonekit_sheet_read.specs.Held.{shown, answered};
+ghost use Rattle.tonekit_sheet_read.specs.Held.{records_of, answered};
 ghost use Rattle.tonekit_sheet_read.specs.Going.{Going, judges, refuses};
 
 use crate::{Sheet, SheetView};
@@ -18,8 +18,8 @@ impl SheetView<'_> {
     // not there, then what is out of order. All rows are there.
     #[tactic(auto, unfolding(spec_sheet::specs::Reader::finished))]
     fn judged(&self, end: usize) -> Result<Loaded<Sheet>, Rejection>
-        requires { self.now.sheet.rows ≤ rows_due (shown self.now.sheet) }
-        ensures { answered result ≡ finished self.now.bytes.now (shown self.now.sheet) end }
+        requires { self.now.sheet.rows ≤ rows_due (records_of self.now.sheet) }
+        ensures { answered result ≡ finished self.now.bytes.now (records_of self.now.sheet) end }
     {
         if let Some(o) = self.loose_row() {
             return Err(Refusal::Loose.at(o));
@@ -47,19 +47,19 @@ impl Format for Sheet {
 
     ghost last = { λ n. eqb n SHEET_END_KIND };
 
-    ghost due = { λ p n. due_next (shown p) n };
+    ghost due = { λ p n. due_next (records_of p) n };
 
     ghost size = { size_of };
 
-    ghost tests = { λ p s o n. body_verdict n s o (shown p) };
+    ghost tests = { λ p s o n. body_verdict n s o (records_of p) };
 
-    ghost verdict = { λ s o p. record_verdict s o (shown p) };
+    ghost verdict = { λ s o p. record_verdict s o (records_of p) };
 
     ghost so_far = { λ s o p. Going s p o };
 
     ghost reads = { λ s r. answered r ≡ read_sheet s };
 
-    ghost judges = { λ s o p. judges s o (shown p) };
+    ghost judges = { λ s o p. judges s o (records_of p) };
 
     ghost refuses = { λ s o p r g v. refuses s p o g r v };
 

@@ -4,7 +4,7 @@ ghost use Rattle.tonekit_core.specs.Loop.{range};
 ghost use Rattle.spec_pack.specs.Pack.{zero_or_held};
 ghost use Rattle.spec_sheet.specs.Reader.{rows_due, row_at, loose_row, accent_down, prev_due, row_due, row_names, row_wrong, named, same_lists, repeated, list_wrong};
 ghost use Rattle.tonekit_sheet.specs.Parts.{names_turn};
-ghost use Rattle.tonekit_sheet_read.specs.Held.{shown};
+ghost use Rattle.tonekit_sheet_read.specs.Held.{records_of};
 ghost use Rattle.tonekit_sheet_read.specs.Marks.{mark_at, Marked};
 
 use crate::{Sheet, SheetView};
@@ -70,7 +70,7 @@ impl Sheet {
     #[tactic(auto, using(tonekit_bytes::proofs::Stepped::stepped_length))]
     fn row_at(&self, r: usize) -> usize
         requires { r ≤ 576 }
-        ensures { (result ≡ row_at (shown self.now) r) × (result ≤ 4000) }
+        ensures { (result ≡ row_at (records_of self.now) r) × (result ≤ 4000) }
     {
         layout::sheet_row_at(self.tones, self.accents, r)
     }
@@ -81,7 +81,7 @@ impl SheetView<'_> {
     // Stays: beside tonekit_pack's `zero_or_held`, since it looks first where list x stands in a sheet in order; a pack's records have no such place.
     #[tactic(auto, using(crate::proofs::Lists::there, tonekit_pack::proofs::Numbers::holds_found), unfolding(spec_pack::specs::Pack::zero_or_held))]
     fn list_there(&self, x: u8) -> bool
-        ensures { result ≡ zero_or_held self.now.bytes.now (shown self.now.sheet).lists x }
+        ensures { result ≡ zero_or_held self.now.bytes.now (records_of self.now.sheet).lists x }
     {
         if x == 0 {
             return true;
@@ -99,7 +99,7 @@ impl SheetView<'_> {
     // The first row that names a list that is not there.
     #[tactic(auto, using(tonekit_core::proofs::LoopLaws::to_again, tonekit_core::proofs::LoopLaws::to_ended), unfolding(spec_sheet::specs::Reader::loose_row))]
     pub fn loose_row(&self) -> Option<usize>
-        ensures { result ≡ loose_row self.now.bytes.now (shown self.now.sheet) }
+        ensures { result ≡ loose_row self.now.bytes.now (records_of self.now.sheet) }
     {
         for r in 0..self.sheet.rows {
             let o = self.sheet.row_at(r);
@@ -115,7 +115,7 @@ impl SheetView<'_> {
     // The first accent whose number is not above that of the one before it.
     #[tactic(auto, using(tonekit_core::proofs::LoopLaws::to_again, tonekit_core::proofs::LoopLaws::to_ended, tonekit_bytes::proofs::Stepped::stepped_length, tonekit_bytes::proofs::Stepped::stepped_get), unfolding(spec_sheet::specs::Reader::accent_down))]
     pub fn accent_down(&self) -> Option<usize>
-        ensures { result ≡ accent_down self.now.bytes.now (shown self.now.sheet) }
+        ensures { result ≡ accent_down self.now.bytes.now (records_of self.now.sheet) }
     {
         let mut before = 0;
         for i in 0..self.sheet.accents {
@@ -134,7 +134,7 @@ impl SheetView<'_> {
     #[tactic(auto, using(crate::proofs::Rows::prev_some))]
     fn prev_due(&self, p: usize) -> u8
         requires { p ≤ self.now.sheet.tones }
-        ensures { result ≡ prev_due self.now.bytes.now (shown self.now.sheet) p }
+        ensures { result ≡ prev_due self.now.bytes.now (records_of self.now.sheet) p }
     {
         if p == 0 {
             return 0;
@@ -145,8 +145,8 @@ impl SheetView<'_> {
     // Whether row r is the one due at its place.
     #[tactic(auto, using(crate::proofs::Rows::row_due_at, crate::proofs::Rows::due_few, crate::proofs::Rows::a_tone, crate::proofs::Rows::places, tonekit_sheet::proofs::RowPlaces::each_few))]
     fn row_due(&self, r: usize) -> bool
-        requires { r < rows_due (shown self.now.sheet) }
-        ensures { result ≡ row_due self.now.bytes.now (shown self.now.sheet) r }
+        requires { r < rows_due (records_of self.now.sheet) }
+        ensures { result ≡ row_due self.now.bytes.now (records_of self.now.sheet) r }
     {
         let o = self.sheet.row_at(r);
         let tones = self.sheet.tones;
@@ -169,7 +169,7 @@ impl SheetView<'_> {
     #[tactic(auto, unfolding(spec_sheet::specs::Reader::row_names))]
     fn row_names(&self, r: usize, m: u8) -> bool
         requires { r ≤ 576 }
-        ensures { result ≡ row_names self.now.bytes.now (shown self.now.sheet) r m }
+        ensures { result ≡ row_names self.now.bytes.now (records_of self.now.sheet) r m }
     {
         let o = self.sheet.row_at(r);
         let n = byte_at(self.bytes, o, layout::SHEET_ROW_LIST);
@@ -180,8 +180,8 @@ impl SheetView<'_> {
     // The first row that is not the one due, or names a list out of order. All rows are there.
     #[tactic(auto, using(tonekit_core::proofs::LoopLaws::to_again, tonekit_core::proofs::LoopLaws::to_ended), unfolding(spec_sheet::specs::Reader::row_wrong))]
     pub fn row_wrong(&self) -> Option<usize>
-        requires { self.now.sheet.rows ≤ rows_due (shown self.now.sheet) }
-        ensures { result ≡ row_wrong self.now.bytes.now (shown self.now.sheet) }
+        requires { self.now.sheet.rows ≤ rows_due (records_of self.now.sheet) }
+        ensures { result ≡ row_wrong self.now.bytes.now (records_of self.now.sheet) }
     {
         let mut m = 0;
         for r in 0..self.sheet.rows {
@@ -201,7 +201,7 @@ impl SheetView<'_> {
     fn use_from(&self, n: usize, from: usize) -> Option<usize>
         requires { from ≤ self.now.sheet.rows }
         ensures { IfSome result (λ r. r < self.now.sheet.rows)
-            × (is_some result ≡ range (names_turn self.now.bytes.now (shown self.now.sheet) n) from self.now.sheet.rows false) }
+            × (is_some result ≡ range (names_turn self.now.bytes.now (records_of self.now.sheet) n) from self.now.sheet.rows false) }
     {
         for r in from..self.sheet.rows {
             let o = self.sheet.row_at(r);
@@ -220,7 +220,7 @@ impl SheetView<'_> {
     fn use_of(&self, n: usize, from: usize) -> Option<usize>
         requires { from ≤ self.now.sheet.rows }
         ensures { IfSome result (λ r. r < self.now.sheet.rows)
-            × (is_some result ≡ named self.now.bytes.now (shown self.now.sheet) n) }
+            × (is_some result ≡ named self.now.bytes.now (records_of self.now.sheet) n) }
     {
         let r = self.use_from(n, from);
         if r.is_some() {
@@ -232,7 +232,7 @@ impl SheetView<'_> {
     // The first list that has not its place as its number, is named by no row, or is equal to an
     // earlier one.
     pub fn list_wrong(&self) -> Option<usize>
-        ensures { result ≡ list_wrong self.now.bytes.now (shown self.now.sheet) }
+        ensures { result ≡ list_wrong self.now.bytes.now (records_of self.now.sheet) }
     {
         let lists = self.sheet.lists.offsets();
         let mut marks: ArrayVec<u32, 128> = ArrayVec::new();

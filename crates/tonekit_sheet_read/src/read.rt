@@ -5,7 +5,7 @@ ghost use Rattle.spec_arithmetic.specs.Places.{index_of};
 ghost use Rattle.spec_pack.specs.Pack.{holds};
 ghost use Rattle.tonekit_sheet.specs.Kinds.{number};
 ghost use Rattle.spec_sheet.specs.Reader.{rows_due, complete, due_next, size_of, tone_verdict, accent_verdict, row_verdict, list_verdict, points_fine, component_verdict, body_verdict, added, sheet_reader};
-ghost use Rattle.tonekit_sheet_read.specs.Held.{shown, Follows};
+ghost use Rattle.tonekit_sheet_read.specs.Held.{records_of, Follows};
 
 use crate::{Sheet, SheetView};
 use tonekit_bytes::places::{Offsets, index_from};
@@ -31,7 +31,7 @@ impl Sheet {
     // Before the first record.
     #[tactic(auto, unfolding(tonekit_bytes::specs::Places::in_order, tonekit_bytes::specs::Places::stepped))]
     pub fn nothing() -> Sheet
-        ensures read { shown result ≡ sheet_reader.start.st }
+        ensures read { records_of result ≡ sheet_reader.start.st }
         ensures lists { result.lists.at ≡ replicate 128 0 }
     {
         Sheet {
@@ -48,7 +48,7 @@ impl Sheet {
     // The rows that are due: one for each accent, tone, and tone or none before it.
     #[tactic(auto, using(crate::proofs::Rows::due_count))]
     fn rows_due(&self) -> usize
-        ensures { (result ≡ rows_due (shown self.now)) × (result ≤ 576) }
+        ensures { (result ≡ rows_due (records_of self.now)) × (result ≤ 576) }
     {
         row_count(self.accents, self.tones)
     }
@@ -56,7 +56,7 @@ impl Sheet {
     // Whether all rows are there, and all components of the last list.
     #[tactic(auto, unfolding(spec_sheet::specs::Reader::complete))]
     fn complete(&self) -> bool
-        ensures { result ≡ complete (shown self.now) }
+        ensures { result ≡ complete (records_of self.now) }
     {
         match self.last {
             Some(Kind::Row) => self.rows == self.rows_due(),
@@ -68,7 +68,7 @@ impl Sheet {
     // Whether a record of this kind may stand next.
     #[tactic(auto, unfolding(spec_sheet::specs::Reader::due_next))]
     pub fn due_next(&self, k: Kind) -> bool
-        ensures { result ≡ due_next (shown self.now) (number k) }
+        ensures { result ≡ due_next (records_of self.now) (number k) }
     {
         match k {
             Kind::Settings => self.last.is_none(),
@@ -86,7 +86,7 @@ impl Sheet {
     #[tactic(auto, using(tonekit_bytes::proofs::Stepped::stepped_more, tonekit_bytes::proofs::Stepped::stepped_none), unfolding(spec_sheet::specs::Reader::added))]
     pub fn keep(&mut self, k: Kind, o: usize, count: u8)
         requires { Follows (number k) o count self.old }
-        ensures { shown self.new ≡ added (number k) o count (shown self.old) }
+        ensures { records_of self.new ≡ added (number k) o count (records_of self.old) }
     {
         self.last = Some(k);
         match k {
@@ -110,7 +110,7 @@ impl SheetView<'_> {
     // The place of the tone with number n, or none.
     // Stays: this and `accent_index` are the two uses of the one search, `index_from`; all that they say is where the records stand.
     pub fn tone_index(&self, n: u8) -> Option<usize>
-        ensures { result ≡ index_of self.now.bytes.now (shown self.now.sheet).tones n }
+        ensures { result ≡ index_of self.now.bytes.now (records_of self.now.sheet).tones n }
     {
         let at = layout::SETTINGS_SIZE;
         index_from(self.bytes, at, layout::SHEET_TONE_SIZE, self.sheet.tones, n)
@@ -119,7 +119,7 @@ impl SheetView<'_> {
     // The place of the accent with number n, or none.
     // Stays: as `tone_index`.
     pub fn accent_index(&self, n: u8) -> Option<usize>
-        ensures { result ≡ index_of self.now.bytes.now (shown self.now.sheet).accents n }
+        ensures { result ≡ index_of self.now.bytes.now (records_of self.now.sheet).accents n }
     {
         let at = layout::sheet_tone_at(self.sheet.tones);
         index_from(
@@ -135,7 +135,7 @@ impl SheetView<'_> {
     // Stays: this and `accent_held` say `holds`, the definition's word, of the place that a search answers.
     #[tactic(auto, using(tonekit_pack::proofs::Numbers::holds_found))]
     fn tone_held(&self, x: u8) -> bool
-        ensures { result ≡ holds self.now.bytes.now (shown self.now.sheet).tones x }
+        ensures { result ≡ holds self.now.bytes.now (records_of self.now.sheet).tones x }
     {
         self.tone_index(x).is_some()
     }
@@ -144,7 +144,7 @@ impl SheetView<'_> {
     // Stays: as `tone_held`.
     #[tactic(auto, using(tonekit_pack::proofs::Numbers::holds_found))]
     fn accent_held(&self, x: u8) -> bool
-        ensures { result ≡ holds self.now.bytes.now (shown self.now.sheet).accents x }
+        ensures { result ≡ holds self.now.bytes.now (records_of self.now.sheet).accents x }
     {
         self.accent_index(x).is_some()
     }
@@ -154,7 +154,7 @@ impl SheetView<'_> {
     #[tactic(auto, using(tonekit_bytes::proofs::Stepped::stepped_length), unfolding(spec_sheet::specs::Reader::tone_verdict))]
     fn tone_verdict(&self, o: usize) -> Result<(), Refusal>
         requires { o + SHEET_TONE_SIZE ≤ length self.now.bytes.now }
-        ensures { result ≡ tone_verdict self.now.bytes.now o (shown self.now.sheet) }
+        ensures { result ≡ tone_verdict self.now.bytes.now o (records_of self.now.sheet) }
     {
         let number = byte_at(self.bytes, o, layout::OWN_NUMBER);
         let share = probability_fine(f32_at(self.bytes, o, layout::SHEET_TONE_PRIOR));
@@ -169,7 +169,7 @@ impl SheetView<'_> {
     #[tactic(auto, using(tonekit_bytes::proofs::Stepped::stepped_length), unfolding(spec_sheet::specs::Reader::accent_verdict))]
     fn accent_verdict(&self, o: usize) -> Result<(), Refusal>
         requires { o + SHEET_ACCENT_SIZE ≤ length self.now.bytes.now }
-        ensures { result ≡ accent_verdict self.now.bytes.now o (shown self.now.sheet) }
+        ensures { result ≡ accent_verdict self.now.bytes.now o (records_of self.now.sheet) }
     {
         let number = byte_at(self.bytes, o, layout::OWN_NUMBER);
         let tolerances = tolerances_fine(self.bytes, o + layout::SHEET_ACCENT_CONTOUR);
@@ -181,7 +181,7 @@ impl SheetView<'_> {
     // A row: its accent, its tone and what stood before are held. Its order and its lists wait for the end.
     #[tactic(auto, unfolding(spec_sheet::specs::Reader::row_verdict, spec_pack::specs::Pack::zero_or_held))]
     fn row_verdict(&self, o: usize) -> Result<(), Refusal>
-        ensures { result ≡ row_verdict self.now.bytes.now o (shown self.now.sheet) }
+        ensures { result ≡ row_verdict self.now.bytes.now o (records_of self.now.sheet) }
     {
         let accent = byte_at(self.bytes, o, layout::SHEET_ROW_ACCENT);
         let tone = byte_at(self.bytes, o, layout::SHEET_ROW_TONE);
@@ -195,7 +195,7 @@ impl SheetView<'_> {
     // A list: count, number, owner, form, label.
     #[tactic(auto, unfolding(spec_sheet::specs::Reader::list_verdict))]
     fn list_verdict(&self, o: usize) -> Result<(), Refusal>
-        ensures { result ≡ list_verdict self.now.bytes.now o (shown self.now.sheet) }
+        ensures { result ≡ list_verdict self.now.bytes.now o (records_of self.now.sheet) }
     {
         let owner = byte_at(self.bytes, o, layout::SHEET_LIST_OWNER);
         let form = byte_at(self.bytes, o, layout::SHEET_LIST_FORM);
@@ -214,7 +214,7 @@ impl SheetView<'_> {
     #[tactic(auto, unfolding(spec_sheet::specs::Reader::component_verdict))]
     fn component_verdict(&self, o: usize) -> Result<(), Refusal>
         requires { o + SHEET_COMPONENT_SIZE ≤ length self.now.bytes.now }
-        ensures { result ≡ component_verdict self.now.bytes.now o (shown self.now.sheet) }
+        ensures { result ≡ component_verdict self.now.bytes.now o (records_of self.now.sheet) }
     {
         let weight = u32_at(self.bytes, o, layout::SHEET_COMPONENT_WEIGHT);
         let form = byte_at(self.bytes, self.sheet.lists.last(), layout::SHEET_LIST_FORM);
@@ -229,7 +229,7 @@ impl SheetView<'_> {
     #[tactic(auto, unfolding(spec_sheet::specs::Reader::body_verdict, spec_sheet::specs::Reader::size_of))]
     pub fn body_verdict(&self, k: Kind, o: usize) -> Result<(), Refusal>
         requires { o + size_of (number k) ≤ length self.now.bytes.now }
-        ensures { result ≡ body_verdict (number k) self.now.bytes.now o (shown self.now.sheet) }
+        ensures { result ≡ body_verdict (number k) self.now.bytes.now o (records_of self.now.sheet) }
     {
         match k {
             Kind::Settings => settings_verdict(self.bytes, o),

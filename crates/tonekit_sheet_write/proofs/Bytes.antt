@@ -8,7 +8,7 @@ use lib.Seq.{sets, length-sets}
 use Rattle.tonekit_core.specs.declared.layout.TheConstants.{SHEET_LIST_KIND, SHEET_LIST_SIZE, SHEET_COMPONENT_SIZE}
 use Rattle.spec_arithmetic.specs.Fields.{le16, f32_bytes, f32s_bytes}
 use Rattle.tonekit_bytes.proofs.Write.{part_put}
-use Rattle.tonekit_pack.specs.Held.{shown}
+use Rattle.tonekit_pack.specs.Held.{records_of}
 use Rattle.tonekit_pack.specs.declared.Pack.{Pack}
 use Rattle.spec_lookup.specs.Lookup.{component_of}
 use Rattle.spec_lookup.specs.Source.{Tone, Accent, Carried, carried, components, carried_of}
@@ -16,7 +16,7 @@ use Rattle.spec_lookup.specs.declared.Component.{Component}
 use Rattle.spec_lookup.specs.declared.Context.{Context}
 use Rattle.spec_lookup.specs.declared.Listing.{Listing}
 use Rattle.tonekit_expect.proofs.Carried.{named, components_length, components_at, carried_ten}
-use Rattle.spec_sheet.specs.Pieces.{pieces, gather, Wrote}
+use Rattle.spec_sheet.specs.Pieces.{pieces, piecewise, Wrote}
 use Rattle.tonekit_sheet.proofs.Gather.{gather_length}
 use Rattle.spec_sheet.specs.Number.{number_in}
 use Rattle.spec_sheet.specs.Sheet.{absent_carried, row_bytes, row_context, bits_bytes, components_bytes, list_bytes}
@@ -43,16 +43,16 @@ module _ (f g : ℕ → List ℕ) where
   pieces_same zero i h = refl
   pieces_same (suc k) i h = ap₂ (λ (x y : List ℕ). x ++ y) (h i (omega arith)) (pieces_same k (i + 1) (λ j l. h j (omega arith)))
 
-  pub gather_same : (n : ℕ) → ((j : ℕ) → j < n → f j ≡ g j) → gather f 0 n ≡ gather g 0 n
-  unfolding gather
+  pub gather_same : (n : ℕ) → ((j : ℕ) → j < n → f j ≡ g j) → piecewise f 0 n ≡ piecewise g 0 n
+  unfolding piecewise
   gather_same n h = pieces_same (n - 0) 0 (λ j l. h j (omega arith))
 
 -- those of tones and accents, by their offsets
 module _ {A : Type 0} (of : ℕ → A) (none : A) (bytes : A → List ℕ) (os : List ℕ) where
-  pub made_is : {xs : List A} → xs ≡ map of os → gather (λ i. bytes (get_or xs i none)) 0 (length xs) ≡ gather (λ i. bytes (of (get_or os i 0))) 0 (length os)
+  pub made_is : {xs : List A} → xs ≡ map of os → piecewise (λ i. bytes (get_or xs i none)) 0 (length xs) ≡ piecewise (λ i. bytes (of (get_or os i 0))) 0 (length os)
   made_is {xs} e =
-      ap (λ (ys : List A). gather (λ i. bytes (get_or ys i none)) 0 (length ys)) e
-      ∙ ap (gather (λ i. bytes (get_or (map of os) i none)) 0) (length-map os of)
+      ap (λ (ys : List A). piecewise (λ i. bytes (get_or ys i none)) 0 (length ys)) e
+      ∙ ap (piecewise (λ i. bytes (get_or (map of os) i none)) 0) (length-map os of)
       ∙ gather_same (λ i. bytes (get_or (map of os) i none)) (λ i. bytes (of (get_or os i 0))) (length os) (λ j h. ap bytes (get_or-map of os j 0 none h))
 
 -- ---- components
@@ -95,7 +95,7 @@ components_pieces s l (suc n) =
     ∙ sym (pieces_snoc (component_piece s l) n 0)
 
 components_gather : (s : List ℕ) (l : Listing) → components_bytes (carried_by s l) ≡ components_part s l
-unfolding gather
+unfolding piecewise
 components_gather s l = components_pieces s l l.count ∙ (let q : l.count - 0 ≡ l.count = omega arith in rw q)
 
 -- ---- lists
@@ -124,14 +124,14 @@ pub wrote_size : {a : List ℕ} {at r : ℕ} {l m : List ℕ} → Wrote a at l m
 wrote_size {a} {at} {r} {l} {m} w = ap length w.same ∙ length-sets l at a
 
 -- ---- a row
-module _ (s : List ℕ) (p : Pack) (os : List ℕ) (lists : List (List Carried)) (r : ℕ) (o : Ordered s (shown p) os) where
-  pub row_is : {c : Context} {n m : ℕ} (x y : Option Listing) → c ≡ row_context (tones_of s (shown p)) (accents_at s os) r false
-      → n ≡ number_in lists (carried_of s x) → carried_of s x ≡ (pack_view s (shown p)).row r false
-      → m ≡ number_in lists (carried_of s y) → carried_of s y ≡ (pack_view s (shown p)).row r true
-      → row_bytes c n m ≡ row_piece (pack_view s (shown p)) lists r
+module _ (s : List ℕ) (p : Pack) (os : List ℕ) (lists : List (List Carried)) (r : ℕ) (o : Ordered s (records_of p) os) where
+  pub row_is : {c : Context} {n m : ℕ} (x y : Option Listing) → c ≡ row_context (tones_of s (records_of p)) (accents_at s os) r false
+      → n ≡ number_in lists (carried_of s x) → carried_of s x ≡ (pack_view s (records_of p)).row r false
+      → m ≡ number_in lists (carried_of s y) → carried_of s y ≡ (pack_view s (records_of p)).row r true
+      → row_bytes c n m ≡ row_piece (pack_view s (records_of p)) lists r
   row_is {c} {n} {m} x y ec en ex em ey =
-      let v = pack_view s (shown p) in
-      let f : c ≡ row_context v.tones v.accents r false = ec ∙ ap₂ (λ (ts : List Tone) (xs : List Accent). row_context ts xs r false) (sym (view_tones s (shown p))) (sym (view_sorted s (shown p) os o)) in
+      let v = pack_view s (records_of p) in
+      let f : c ≡ row_context v.tones v.accents r false = ec ∙ ap₂ (λ (ts : List Tone) (xs : List Accent). row_context ts xs r false) (sym (view_tones s (records_of p))) (sym (view_sorted s (records_of p) os o)) in
       let g : n ≡ number_in lists (v.row r false) = en ∙ ap (number_in lists) ex in
       let h : m ≡ number_in lists (v.row r true) = em ∙ ap (number_in lists) ey in
       rw (f, g, h)

@@ -3,10 +3,10 @@ use Rattle.std.proofs.Common.{ℕ, ◌+◌, ◌-◌, ◌*◌, ◌≤◌, ◌<◌
 use Rattle.tonekit_core.specs.declared.layout.TheConstants.{SHEET_TONE_SIZE, SHEET_ACCENT_SIZE, SHEET_ROW_SIZE, SHEET_END_KIND, SHEET_END_SIZE}
 use Rattle.tonekit_core.specs.Layout.{sheet_row_at}
 use Rattle.tonekit_bytes.proofs.InOrder.{order_length}
-use Rattle.tonekit_pack.specs.Held.{shown}
+use Rattle.tonekit_pack.specs.Held.{records_of}
 use Rattle.tonekit_pack.specs.declared.Pack.{Pack}
 use Rattle.spec_lookup.specs.Source.{Carried, tone_at, accent_at, settings_at, source_of_pack, absent_tone}
-use Rattle.spec_sheet.specs.Pieces.{gather, Wrote}
+use Rattle.spec_sheet.specs.Pieces.{piecewise, Wrote}
 use Rattle.tonekit_sheet.proofs.Gather.{gather_length, gather_more, gather_none, joined, room_first, room_then}
 use Rattle.spec_sheet.specs.Sheet.{view_of, absent_accent, settings_bytes, tone_bytes, accent_bytes, row_count, rows_of, lists_of, bytes_with, sheet}
 use Rattle.tonekit_sheet.specs.Parts.{bytes_of, row_piece}
@@ -21,13 +21,13 @@ module _ (s : List ℕ) (p : Pack) (os : List ℕ) (n : ℕ) (its : List (List C
   A = settings_made s 0
 
   abbrev pub B : List ℕ
-  B = records_part tone_made s (shown p).tones
+  B = records_part tone_made s (records_of p).tones
 
   abbrev pub C : List ℕ
   C = records_part accent_made s os
 
   abbrev pub D : List ℕ
-  D = gather (row_piece (pack_view s (shown p)) its) 0 (row_count n p.tones.count)
+  D = piecewise (row_piece (pack_view s (records_of p)) its) 0 (row_count n p.tones.count)
 
   abbrev pub E : List ℕ
   E = lists_part its
@@ -36,32 +36,32 @@ module _ (s : List ℕ) (p : Pack) (os : List ℕ) (n : ℕ) (its : List (List C
   F = SHEET_END_KIND ∷ []
 
   abbrev pub Whole : List ℕ
-  Whole = bytes_with (pack_view s (shown p)) its
+  Whole = bytes_with (pack_view s (records_of p)) its
 
-  module _ (o : Ordered s (shown p) os) (e : length os ≡ n) where
-    settings_are : (pack_view s (shown p)).settings ≡ settings_at s 0
+  module _ (o : Ordered s (records_of p) os) (e : length os ≡ n) where
+    settings_are : (pack_view s (records_of p)).settings ≡ settings_at s 0
     unfolding view_of source_of_pack
     settings_are = refl
 
-    rows_are : rows_of (pack_view s (shown p)) ≡ row_count n p.tones.count
-    rows_are = view_rows s (shown p) os o ∙ ap₂ row_count e (order_length p.tones.at p.tones.count)
+    rows_are : rows_of (pack_view s (records_of p)) ≡ row_count n p.tones.count
+    rows_are = view_rows s (records_of p) os o ∙ ap₂ row_count e (order_length p.tones.at p.tones.count)
 
     parts : Whole ≡ A ++ (B ++ (C ++ (D ++ (E ++ F))))
     unfolding bytes_with
     parts =
-        let v = pack_view s (shown p) in
+        let v = pack_view s (records_of p) in
         ap₂ (λ (x y : List ℕ). x ++ y) (ap settings_bytes settings_are)
-        (ap₂ (λ (x y : List ℕ). x ++ y) (made_is (tone_at 47 s) absent_tone tone_bytes (shown p).tones (view_tones s (shown p)))
-        (ap₂ (λ (x y : List ℕ). x ++ y) (made_is (accent_at 3 s) absent_accent accent_bytes os (view_sorted s (shown p) os o))
-        (ap (λ (d : ℕ). gather (row_piece v its) 0 d ++ (E ++ F)) rows_are)))
+        (ap₂ (λ (x y : List ℕ). x ++ y) (made_is (tone_at 47 s) absent_tone tone_bytes (records_of p).tones (view_tones s (records_of p)))
+        (ap₂ (λ (x y : List ℕ). x ++ y) (made_is (accent_at 3 s) absent_accent accent_bytes os (view_sorted s (records_of p) os o))
+        (ap (λ (d : ℕ). piecewise (row_piece v its) 0 d ++ (E ++ F)) rows_are)))
 
     -- what stands before a row past the last, the lists, and the end
     pub sheet_length : (r o z : ℕ) → r ≡ row_count n p.tones.count → o ≡ sheet_row_at p.tones.count n r → z ≡ length E → o + z + SHEET_END_SIZE ≡ length Whole
     sheet_length r o z h at k =
         let t = order_length p.tones.at p.tones.count in
-        let b : length B ≡ SHEET_TONE_SIZE * (length (shown p).tones - 0) = gather_length (λ i. tone_made s (get_or (shown p).tones i 0)) SHEET_TONE_SIZE (λ i. refl) 0 (length (shown p).tones) in
+        let b : length B ≡ SHEET_TONE_SIZE * (length (records_of p).tones - 0) = gather_length (λ i. tone_made s (get_or (records_of p).tones i 0)) SHEET_TONE_SIZE (λ i. refl) 0 (length (records_of p).tones) in
         let c : length C ≡ SHEET_ACCENT_SIZE * (length os - 0) = gather_length (λ i. accent_made s (get_or os i 0)) SHEET_ACCENT_SIZE (λ i. refl) 0 (length os) in
-        let d : length D ≡ SHEET_ROW_SIZE * (row_count n p.tones.count - 0) = gather_length (row_piece (pack_view s (shown p)) its) SHEET_ROW_SIZE (λ i. refl) 0 (row_count n p.tones.count) in
+        let d : length D ≡ SHEET_ROW_SIZE * (row_count n p.tones.count - 0) = gather_length (row_piece (pack_view s (records_of p)) its) SHEET_ROW_SIZE (λ i. refl) 0 (row_count n p.tones.count) in
         omega
         (arith, e, t, ap length parts, length-append A (B ++ (C ++ (D ++ (E ++ F)))), length-append B (C ++ (D ++ (E ++ F))), length-append C (D ++ (E ++ F)), length-append D (E ++ F), length-append E F)
 
@@ -111,7 +111,7 @@ module _ (s : List ℕ) (p : Pack) (os : List ℕ) (n : ℕ) (its : List (List C
 -- ---- the sum of the lists' lengths
 module _ (its : List (List Carried)) where
   abbrev left : ℕ → ℕ
-  left i = length (gather (planned_list its) i (length its))
+  left i = length (piecewise (planned_list its) i (length its))
 
   pub sum_on : (i total m : ℕ) → total + left i ≡ length (lists_part its) → i < length its → m ≡ length (planned_list its i) → total + m + left (i + 1) ≡ length (lists_part its)
   sum_on i total m e h k = omega (arith, e, gather_more (planned_list its) i (length its) h, k)
@@ -120,6 +120,6 @@ module _ (its : List (List Carried)) where
   sum_end i total e h = omega (arith, e, gather_none (planned_list its) i (length its) h)
 
 -- ---- the lists planned are those of the sheet
-pub sheet_is : (s : List ℕ) (p : Pack) (its : List (List Carried)) → its ≡ lists_of (pack_view s (shown p)) → bytes_with (pack_view s (shown p)) its ≡ sheet (source_of_pack s (shown p))
+pub sheet_is : (s : List ℕ) (p : Pack) (its : List (List Carried)) → its ≡ lists_of (pack_view s (records_of p)) → bytes_with (pack_view s (records_of p)) its ≡ sheet (source_of_pack s (records_of p))
 unfolding sheet
-sheet_is s p its e = ap (bytes_with (pack_view s (shown p))) e
+sheet_is s p its e = ap (bytes_with (pack_view s (records_of p))) e

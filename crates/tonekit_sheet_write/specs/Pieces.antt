@@ -9,7 +9,7 @@ use Rattle.spec_lookup.specs.Source.{Carried, carried, settings_at, tone_at, acc
 use Rattle.spec_lookup.specs.declared.Listing.{Listing}
 use Rattle.spec_sheet.specs.Sheet.{settings_bytes, tone_bytes, accent_bytes}
 use Rattle.tonekit_sheet.specs.Parts.{list_piece, component_bytes}
-use Rattle.spec_sheet.specs.Pieces.{gather}
+use Rattle.spec_sheet.specs.Pieces.{piecewise}
 
 -- what is lent has room for these bytes at a place
 abbrev pub Lent : List ℕ → ℕ → List ℕ → Type 0
@@ -31,7 +31,7 @@ accent_made s o = accent_bytes (accent_at ACCENT_CONTOUR s o)
 
 -- what is made of the records at these offsets, one behind the other
 abbrev pub records_part : (List ℕ → ℕ → List ℕ) → List ℕ → List ℕ → List ℕ
-records_part made s os = gather (λ i. made s (get_or os i 0)) 0 (length os)
+records_part made s os = piecewise (λ i. made s (get_or os i 0)) 0 (length os)
 
 -- the head of a listing's list, under a number
 abbrev pub head_of : ℕ → Listing → List ℕ
@@ -46,11 +46,11 @@ abbrev pub component_piece : List ℕ → Listing → ℕ → List ℕ
 component_piece s l j = component_bytes (carried (component_of s l j))
 
 abbrev pub components_part : List ℕ → Listing → List ℕ
-components_part s l = gather (component_piece s l) 0 l.count
+components_part s l = piecewise (component_piece s l) 0 l.count
 
 -- list i of those that are planned, and all of them
 abbrev pub planned_list : List (List Carried) → ℕ → List ℕ
 planned_list its i = list_piece its i
 
 abbrev pub lists_part : List (List Carried) → List ℕ
-lists_part its = gather (planned_list its) 0 (length its)
+lists_part its = piecewise (planned_list its) 0 (length its)

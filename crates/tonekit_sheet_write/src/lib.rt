@@ -3,7 +3,7 @@
 
 ghost use Rattle.std.specs.Prelude.{◌≡◌, ◌*◌, ◌≤◌, ◌<◌, length};
 ghost use Rattle.tonekit_core.specs.Calls.{Delivers, written};
-ghost use Rattle.tonekit_pack.specs.Held.{shown};
+ghost use Rattle.tonekit_pack.specs.Held.{records_of};
 ghost use Rattle.spec_lookup.specs.Source.{source_of_pack};
 ghost use Rattle.spec_sheet.specs.Pieces.{Wrote};
 ghost use Rattle.spec_sheet.specs.Sheet.{sheet};
@@ -64,8 +64,8 @@ fn fill(d: &Draft<'_>, out: &mut [u8]) -> usize
 // Writes the sheet of a pack that was read, or answers the length that it needs and leaves the buffer
 // as it was.
 fn write_loaded(view: PackView<'_>, out: &mut [u8]) -> Result<usize, Rejection>
-    requires { Reads view.bytes.now (shown view.pack) }
-    ensures { Delivers (written (sheet (source_of_pack view.entry.bytes.now (shown view.entry.pack)))) out.old result out.new }
+    requires { Reads view.bytes.now (records_of view.pack) }
+    ensures { Delivers (written (sheet (source_of_pack view.entry.bytes.now (records_of view.entry.pack)))) out.old result out.new }
 {
     let rows = Rows {
         view,

@@ -5,7 +5,7 @@ use Rattle.tonekit_core.specs.declared.layout.TheConstants.{JUDGEMENT_SIZE}
 use Rattle.tonekit_core.specs.declared.Rejection.{Rejection}
 use Rattle.tonekit_core.specs.Calls.{Outcome}
 use Rattle.tonekit_report.specs.Report.{Told}
-use Rattle.tonekit_report.proofs.Told.{Fits}
+use Rattle.tonekit_report.proofs.Told.{HasRoom}
 use Rattle.spec_lookup.specs.Source.{Source}
 use Rattle.tonekit_judge.proofs.Bounds.{judgement_length}
 use Rattle.tonekit_station.specs.Held.{on_held}
@@ -17,7 +17,7 @@ Room bs = length bs ≤ JUDGEMENT_SIZE
 records : Records Room
 records x settings t l g issues expected tones = omega (arith, judgement_length x settings t l g issues expected tones)
 
-pub judgement_fits : (r : Result Source Rejection) (s : List ℕ) → Fits JUDGEMENT_SIZE (on_held r s)
+pub judgement_fits : (r : Result Source Rejection) (s : List ℕ) → HasRoom JUDGEMENT_SIZE (on_held r s)
 judgement_fits r s = held_writes Room records r s
 
 -- of the same outcome the same is told

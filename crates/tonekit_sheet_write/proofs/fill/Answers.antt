@@ -1,6 +1,6 @@
 use Rattle.tonekit_bytes.specs.Places.{in_order}
 use Rattle.tonekit_bytes.proofs.InOrder.{order_length}
-use Rattle.tonekit_pack.specs.Held.{shown}
+use Rattle.tonekit_pack.specs.Held.{records_of}
 use Rattle.spec_sheet.specs.Pieces.{Wrote}
 use Rattle.tonekit_sheet_plan.specs.Plans.{planned_by}
 use Rattle.tonekit_sheet_write.specs.Pieces.{tone_made, accent_made, records_part}
@@ -10,7 +10,7 @@ use Rattle.tonekit_sheet_write.proofs.fill.Goals as goal
 use Rattle.tonekit_sheet_write.proofs.fill.Goals.{After-write_records-accents, After-write_records-rows}
 
 -- tones and accents are written by the offsets that are lent
-tones : (c : After-write_records-accents) → Wrote (records_part tone_made c.args.d.now.rows.view.bytes.now (shown c.args.d.now.rows.view.pack).tones) c.write_record-tones.result c.write_record-tones.new.out c.write_records-accents.new.out c.write_records-accents.result
+tones : (c : After-write_records-accents) → Wrote (records_part tone_made c.args.d.now.rows.view.bytes.now (records_of c.args.d.now.rows.view.pack).tones) c.write_record-tones.result c.write_record-tones.new.out c.write_records-accents.new.out c.write_records-accents.result
 tones c = rw c.offsets.ensures at c.write_records-accents.ensures
 
 accents : (c : After-write_records-rows) → Wrote (records_part accent_made c.args.d.now.rows.view.bytes.now (in_order c.args.d.now.rows.accents.at c.args.d.now.rows.accents.count)) c.write_records-accents.result c.write_records-accents.new.out c.write_records-rows.new.out c.write_records-rows.result

@@ -1,5 +1,5 @@
 use Rattle.std.proofs.Common.{◌∙◌, refl}
-use Rattle.tonekit_pack.specs.Held.{shown}
+use Rattle.tonekit_pack.specs.Held.{records_of}
 use Rattle.tonekit_sheet_plan.specs.Rows.{pack_view}
 use Rattle.tonekit_sheet_plan.proofs.Views.{first_room}
 use Rattle.tonekit_sheet_plan.proofs.Plan.note_row.Goals as goal
@@ -8,7 +8,7 @@ pub note-requires : goal.note-requires
 note-requires c =
     let s = c.args.rows.now.view.bytes.now in
     let few = rw c.requires.0 at c.requires.1 in
-    rw (c.requires.0, c.look.ensures.gives) (first_room (pack_view s (shown c.args.rows.now.view.pack)) c.args.i 128 _ few, c.look.ensures.kept)
+    rw (c.requires.0, c.look.ensures.gives) (first_room (pack_view s (records_of c.args.rows.now.view.pack)) c.args.i 128 _ few, c.look.ensures.kept)
 
 pub note-requires-2 : goal.note-requires-2
 note-requires-2 c =

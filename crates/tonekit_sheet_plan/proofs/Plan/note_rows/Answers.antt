@@ -3,7 +3,7 @@ use Rattle.tonekit_core.proofs.LoopLaws.{again, ended}
 use Rattle.tonekit_bytes.specs.Places.{in_order}
 use Rattle.tonekit_bytes.proofs.InOrder.{order_length}
 use Rattle.spec_pack.specs.Pack.{read_pack}
-use Rattle.tonekit_pack.specs.Held.{shown}
+use Rattle.tonekit_pack.specs.Held.{records_of}
 use Rattle.tonekit_sheet.specs.Parts.{note_turn}
 use Rattle.tonekit_sheet_fit.proofs.Fits.{few_lists}
 use Rattle.tonekit_sheet_plan.specs.Rows.{pack_view, end_of}
@@ -27,16 +27,16 @@ note_row-requires c =
     let v = c.args.rows.now.view in
     let s = v.bytes.now in
     let l = c.loop-i in
-    let few = few_lists s (shown v.pack) (end_of (read_pack s)) c.args.rows.now.sorted.reads.loads in
-    let room = turn_room (pack_view s (shown v.pack)) (planned_by l.self) l.invariant.3 c.loop-i-test.true few in
-    (l.invariant.2, subst (λ (s : List ℕ). length (note_turn (pack_view s (shown v.pack)) l.i (planned_by l.self)) ≤ 128) (sym l.invariant.2) room)
+    let few = few_lists s (records_of v.pack) (end_of (read_pack s)) c.args.rows.now.sorted.reads.loads in
+    let room = turn_room (pack_view s (records_of v.pack)) (planned_by l.self) l.invariant.3 c.loop-i-test.true few in
+    (l.invariant.2, subst (λ (s : List ℕ). length (note_turn (pack_view s (records_of v.pack)) l.i (planned_by l.self)) ≤ 128) (sym l.invariant.2) room)
 
 pub loop-i-preserved : goal.loop-i-preserved
 loop-i-preserved c =
     let v = c.args.rows.now.view in
     let t = c.loop-i-test.true in
     let l = c.loop-i in
-    let on = c.note_row.ensures.same ∙ ap (λ s. note_turn (pack_view s (shown v.pack)) l.i (planned_by l.self)) l.invariant.2 in
+    let on = c.note_row.ensures.same ∙ ap (λ s. note_turn (pack_view s (records_of v.pack)) l.i (planned_by l.self)) l.invariant.2 in
     (omega (arith, t), l.invariant.1, c.note_row.ensures.bytes ∙ l.invariant.2, again _ l.invariant.3 t (sym on))
 
 pub returns : goal.returns

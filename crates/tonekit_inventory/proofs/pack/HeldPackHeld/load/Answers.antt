@@ -2,13 +2,13 @@
 use Rattle.std.proofs.Common.{◌≡◌, sym, ap, ◌∙◌}
 use Rattle.spec_arithmetic.specs.Files.{loaded}
 use Rattle.spec_pack.specs.Pack.{load_pack}
-use Rattle.tonekit_pack.specs.Held.{shown, answered}
+use Rattle.tonekit_pack.specs.Held.{records_of, answered}
 use Rattle.tonekit_pack.proofs.Single.{loads_alone}
 use Rattle.tonekit_inventory.specs.OfPack.{pack_in}
 use Rattle.tonekit_inventory.proofs.pack.HeldPackHeld.load.Goals as goal
 use Rattle.tonekit_inventory.proofs.pack.HeldPackHeld.load.Goals.{In_ok-loaded}
 
-loads : (c : In_ok-loaded) → load_pack c.args.bytes.now ≡ loaded (shown c.in_ok-loaded.loaded.held) c.in_ok-loaded.loaded.end
+loads : (c : In_ok-loaded) → load_pack c.args.bytes.now ≡ loaded (records_of c.in_ok-loaded.loaded.held) c.in_ok-loaded.loaded.end
 loads c = sym c.load_pack.ensures ∙ ap answered c.in_ok-loaded.was
 
 pub invariant_of-result : goal.invariant_of-result

@@ -3,7 +3,7 @@ use Rattle.std.specs.Prelude.{ℕ, ◌≤◌, ◌≡◌, length, get_or}
 use Rattle.tonekit_pack.specs.declared.Pack.{Pack}
 
 -- the counts keep document 01's limits, the arrays have the length of theirs, and no accent has more rules before it than there can be
-pub record Roomy (p : Pack) : Type 0 where
+pub record WithinLimits (p : Pack) : Type 0 where
   pub few_tones : p.tones.count ≤ 8
   pub few_accents : p.accents.count ≤ 8
   pub few_rules : p.rules.count ≤ 64
@@ -15,8 +15,8 @@ pub record Roomy (p : Pack) : Type 0 where
   pub rule_slots : length p.rules.at ≡ 64
   pub few_before : (i : ℕ) → get_or p.firstrule i 0 ≤ 64
 
-pub roomy : (p : Pack) → Roomy p
-roomy p = record {
+pub within_limits : (p : Pack) → WithinLimits p
+within_limits p = record {
   few_tones = p.tones.few;
   few_accents = p.accents.few;
   few_rules = p.rules.few;

@@ -3,7 +3,7 @@ use Rattle.std.specs.Prelude.{ℕ, ◌≤◌, ◌≡◌, length}
 use Rattle.tonekit_sheet_read.specs.declared.Sheet.{Sheet}
 
 -- what every Sheet keeps: the format's limits, and the length of its array
-pub record Roomy (p : Sheet) : Type 0 where
+pub record WithinLimits (p : Sheet) : Type 0 where
   pub few_tones : p.tones ≤ 8
   pub few_accents : p.accents ≤ 8
   pub few_rows : p.rows ≤ 576
@@ -12,8 +12,8 @@ pub record Roomy (p : Sheet) : Type 0 where
   pub few_in_all : p.total ≤ 192
   pub list_slots : length p.lists.at ≡ 128
 
-pub roomy : (p : Sheet) → Roomy p
-roomy p = record {
+pub within_limits : (p : Sheet) → WithinLimits p
+within_limits p = record {
   few_tones = p.few_tones;
   few_accents = p.few_accents;
   few_rows = p.few_rows;

@@ -78,7 +78,7 @@ unfoldable pub components_in : List (List Carried) → ℕ
 components_in [] = 0
 components_in (cs ∷ more) = length cs + components_in more
 
-pub record Fit (src : Source) : Type 0 where
+pub record Sheetable (src : Source) : Type 0 where
   pub settings : SettingsFit src.settings
   pub some_tones : 1 ≤ length src.tones
   pub few_tones : length src.tones ≤ 8
