@@ -83,6 +83,11 @@ twice : read_pack (settings ++ (tone 1 1 ++ tone 1 1)) ≡ refused Doubled 65
 unfolding load_pack read_pack record_verdict due_after size_of body_verdict settings_verdict tone_verdict accent_verdict rule_verdict part_verdict holds zero_or_held added above_zero probability_fine knot_fine weight_fine slot_fine knots_fine region_fine tolerances_fine range turns loop_to loop_on lt le of_bits
 twice = refl
 
+-- and that of one that is not the first
+twice_later : read_pack (settings ++ (tone 1 1 ++ (tone 2 1 ++ tone 2 1))) ≡ refused Doubled 121
+unfolding load_pack read_pack record_verdict due_after size_of body_verdict settings_verdict tone_verdict accent_verdict rule_verdict part_verdict holds zero_or_held added above_zero probability_fine knot_fine weight_fine slot_fine knots_fine region_fine tolerances_fine range turns loop_to loop_on lt le of_bits
+twice_later = refl
+
 -- an accent that is its own parent
 own_parent : read_pack (settings ++ (tone 1 1 ++ accent 1 1)) ≡ refused Loose 65
 unfolding load_pack read_pack record_verdict due_after size_of body_verdict settings_verdict tone_verdict accent_verdict rule_verdict part_verdict holds zero_or_held added above_zero probability_fine knot_fine weight_fine slot_fine knots_fine region_fine tolerances_fine range turns loop_to loop_on lt le of_bits

@@ -3,7 +3,7 @@ use Rattle.std.specs.Prelude.{ℕ, ◌-◌, ◌≡◌, refl, true, false, List, 
 use Rattle.std.specs.Float.{nan, inf, fin, binary32, binary64, float_with_sign}
 use Rattle.std.specs.Float.Ieee.{add, sub, mul, div, lt, le, eq, neg, of_bits, to_bits, of_int, round, is_nan}
 use Rattle.spec_shape.specs.Range.{range_in}
-use Rattle.tonekit_core.specs.Calls.{refused}
+use Rattle.tonekit_core.specs.Calls.{refused, written}
 use Rattle.tonekit_core.specs.Loop.{range, range_to, while}
 use Rattle.tonekit_core.specs.Words.{with_issue}
 use Rattle.tonekit_core.specs.declared.Refusal.TheVariants.{CutShort, Unvoiced}
@@ -108,6 +108,27 @@ query2 = 48 ∷ 1 ∷ 1 ∷ 0 ∷ 0 ∷ 0 ∷ 0 ∷ 0 ∷ 0 ∷ 2 ∷ 0 ∷ 0 �
 two_voiced : shape_outcome query2 ≡ refused Unvoiced 0
 unfolding query2 shape_outcome load_query read_query record_verdict variants_fine variant_fine frame_verdict fields_of extent_of range range_to frame_at of_bits lt
 two_voiced = refl
+
+-- the same record with three frames: 12 semitones in the register 0 to 24 are Chao value 3 all along; 30 ms, all voiced and sure, and the issues with TooShort. f32s by their bytes: 3, 1, 30, 0
+query3 : List ℕ
+query3 = 48 ∷ 1 ∷ 1 ∷ 0 ∷ 0 ∷ 0 ∷ 0 ∷ 0 ∷ 0 ∷ 3 ∷ 0 ∷ 0 ∷ 0 ∷ 0 ∷ 0 ∷ 0 ∷ 0 ∷ 0 ∷ 0 ∷ 192 ∷ 65 ∷ (replicate 23 0 ++ (3 ∷ 0 ∷ (tone ++ (tone ++ tone))))
+
+abbrev three : List ℕ
+three = 0 ∷ 0 ∷ 64 ∷ 64 ∷ []
+
+abbrev one : List ℕ
+one = 0 ∷ 0 ∷ 128 ∷ 63 ∷ []
+
+abbrev thirty : List ℕ
+thirty = 0 ∷ 0 ∷ 240 ∷ 65 ∷ []
+
+abbrev ten_of : List ℕ → List ℕ
+ten_of l = l ++ (l ++ (l ++ (l ++ (l ++ (l ++ (l ++ (l ++ (l ++ l))))))))
+
+three_voiced : shape_outcome query3
+    ≡ written (51 ∷ 0 ∷ 0 ∷ 0 ∷ 0 ∷ 3 ∷ 0 ∷ 0 ∷ 0 ∷ (ten_of three ++ (ten_of one ++ (three ++ (replicate 17 0 ++ (thirty ++ (one ++ (one ++ (8 ∷ 0 ∷ [])))))))))
+unfolding query3 shape_outcome load_query read_query record_verdict variants_fine variant_fine frame_verdict fields_of extent_of shape_bytes fit_bytes measure_bytes united with_issue f32s_bytes to_bits shape_of drawn holes_filled mean_with list_of mean_of range_in confidence half_width reach curve_at step_of mean_over rounded position whole_part round_up narrowed lesser greater float_with_sign total_le range range_to while hz_to_st width_of st_to_chao log2_of line_slope point_added moments_of normal_equations first_unknown lead_of quadratic_coefficient greatest first_near last_near extremum stands chosen turning_point frame_at add sub mul div lt le eq neg of_int of_bits round is_nan log_by parts_of centred series log_horner frames_at power
+three_voiced = refl
 
 no_query : shape_outcome [] ≡ refused CutShort 0
 unfolding shape_outcome load_query read_query record_verdict
