@@ -67,9 +67,6 @@ module _ (x y : Float) (p : T (finite x)) (q : T (finite y)) where
   pub greater_finite : T (finite (greater x y))
   greater_finite = greater_elim (λ z. T (finite z)) x y p q (λ h. q) (λ h. p)
 
-  pub le_greater_left : T (le x (greater x y))
-  le_greater_left = greater_elim (λ z. T (le x z)) x y p q (λ h. h) (λ h. le_refl_finite x p)
-
   pub le_greater_right : T (le y (greater x y))
   le_greater_right = greater_elim (λ z. T (le y z)) x y p q (λ h. le_refl_finite y q) (λ h. h)
 

@@ -10,7 +10,7 @@ use Rattle.tonekit_bytes.proofs.Agreeing.{Agree, taken_agrees, two, four, float}
 use Rattle.spec_query.specs.declared.Query.{Query}
 use Rattle.spec_query.specs.Query.{variant_fine, variants_fine, record_verdict, frame_verdict, fields_of, after_frame, after_record, read_query, single, load_query, end_of}
 use Rattle.tonekit_query.proofs.VariantTurn.{variant_turn}
-use Rattle.tonekit_query.proofs.Laws.{read_holds, fixed}
+use Rattle.tonekit_query.proofs.Laws.{frames_on, read_holds, fixed}
 use Rattle.tonekit_query.specs.Parts.{frame_turn, read_frames}
 
 -- two inputs whose first 10,287 bytes are the same
@@ -50,24 +50,18 @@ module _ (n : ℕ) (t s : List ℕ) (a : Agree n t s) (room : 10287 ≤ n) where
       )
 
   -- frames that lie within those bytes
-  abbrev on : ℕ → ℕ → Turn ℕ (Result Query Rejection) → Result Query Rejection
-  on = turns_to (frame_turn t) (λ (at : ℕ). Ok (fields_of t))
-
-  abbrev on' : ℕ → ℕ → Turn ℕ (Result Query Rejection) → Result Query Rejection
-  on' = turns_to (frame_turn s) (λ (at : ℕ). Ok (fields_of s))
-
-  then_same : (k i at : ℕ) (v : Result Unit Refusal) → on k i (next (at + 10)) ≡ on' k i (next (at + 10)) → on k i (after_frame at v) ≡ on' k i (after_frame at v)
+  then_same : (k i at : ℕ) (v : Result Unit Refusal) → frames_on t k i (next (at + 10)) ≡ frames_on s k i (next (at + 10)) → frames_on t k i (after_frame at v) ≡ frames_on s k i (after_frame at v)
   unfolding turns_to
   then_same k i at (Ok u) behind = behind
   then_same zero i at (Err r) behind = refl
   then_same (suc k) i at (Err r) behind = refl
 
-  frames_same : (k i at : ℕ) → at + 10 * k ≤ 10286 → on k i (next at) ≡ on' k i (next at)
+  frames_same : (k i at : ℕ) → at + 10 * k ≤ 10286 → frames_on t k i (next at) ≡ frames_on s k i (next at)
   unfolding turns_to
   frames_same zero i at h = ap Ok fields_same
   frames_same (suc k) i at h =
       then_same k (i + 1) at (frame_verdict t at) (frames_same k (i + 1) (at + 10) (omega arith))
-      ∙ ap (λ (v : Result Unit Refusal). on' k (i + 1) (after_frame at v)) (frame_same at (omega arith))
+      ∙ ap (λ (v : Result Unit Refusal). frames_on s k (i + 1) (after_frame at v)) (frame_same at (omega arith))
 
   after_same : (v : Result Unit Refusal) → record_verdict t ≡ v → after_record t v ≡ after_record s v
   unfolding range_to

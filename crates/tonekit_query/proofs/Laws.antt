@@ -51,24 +51,25 @@ frame_whole : (s : List ℕ) (at : ℕ) → frame_verdict s at ≡ Ok tt → at 
 unfolding frame_verdict
 frame_whole s at e = (fine (λ k. eqb k 50) (λ k. 10) (λ k. cond (leb (byte_at s (at + 1)) 1) (Ok tt) (Err BadQuery)) s at e).whole
 
+-- frames from a turn on
+abbrev pub frames_on : List ℕ → ℕ → ℕ → Turn ℕ (Result Query Rejection) → Result Query Rejection
+frames_on s = turns_to (frame_turn s) (λ (at : ℕ). Ok (fields_of s))
+
 -- the frames that were read lie within the bytes
 module _ (s : List ℕ) (q : Query) where
-  abbrev on : ℕ → ℕ → Turn ℕ (Result Query Rejection) → Result Query Rejection
-  on = turns_to (frame_turn s) (λ (at : ℕ). Ok (fields_of s))
-
-  stopped : (k i : ℕ) (r : Rejection) → on k i (stop (Err r)) ≡ Ok q → ⊥
+  stopped : (k i : ℕ) (r : Rejection) → frames_on s k i (stop (Err r)) ≡ Ok q → ⊥
   unfolding turns_to
   stopped zero i r e = no_query r q e
   stopped (suc k) i r e = no_query r q e
 
   -- a frame, and those behind it
   frame_then : (k i at : ℕ) (v : Result Unit Refusal) → frame_verdict s at ≡ v
-      → (at + 10 ≤ length s → on k (i + 1) (next (at + 10)) ≡ Ok q → (q ≡ fields_of s) × (at + 10 + 10 * k ≤ length s))
-      → on k (i + 1) (after_frame at v) ≡ Ok q → (q ≡ fields_of s) × (at + 10 + 10 * k ≤ length s)
+      → (at + 10 ≤ length s → frames_on s k (i + 1) (next (at + 10)) ≡ Ok q → (q ≡ fields_of s) × (at + 10 + 10 * k ≤ length s))
+      → frames_on s k (i + 1) (after_frame at v) ≡ Ok q → (q ≡ fields_of s) × (at + 10 + 10 * k ≤ length s)
   frame_then k i at (Ok u) v behind e = behind (frame_whole s at v) e
   frame_then k i at (Err r) v behind e = absurd (stopped k (i + 1) (record { why = r; place = at }) e)
 
-  frames_whole : (k i at : ℕ) → at ≤ length s → on k i (next at) ≡ Ok q → (q ≡ fields_of s) × (at + 10 * k ≤ length s)
+  frames_whole : (k i at : ℕ) → at ≤ length s → frames_on s k i (next at) ≡ Ok q → (q ≡ fields_of s) × (at + 10 * k ≤ length s)
   unfolding turns_to
   frames_whole zero i at h e = (cc, omega arith)
   frames_whole (suc k) i at h e =
