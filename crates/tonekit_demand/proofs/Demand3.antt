@@ -7,7 +7,7 @@ use Rattle.spec_lookup.specs.Source.{Source}
 use Rattle.spec_sheet.specs.Sheet.{sheet}
 use Rattle.spec_sheet.specs.Agree.{Bytes, Agree}
 use Rattle.tonekit_sheet.specs.Sheetable.{Sheetable}
-use Rattle.tonekit_sheet_fit.proofs.Fits.{fit_of_pack}
+use Rattle.tonekit_sheet_limits.proofs.OfPack.{sheetable_of_pack}
 use Rattle.tonekit_sheet_laws.proofs.Round.{round}
 use Rattle.tonekit_sheet_laws.proofs.Back.{read_back, settings_back, tones_back, accents_back, lookups_back}
 use Rattle.tonekit_sheet_laws.proofs.Exactly.{exactly}
@@ -32,8 +32,8 @@ module _ (src : Source) (fit : Sheetable src) where
   from_sheet q = ap (on_sheet (sheet src) q) (round src fit) ∙ sym (judgement_same src (read_back src) back_agrees q)
 
 module _ (p : List ℕ) (bytes : Bytes p) (l : Loads p) where
-  fits : Sheetable (holds p l)
-  fits = fit_of_pack p bytes l.held l.end (loads_alone p l.held l.end l.loads).0
+  sheetable : Sheetable (holds p l)
+  sheetable = sheetable_of_pack p bytes l.held l.end (loads_alone p l.held l.end l.loads).0
 
   -- every pack that loads has its sheet, and no other
   has_sheet : SheetOf p (sheet (holds p l))
@@ -47,7 +47,7 @@ module _ (p : List ℕ) (bytes : Bytes p) (l : Loads p) where
   unfolding judge_outcome
   same_outcome sh w q =
       ap (on_pack p q) l.loads
-      ∙ sym (from_sheet (holds p l) fits q)
+      ∙ sym (from_sheet (holds p l) sheetable q)
       ∙ ap (λ (x : List ℕ). judge_sheet_outcome x q) (only_sheet sh w)
 
 pub one_sheet_each : OneSheetEach
@@ -68,5 +68,5 @@ pub one_sheet_exactly : OneSheetExactly
 one_sheet_exactly p r bp br l m sh sh' w w' =
     let x = only_sheet p bp l sh w in
     let y = only_sheet r br m sh' w' in
-    let e = exactly (holds p l) (holds r m) (fits p bp l) (fits r br m) in
+    let e = exactly (holds p l) (holds r m) (sheetable p bp l) (sheetable r br m) in
     (λ h. e.0 (x ∙ h ∙ sym y), λ h. sym x ∙ e.1 h ∙ y)

@@ -24,8 +24,8 @@ abbrev pub won : ℕ → ℕ → Winner
 won i r = record { accent = i; rule = r }
 
 -- a winner is the rule of one of n accents, at an offset as offsets are held
-abbrev pub Placed : ℕ → Option Winner → Type 0
-Placed n w = (x : Winner) → w ≡ Some x → (x.accent < n) × (x.rule < 65536)
+abbrev pub WithinPack : ℕ → Option Winner → Type 0
+WithinPack n w = (x : Winner) → w ≡ Some x → (x.accent < n) × (x.rule < 65536)
 
 -- the knot at or before a position, but never the last one
 abbrev pub knot_before : Float → ℕ → ℕ

@@ -11,7 +11,7 @@ ghost use Rattle.tonekit_pack.specs.Held.{records_of};
 ghost use Rattle.spec_lookup.specs.Knots.{on_line, point_at, expanded, knots_at, Point, Knots};
 ghost use Rattle.spec_pack.specs.Pack.{parts_from};
 ghost use Rattle.spec_lookup.specs.Lookup.{final_of, meets, matches, stated, specificity, better_of, best_rule, find_rule, rule_listing, citation, listed, look_up, component_of};
-ghost use Rattle.tonekit_expect.specs.Pieces.{best_turn, Placed, Listed, knot_before, parent_of};
+ghost use Rattle.tonekit_expect.specs.Pieces.{best_turn, WithinPack, Listed, knot_before, parent_of};
 
 pub use spec_lookup::{Component, Context, Listing, Winner};
 use tonekit_bytes::places::index_of;
@@ -210,7 +210,7 @@ pub fn citation(owner: u8, o: usize) -> Listing
 
 // What the winning rule gives, or the citation of the tone at o.
 fn listing_of(v: PackView<'_>, c: Context, o: usize, w: Option<Winner>) -> Option<Listing>
-    requires { Placed v.pack.accents.count w }
+    requires { WithinPack v.pack.accents.count w }
     ensures { result ≡ listed v.entry.bytes.now (records_of v.entry.pack) c o w }
 {
     match w {

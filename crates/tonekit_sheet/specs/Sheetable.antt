@@ -17,28 +17,28 @@ Bits n = n < 4294967296
 abbrev pub f32 : ℕ → Float
 f32 bits = of_bits binary32 bits
 
-pub record SettingsFit (x : Settings) : Type 0 where
+pub record SettingsSheetable (x : Settings) : Type 0 where
   pub temperature_bits : Bits x.temperature
   pub threshold_bits : Bits x.threshold
   pub temperature : above_zero (f32 x.temperature) ≡ true
   pub threshold : probability_fine (f32 x.threshold) ≡ true
 
 -- "flag 0 or 1; regions finite, from ≤ to", zero where the flag is
-abbrev pub region_fits : Tone → Bool
-region_fits t =
+abbrev pub region_sheetable : Tone → Bool
+region_sheetable t =
     cond (eqb t.flag 0) (eqb t.from 0 && eqb t.to 0)
     (eqb t.flag 1 && (finite (f32 t.from) && (finite (f32 t.to) && le (f32 t.from) (f32 t.to))))
 
-pub record ToneFit (t : Tone) : Type 0 where
+pub record ToneSheetable (t : Tone) : Type 0 where
   pub least : 1 ≤ t.number
   pub byte : t.number < 256
   pub prior_bits : Bits t.prior
   pub prior : probability_fine (f32 t.prior) ≡ true
   pub from_bits : Bits t.from
   pub to_bits : Bits t.to
-  pub region : region_fits t ≡ true
+  pub region : region_sheetable t ≡ true
 
-pub record AccentFit (a : Accent) : Type 0 where
+pub record AccentSheetable (a : Accent) : Type 0 where
   pub least : 1 ≤ a.number
   pub byte : a.number < 256
   pub contour_bits : Bits a.contour
@@ -51,7 +51,7 @@ pub record AccentFit (a : Accent) : Type 0 where
   pub turning : above_zero (f32 a.turning) ≡ true
 
 -- component j of a list whose first is `first`
-pub record CarriedFit (first : Carried) (j : ℕ) (c : Carried) : Type 0 where
+pub record CarriedSheetable (first : Carried) (j : ℕ) (c : Carried) : Type 0 where
   pub owner : c.owner ≡ first.owner
   pub form : c.form ≡ first.form
   pub label : c.label ≡ first.label
@@ -61,10 +61,10 @@ pub record CarriedFit (first : Carried) (j : ℕ) (c : Carried) : Type 0 where
   pub points_bits : (k : ℕ) → k < 10 → Bits (get_or c.points k 0)
   pub points : (k : ℕ) → k < 10 → point_fine (f32 (get_or c.points k 0)) ≡ true
 
-pub record ListFit (src : Source) (cs : List Carried) : Type 0 where
+pub record ListSheetable (src : Source) (cs : List Carried) : Type 0 where
   pub any : 1 ≤ length cs
   pub few : length cs ≤ 4
-  pub each : (j : ℕ) → j < length cs → CarriedFit (get_or cs 0 absent_carried) j (get_or cs j absent_carried)
+  pub each : (j : ℕ) → j < length cs → CarriedSheetable (get_or cs 0 absent_carried) j (get_or cs j absent_carried)
   pub owner : (a : Accent) × (accent_in src.accents (get_or cs 0 absent_carried).owner ≡ some a)
   pub least : 1 ≤ (get_or cs 0 absent_carried).form
   pub most : (get_or cs 0 absent_carried).form ≤ 3
@@ -79,15 +79,15 @@ components_in [] = 0
 components_in (cs ∷ more) = length cs + components_in more
 
 pub record Sheetable (src : Source) : Type 0 where
-  pub settings : SettingsFit src.settings
+  pub settings : SettingsSheetable src.settings
   pub some_tones : 1 ≤ length src.tones
   pub few_tones : length src.tones ≤ 8
-  pub tones : (i : ℕ) → i < length src.tones → ToneFit (get_or src.tones i absent_tone)
+  pub tones : (i : ℕ) → i < length src.tones → ToneSheetable (get_or src.tones i absent_tone)
   pub tones_once : (i j : ℕ) → i < length src.tones → j < length src.tones → (get_or src.tones i absent_tone).number ≡ (get_or src.tones j absent_tone).number → i ≡ j
   pub some_accents : 1 ≤ length src.accents
   pub few_accents : length src.accents ≤ 8
-  pub accents : (i : ℕ) → i < length src.accents → AccentFit (get_or src.accents i absent_accent)
+  pub accents : (i : ℕ) → i < length src.accents → AccentSheetable (get_or src.accents i absent_accent)
   pub accents_once : (i j : ℕ) → i < length src.accents → j < length src.accents → (get_or src.accents i absent_accent).number ≡ (get_or src.accents j absent_accent).number → i ≡ j
-  pub lists : (c : Context) (cs : List Carried) → Held src c → src.look c ≡ some cs → ListFit src cs
+  pub lists : (c : Context) (cs : List Carried) → Held src c → src.look c ≡ some cs → ListSheetable src cs
   pub few_lists : length (lists_of (view_of src)) ≤ 128
   pub few_components : components_in (lists_of (view_of src)) ≤ 192

@@ -17,7 +17,7 @@ pub says_once : (s t : List ℕ) → Bytes s → Bytes t → (x y : SheetRead) (
     → Agree (source_of_sheet s x) (source_of_sheet t y) → s ≡ t
 says_once s t b c x y d e h g agree = sym (inverse s b x d h) ∙ agree_same (source_of_sheet s x) (source_of_sheet t y) agree ∙ inverse t c y e g
 
--- ---- exactly: of two sheets that load, and of a sheet that loads and a source that fits
+-- ---- exactly: of two sheets that load, and of a sheet that loads and a source that has a sheet
 agree_refl : (a : Source) → Agree a a
 agree_refl a = record { settings = refl; tones = refl; accents = λ n. refl; lookups = λ c h. refl }
 

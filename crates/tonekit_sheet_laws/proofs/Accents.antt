@@ -8,16 +8,16 @@ use Rattle.spec_pack.specs.Pack.{holds, accent_fine}
 use Rattle.spec_lookup.specs.Source.{Accent, Source}
 use Rattle.spec_sheet.specs.Sheet.{View, absent_accent, lists_of}
 use Rattle.spec_sheet.specs.Reader.{SheetRead, size_of, due_next, accent_verdict, body_verdict, added}
-use Rattle.tonekit_sheet.specs.Sheetable.{AccentFit}
+use Rattle.tonekit_sheet.specs.Sheetable.{AccentSheetable}
 use Rattle.tonekit_sheet_laws.proofs.Place.{up_to, accent_at, read_to, last_of}
-use Rattle.tonekit_sheet_laws.proofs.Placed.{up_to_length, holds_none}
+use Rattle.tonekit_sheet_laws.proofs.Offsets.{up_to_length, holds_none}
 use Rattle.tonekit_sheet_laws.proofs.Records.{AccentThere, accent_there}
 use Rattle.tonekit_sheet_laws.proofs.Laid.{Laid}
-use Rattle.tonekit_sheet_laws.proofs.Fitting.{ViewFit}
+use Rattle.tonekit_sheet_laws.proofs.Sheetables.{ViewSheetable}
 use Rattle.tonekit_sheet_laws.proofs.Turns.{all_pass, Passes, Reach, stay, then, one_to}
 
 -- ---- one accent
-tolerances_there : (s : List ℕ) (o : ℕ) (a : Accent) → AccentThere s o a → AccentFit a → tolerances_fine s (o + 2) ≡ true
+tolerances_there : (s : List ℕ) (o : ℕ) (a : Accent) → AccentThere s o a → AccentSheetable a → tolerances_fine s (o + 2) ≡ true
 unfolding tolerances_fine
 tolerances_there s o a w f =
     let p : o + 2 + 4 ≡ o + 6 = omega arith in
@@ -25,13 +25,13 @@ tolerances_there s o a w f =
     let r : o + 2 + 12 ≡ o + 14 = omega arith in
     rw (p, q, r, w.contour, w.onset, w.offset, w.turning, f.contour, f.onset, f.offset, f.turning)
 
-accent_fine_lem : (s : List ℕ) (o : ℕ) (a : Accent) → AccentThere s o a → AccentFit a → accent_fine 2 s o ≡ true
+accent_fine_lem : (s : List ℕ) (o : ℕ) (a : Accent) → AccentThere s o a → AccentSheetable a → accent_fine 2 s o ≡ true
 accent_fine_lem s o a w f = rw (w.number, ne_eqb a.number 0 (λ e. omega (arith, f.least))) (tolerances_there s o a w f)
 
-module _ (s : List ℕ) (d : Out SheetRead) (src : Source) (v : View) (fit : ViewFit src v) (laid : Laid s v (lists_of v)) where
+module _ (s : List ℕ) (d : Out SheetRead) (src : Source) (v : View) (sheetable : ViewSheetable src v) (laid : Laid s v (lists_of v)) where
   pub accent_read : (i : ℕ) → i < length v.accents → AccentThere s (accent_at v i) (get_or v.accents i absent_accent)
   accent_read i h =
-      let f = fit.accents i h in
+      let f = sheetable.accents i h in
       accent_there s (accent_at v i) (get_or v.accents i absent_accent) f.contour_bits f.onset_bits f.offset_bits f.turning_bits (laid.accent i h)
 
   -- after all tones and i accents
@@ -46,7 +46,7 @@ module _ (s : List ℕ) (d : Out SheetRead) (src : Source) (v : View) (fit : Vie
   accent_new : (i : ℕ) → i < length v.accents → not (holds s (up_to (accent_at v) i) (number_at s (accent_at v i))) ≡ true
   accent_new i h =
       rw (holds_none s (accent_at v) i (number_at s (accent_at v i))
-      (λ j l e. omega (arith, fit.rising j i l h, sym (accent_read j (omega arith)).number ∙ e ∙ (accent_read i h).number)))
+      (λ j l e. omega (arith, sheetable.rising j i l h, sym (accent_read j (omega arith)).number ∙ e ∙ (accent_read i h).number)))
 
   accent_pass : (i : ℕ) → i < length v.accents → Passes s (accent_at v i) (after i) 19 18
   unfolding size_of body_verdict accent_verdict
@@ -60,8 +60,8 @@ module _ (s : List ℕ) (d : Out SheetRead) (src : Source) (v : View) (fit : Vie
         due = due_accent i;
         body =
             all_pass (leb 8 (length (up_to (accent_at v) i))) (accent_fine 2 s (accent_at v i)) (not (holds s (up_to (accent_at v) i) (number_at s (accent_at v i)))) true
-            (lt-leb 8 (length (up_to (accent_at v) i)) (omega (arith, up_to_length (accent_at v) i, fit.few_accents)))
-            (accent_fine_lem s (accent_at v i) (get_or v.accents i absent_accent) w (fit.accents i h)) (accent_new i h) refl;
+            (lt-leb 8 (length (up_to (accent_at v) i)) (omega (arith, up_to_length (accent_at v) i, sheetable.few_accents)))
+            (accent_fine_lem s (accent_at v i) (get_or v.accents i absent_accent) w (sheetable.accents i h)) (accent_new i h) refl;
       }
 
   accent_on : (i : ℕ) → i < length v.accents → Reach s d (accent_at v i) (after i) (accent_at v (suc i)) (after (suc i))
@@ -78,4 +78,4 @@ module _ (s : List ℕ) (d : Out SheetRead) (src : Source) (v : View) (fit : Vie
 
   -- all of them
   pub through_accents : Reach s d (accent_at v 0) (after 0) (accent_at v (length v.accents)) (read_to v (lists_of v) 19 (length v.tones) (length v.accents) 0 0 0 0)
-  through_accents = rw (last_some (length v.accents) fit.some_accents) at (accents_on (length v.accents) (omega arith))
+  through_accents = rw (last_some (length v.accents) sheetable.some_accents) at (accents_on (length v.accents) (omega arith))

@@ -14,12 +14,12 @@ use Rattle.spec_sheet.specs.Agree.{Held}
 use Rattle.tonekit_sheet.specs.Sheetable.{Sheetable, components_in}
 use Rattle.tonekit_core.specs.declared.Refusal.TheVariants.{CutShort}
 use Rattle.tonekit_sheet_laws.proofs.Place.{up_to, tone_at, accent_at, read_to, last_of, st_of_view, st_of}
-use Rattle.tonekit_sheet_laws.proofs.Placed.{up_to_length, up_to_get}
+use Rattle.tonekit_sheet_laws.proofs.Offsets.{up_to_length, up_to_get}
 use Rattle.tonekit_sheet_laws.proofs.Ascending.{accent_at_lem}
 use Rattle.tonekit_sheet.proofs.RowPlaces.{place, accent_back, tone_back, prev_back}
 use Rattle.tonekit_sheet_laws.proofs.Asked.{tone_at_lem}
 use Rattle.tonekit_sheet_laws.proofs.Laid.{Laid}
-use Rattle.tonekit_sheet_laws.proofs.Fitting.{ViewFit, view_fit, held_in_order}
+use Rattle.tonekit_sheet_laws.proofs.Sheetables.{ViewSheetable, view_sheetable, held_in_order}
 use Rattle.tonekit_sheet_laws.proofs.Tones.{settings_read, tone_read}
 use Rattle.tonekit_sheet_laws.proofs.Accents.{accent_read}
 use Rattle.tonekit_sheet_laws.proofs.Lookups.{FoundAt, accent_place_lem, tone_place_lem, prev_none, prev_tone, look_back}
@@ -33,22 +33,22 @@ all_read f g l d h =
     (λ i b. let c : i < length l = omega (arith, n) in
     get_or-map f (up_to g (length l)) i 0 d (rw (up_to_length g (length l)) c) ∙ ap f (up_to_get g (length l) i c) ∙ h i c)
 
-module _ (s : List ℕ) (d : Out SheetRead) (src : Source) (v : View) (fit : ViewFit src v) (laid : Laid s v (lists_of v)) where
+module _ (s : List ℕ) (d : Out SheetRead) (src : Source) (v : View) (sheetable : ViewSheetable src v) (laid : Laid s v (lists_of v)) where
   settings_same : settings_at s 0 ≡ v.settings
   settings_same =
-      let w = settings_read s d src v fit laid in
+      let w = settings_read s d src v sheetable laid in
       λ i. record { temperature = w.temperature i; threshold = w.threshold i }
 
   tones_same : map (tone_is_read 6 s) (up_to tone_at (length v.tones)) ≡ v.tones
   tones_same =
       all_read (tone_is_read 6 s) tone_at v.tones absent_tone
-      (λ k h. let w = tone_read s d src v fit laid k h in
+      (λ k h. let w = tone_read s d src v sheetable laid k h in
       λ i. record { number = w.number i; prior = w.prior i; flag = w.flag i; from = w.from i; to = w.to i })
 
   accents_same : map (accent_is_read 2 s) (up_to (accent_at v) (length v.accents)) ≡ v.accents
   accents_same =
       all_read (accent_is_read 2 s) (accent_at v) v.accents absent_accent
-      (λ k h. let w = accent_read s d src v fit laid k h in
+      (λ k h. let w = accent_read s d src v sheetable laid k h in
       λ i. record { number = w.number i; contour = w.contour i; onset = w.onset i; offset = w.offset i; turning = w.turning i })
 
   -- a context whose numbers are held is looked up in its own row
@@ -69,7 +69,7 @@ module _ (s : List ℕ) (d : Out SheetRead) (src : Source) (v : View) (fit : Vie
       let lp : p.at ≤ n = omega (arith, p.there) in
       record {
         row = place m n a.at t.at p.at a.there t.there lp;
-        look = rw (a.is, t.is, p.is) (look_back s d src v fit laid last total c a.at t.at p.at a.there t.there lp);
+        look = rw (a.is, t.is, p.is) (look_back s d src v sheetable laid last total c a.at t.at p.at a.there t.there lp);
         context = λ i. record {
           accent = (ap (λ (k : ℕ). (get_or v.accents k absent_accent).number) (accent_back m n a.at t.at p.at a.there t.there lp) ∙ a.same) i;
           tone = (ap (λ (k : ℕ). (get_or v.tones k absent_tone).number) (tone_back m n a.at t.at p.at a.there t.there lp) ∙ t.same) i;
@@ -82,30 +82,30 @@ module _ (s : List ℕ) (d : Out SheetRead) (src : Source) (v : View) (fit : Vie
 abbrev pub read_back : Source → Source
 read_back src = source_of_sheet (sheet src) (st_of src)
 
-module _ (src : Source) (fit : Sheetable src) where
+module _ (src : Source) (sheetable : Sheetable src) where
   abbrev d : Out SheetRead
   d = refused CutShort 0
 
   pub settings_back : (read_back src).settings ≡ src.settings
   unfolding source_of_sheet view_of
-  settings_back = settings_same (sheet src) d src (view_of src) (view_fit src fit) (sheet_laid src fit)
+  settings_back = settings_same (sheet src) d src (view_of src) (view_sheetable src sheetable) (sheet_laid src sheetable)
 
   pub tones_back : (read_back src).tones ≡ src.tones
   unfolding source_of_sheet st_of st_of_view view_of
-  tones_back = tones_same (sheet src) d src (view_of src) (view_fit src fit) (sheet_laid src fit)
+  tones_back = tones_same (sheet src) d src (view_of src) (view_sheetable src sheetable) (sheet_laid src sheetable)
 
   in_order_back : (read_back src).accents ≡ ascending src.accents
   unfolding source_of_sheet st_of st_of_view view_of
-  in_order_back = accents_same (sheet src) d src (view_of src) (view_fit src fit) (sheet_laid src fit)
+  in_order_back = accents_same (sheet src) d src (view_of src) (view_sheetable src sheetable) (sheet_laid src sheetable)
 
   pub accents_back : (n : ℕ) → accent_in (read_back src).accents n ≡ accent_in src.accents n
-  accents_back n = ap (λ (l : List Accent). accent_in l n) in_order_back ∙ held_in_order src fit n
+  accents_back n = ap (λ (l : List Accent). accent_in l n) in_order_back ∙ held_in_order src sheetable n
 
   -- the places of a held context's numbers
   accent_of_lem : (n : ℕ) (a : Accent) → accent_in src.accents n ≡ some a → (m : ℕ) × (m < length (view_of src).accents) × ((get_or (view_of src).accents m absent_accent).number ≡ n)
   unfolding view_of
   accent_of_lem n a h =
-      let r = accent_at_lem (ascending src.accents) n a (held_in_order src fit n ∙ h) in
+      let r = accent_at_lem (ascending src.accents) n a (held_in_order src sheetable n ∙ h) in
       (r.place, r.there, ap (λ (x : Accent). x.number) r.same ∙ r.number)
 
   tone_of : (n : ℕ) → tone_in src.tones n ≡ true → (m : ℕ) × (m < length (view_of src).tones) × ((get_or (view_of src).tones m absent_tone).number ≡ n)
@@ -121,8 +121,8 @@ module _ (src : Source) (fit : Sheetable src) where
   lookups_back c h =
       let s = sheet src in
       let v = view_of src in
-      let f = view_fit src fit in
-      let l = sheet_laid src fit in
+      let f = view_sheetable src sheetable in
+      let l = sheet_laid src sheetable in
       let last = last_of 20 22 (length (lists_of v)) in
       let total = components_in (lists_of v) in
       let a = accent_of_lem c.accent h.accent.0 h.accent.1 in

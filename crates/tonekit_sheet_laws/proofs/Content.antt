@@ -9,11 +9,11 @@ use Rattle.spec_sheet.specs.Sheet.{View, absent_carried, lists_of}
 use Rattle.spec_arithmetic.specs.Files.{Out}
 use Rattle.spec_sheet.specs.Reader.{SheetRead}
 use Rattle.spec_sheet.specs.FromSheet.{bits_at, carried_at, carried_from}
-use Rattle.tonekit_sheet.specs.Sheetable.{CarriedFit}
+use Rattle.tonekit_sheet.specs.Sheetable.{CarriedSheetable}
 use Rattle.tonekit_sheet_laws.proofs.Place.{list_at}
 use Rattle.tonekit_sheet_laws.proofs.Records.{HeadThere, ComponentThere}
 use Rattle.tonekit_sheet_laws.proofs.Laid.{Laid}
-use Rattle.tonekit_sheet_laws.proofs.Fitting.{ViewFit}
+use Rattle.tonekit_sheet_laws.proofs.Sheetables.{ViewSheetable}
 use Rattle.tonekit_sheet_laws.proofs.Lists.{list_head, list_component}
 
 -- ---- what is read, one by one
@@ -43,7 +43,7 @@ module _ (s : List ℕ) where
       (λ l. let e : j ≡ n = omega (arith, ltb-false j n l) in rw e (get_or_at (carried_from s o n) (carried_at s o n) [] absent_carried n (carried_count o n)))
 
 -- ---- one component, and a list
-component_back : (s : List ℕ) (o n : ℕ) (first : Carried) (many j : ℕ) (c : Carried) → HeadThere s o n first many → ComponentThere s (o + 7 + 45 * j) c → CarriedFit first j c → carried_at s o j ≡ c
+component_back : (s : List ℕ) (o n : ℕ) (first : Carried) (many j : ℕ) (c : Carried) → HeadThere s o n first many → ComponentThere s (o + 7 + 45 * j) c → CarriedSheetable first j c → carried_at s o j ≡ c
 unfolding carried_at
 component_back s o n first many j c h w f =
     let part : cond (eqb (byte_at s (o + 3)) 3) j 0 ≡ c.part = ap (λ (x : ℕ). cond (eqb x 3) j 0) h.form ∙ sym f.part in
@@ -59,17 +59,17 @@ component_back s o n first many j c h w f =
       points = points i;
     }
 
-module _ (s : List ℕ) (d : Out SheetRead) (src : Source) (v : View) (fit : ViewFit src v) (laid : Laid s v (lists_of v)) where
+module _ (s : List ℕ) (d : Out SheetRead) (src : Source) (v : View) (sheetable : ViewSheetable src v) (laid : Laid s v (lists_of v)) where
   pub list_back : (i : ℕ) → i < length (lists_of v) → carried_from s (list_at v (lists_of v) i) (byte_at s (list_at v (lists_of v) i + 6)) ≡ get_or (lists_of v) i []
   list_back i h =
       let o = list_at v (lists_of v) i in
       let cs = get_or (lists_of v) i [] in
-      let w = list_head s d src v fit laid i h in
+      let w = list_head s d src v sheetable laid i h in
       rw w.count
       (ext_get_or absent_carried (carried_from s o (length cs)) cs (carried_count s o (length cs))
       (λ j l. let b : j < length cs = omega (arith, carried_count s o (length cs)) in
       carried_get s o (length cs) j b
-      ∙ component_back s o (i + 1) (get_or cs 0 absent_carried) (length cs) j (get_or cs j absent_carried) w (list_component s d src v fit laid i h j b) ((fit.lists i h).each j b)))
+      ∙ component_back s o (i + 1) (get_or cs 0 absent_carried) (length cs) j (get_or cs j absent_carried) w (list_component s d src v sheetable laid i h j b) ((sheetable.lists i h).each j b)))
 
 -- ---- equal bytes, n components
 module _ (s : List ℕ) (a b n : ℕ) (same : (k : ℕ) → 2 ≤ k → k < 7 + 45 * n → byte_at s (a + k) ≡ byte_at s (b + k)) where

@@ -1,4 +1,4 @@
--- The sheets of two sources that fit are equal in every bit exactly when settings, tones, accents and the lookups of all held contexts agree. Assumes nothing.
+-- The sheets of two sources that have one are equal in every bit exactly when settings, tones, accents and the lookups of all held contexts agree. Assumes nothing.
 use Rattle.std.proofs.Common.{ℕ, zero, suc, ◌<◌, ◌≡◌, refl, sym, ap, ap₂, ◌∙◌, subst, ◌⊎◌, ◌↔◌, Bool, true, false, List, [], arith, length}
 use mathlib.Core.Option.{Option}
 use Rattle.spec_lookup.specs.Source.{Tone, Accent, Carried, Source, accent_in, tone_in}
@@ -20,7 +20,7 @@ use Rattle.tonekit_sheet_laws.proofs.Asked.{row_held_lem}
 use Rattle.tonekit_sheet_laws.proofs.Round.{round}
 use Rattle.tonekit_sheet_laws.proofs.Back.{read_back, settings_back, tones_back, accents_back, lookups_back}
 
--- ---- a sheet is a function of what is held, whether that fits or not
+-- ---- a sheet is a function of what is held, whether that is within its limits or not
 asc_same : (a b : List Accent) → ((n : ℕ) → accent_in a n ≡ accent_in b n) → (k n : ℕ) → asc_from k n a ≡ asc_from k n b
 unfolding asc_from
 asc_same a b h zero n = refl

@@ -1,4 +1,4 @@
--- A small source that fits, and the bytes of its sheet, by computing. Assumes nothing.
+-- A small source within the limits of a sheet, and the bytes of its sheet, by computing. Assumes nothing.
 use Rattle.std.proofs.Common.{ℕ, zero, suc, ◌<◌, ◌≡◌, refl, ap, ◌∙◌, true, [], ◌∷◌, ◌++◌, arith, get_or, replicate}
 use mathlib.Core.Option.{some}
 use lib.ListN.{get_or-replicate}
@@ -10,7 +10,7 @@ use Rattle.spec_sheet.specs.Number.{same_carried, seen_in, place_in, noted, numb
 use Rattle.spec_sheet.specs.Pieces.{pieces, piecewise}
 use Rattle.spec_sheet.specs.Sheet.{asc_from, ascending, absent_accent, absent_carried, row_context, view_of, lists_of, bits_bytes, components_bytes, bytes_with, sheet}
 use Rattle.spec_sheet.specs.Reader.{point_fine}
-use Rattle.tonekit_sheet.specs.Sheetable.{f32, SettingsFit, ToneFit, AccentFit, CarriedFit, ListFit, components_in, Sheetable}
+use Rattle.tonekit_sheet.specs.Sheetable.{f32, SettingsSheetable, ToneSheetable, AccentSheetable, CarriedSheetable, ListSheetable, components_in, Sheetable}
 
 -- the bits of 1
 abbrev one : ℕ
@@ -39,7 +39,7 @@ pub small_bytes : sheet small ≡
 unfolding sheet bytes_with view_of ascending asc_from accent_in lists_of range turns noted seen_in place_in same_by same_carried number_in piecewise pieces row_context bits_bytes components_bytes
 small_bytes = refl
 
--- ---- it fits
+-- ---- it is within the limits
 zeros : (k : ℕ) → k < 10 → ◌≡◌ {A = ℕ} (get_or (replicate 10 0) k 0) 0
 zeros k h = get_or-replicate 10 k 0 0 h
 
@@ -47,9 +47,9 @@ zero_fine : point_fine (f32 0) ≡ true
 unfolding point_fine of_bits le
 zero_fine = refl
 
-flat_fits : CarriedFit flat 0 flat
+flat_sheetable : CarriedSheetable flat 0 flat
 unfolding weight_fine
-flat_fits = record {
+flat_sheetable = record {
   owner = refl;
   form = refl;
   label = refl;
@@ -60,11 +60,11 @@ flat_fits = record {
   points = λ k h. ap (λ (x : ℕ). point_fine (f32 x)) (zeros k h) ∙ zero_fine;
 }
 
-flat_each : (j : ℕ) → j < 1 → CarriedFit flat j (get_or (flat ∷ []) j absent_carried)
-flat_each zero h = flat_fits
+flat_each : (j : ℕ) → j < 1 → CarriedSheetable flat j (get_or (flat ∷ []) j absent_carried)
+flat_each zero h = flat_sheetable
 flat_each (suc j) h = absurd (omega arith)
 
-flat_list : ListFit small (flat ∷ [])
+flat_list : ListSheetable small (flat ∷ [])
 unfolding accent_in
 flat_list = record {
   any = omega arith;
@@ -79,14 +79,14 @@ flat_list = record {
   unit = λ n. refl;
 }
 
-tone_fits : (i : ℕ) → i < 1 → ToneFit (get_or small.tones i absent_tone)
+tone_sheetable : (i : ℕ) → i < 1 → ToneSheetable (get_or small.tones i absent_tone)
 unfolding probability_fine of_bits lt le
-tone_fits zero h = record { least = omega arith; byte = omega arith; prior_bits = omega arith; prior = refl; from_bits = omega arith; to_bits = omega arith; region = refl }
-tone_fits (suc i) h = absurd (omega arith)
+tone_sheetable zero h = record { least = omega arith; byte = omega arith; prior_bits = omega arith; prior = refl; from_bits = omega arith; to_bits = omega arith; region = refl }
+tone_sheetable (suc i) h = absurd (omega arith)
 
-accent_fits : (i : ℕ) → i < 1 → AccentFit (get_or small.accents i absent_accent)
+accent_sheetable : (i : ℕ) → i < 1 → AccentSheetable (get_or small.accents i absent_accent)
 unfolding above_zero of_bits lt
-accent_fits zero h = record {
+accent_sheetable zero h = record {
   least = omega arith;
   byte = omega arith;
   contour_bits = omega arith;
@@ -98,11 +98,11 @@ accent_fits zero h = record {
   offset = refl;
   turning = refl;
 }
-accent_fits (suc i) h = absurd (omega arith)
+accent_sheetable (suc i) h = absurd (omega arith)
 
-settings_fit : SettingsFit small.settings
+settings_sheetable : SettingsSheetable small.settings
 unfolding above_zero probability_fine of_bits lt le
-settings_fit = record { temperature_bits = omega arith; threshold_bits = omega arith; temperature = refl; threshold = refl }
+settings_sheetable = record { temperature_bits = omega arith; threshold_bits = omega arith; temperature = refl; threshold = refl }
 
 small_lists : lists_of (view_of small) ≡ (flat ∷ []) ∷ []
 unfolding view_of ascending asc_from accent_in lists_of range turns noted seen_in same_by same_carried row_context
@@ -111,14 +111,14 @@ small_lists = refl
 pub small_fits : Sheetable small
 unfolding components_in
 small_fits = record {
-  settings = settings_fit;
+  settings = settings_sheetable;
   some_tones = omega arith;
   few_tones = omega arith;
-  tones = tone_fits;
+  tones = tone_sheetable;
   tones_once = λ i j a b e. omega arith;
   some_accents = omega arith;
   few_accents = omega arith;
-  accents = accent_fits;
+  accents = accent_sheetable;
   accents_once = λ i j a b e. omega arith;
   lists = λ c cs h e. let q : flat ∷ [] ≡ cs = cc in rw (← q) flat_list;
   few_lists = rw small_lists (omega arith);

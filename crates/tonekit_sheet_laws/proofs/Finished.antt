@@ -1,4 +1,4 @@
--- What is judged at a sheet's end finds nothing in the sheet of a source that fits: no loose row, nothing out of order. Assumes nothing.
+-- What is judged at a sheet's end finds nothing in the sheet of a source that has one: no loose row, nothing out of order. Assumes nothing.
 use Rattle.std.proofs.Common.{ℕ, zero, suc, ◌+◌, ◌*◌, ◌≤◌, ◌<◌, ◌≡◌, refl, sym, ap, ◌∙◌, Bool, true, false, ◌||◌, List, arith, add-one, eqb, length, get_or, eq-eqb, eqb-true, le-leb, lt-ltb, None}
 use Rattle.tonekit_core.specs.Loop.{next}
 use Rattle.spec_arithmetic.specs.Fields.{byte_at}
@@ -16,9 +16,9 @@ use Rattle.spec_sheet.specs.FromSheet.{carried_from}
 use Rattle.tonekit_sheet_laws.proofs.Place.{up_to, tone_at, accent_at, row_at, list_at, read_to}
 use Rattle.tonekit_sheet_laws.proofs.Loops.{range_each, range_any, range_none, to_through}
 use Rattle.tonekit_sheet_laws.proofs.FirstUse.{so_far, half, so_none, row_numbers, lists_once, list_used, used_number, listed_first, listed_final}
-use Rattle.tonekit_sheet_laws.proofs.Placed.{up_to_length, up_to_get, zero_or_one, zero_or_zero}
+use Rattle.tonekit_sheet_laws.proofs.Offsets.{up_to_length, up_to_get, zero_or_one, zero_or_zero}
 use Rattle.tonekit_sheet_laws.proofs.Laid.{Laid}
-use Rattle.tonekit_sheet_laws.proofs.Fitting.{ViewFit}
+use Rattle.tonekit_sheet_laws.proofs.Sheetables.{ViewSheetable}
 use Rattle.tonekit_sheet_laws.proofs.Tones.{tone_read}
 use Rattle.tonekit_sheet_laws.proofs.Accents.{accent_read}
 use Rattle.tonekit_sheet_laws.proofs.Rows.{row_read, places, asks_accent, asks_tone, asks_prev}
@@ -32,7 +32,7 @@ or_right false b h = h
 or_left : (a b : Bool) → a ≡ true → (a || b) ≡ true
 or_left a b h = rw h
 
-module _ (s : List ℕ) (d : Out SheetRead) (src : Source) (v : View) (fit : ViewFit src v) (laid : Laid s v (lists_of v)) (last total : ℕ) where
+module _ (s : List ℕ) (d : Out SheetRead) (src : Source) (v : View) (sheetable : ViewSheetable src v) (laid : Laid s v (lists_of v)) (last total : ℕ) where
   abbrev lists : List (List Carried)
   lists = lists_of v
 
@@ -45,15 +45,15 @@ module _ (s : List ℕ) (d : Out SheetRead) (src : Source) (v : View) (fit : Vie
 
   -- its two list numbers
   pub first_number : (r : ℕ) → r < rows_of v → byte_at s (row_in st r + 4) ≡ number_in lists (v.row r false)
-  first_number r h = ap (λ (o : ℕ). byte_at s (o + 4)) (row_in_lem r) ∙ (row_read s d src v fit laid r h).first
+  first_number r h = ap (λ (o : ℕ). byte_at s (o + 4)) (row_in_lem r) ∙ (row_read s d src v sheetable laid r h).first
 
   pub final_number : (r : ℕ) → r < rows_of v → byte_at s (row_in st r + 5) ≡ number_in lists (v.row r true)
-  final_number r h = ap (λ (o : ℕ). byte_at s (o + 5)) (row_in_lem r) ∙ (row_read s d src v fit laid r h).final
+  final_number r h = ap (λ (o : ℕ). byte_at s (o + 5)) (row_in_lem r) ∙ (row_read s d src v sheetable laid r h).final
 
   -- ---- no row is loose
   number_there : (x n : ℕ) → x ≡ n → n ≤ length lists → zero_or_held s (up_to (list_at v lists) (length lists)) x ≡ true
   number_there x zero e h = zero_or_zero s (list_at v lists) (length lists) x e
-  number_there x (suc i) e h = zero_or_one s (list_at v lists) (length lists) x i h ((list_head s d src v fit laid i h).number ∙ add-one i ∙ sym e)
+  number_there x (suc i) e h = zero_or_one s (list_at v lists) (length lists) x i h ((list_head s d src v sheetable laid i h).number ∙ add-one i ∙ sym e)
 
   pub none_loose : loose_row s st ≡ None
   unfolding loose_row
@@ -66,15 +66,15 @@ module _ (s : List ℕ) (d : Out SheetRead) (src : Source) (v : View) (fit : Vie
 
   -- ---- accents ascend
   accent_number : (i : ℕ) → i < length v.accents → number_at s (get_or (up_to (accent_at v) (length v.accents)) i 0) ≡ (get_or v.accents i absent_accent).number
-  accent_number i h = ap (number_at s) (up_to_get (accent_at v) (length v.accents) i h) ∙ (accent_read s d src v fit laid i h).number
+  accent_number i h = ap (number_at s) (up_to_get (accent_at v) (length v.accents) i h) ∙ (accent_read s d src v sheetable laid i h).number
 
   abbrev before : ℕ → ℕ
   before zero = 0
   before (suc i) = (get_or v.accents i absent_accent).number
 
   above : (i : ℕ) → i < length v.accents → before i < (get_or v.accents i absent_accent).number
-  above zero h = (fit.accents 0 h).least
-  above (suc i) h = fit.rising i (suc i) (omega arith) h
+  above zero h = (sheetable.accents 0 h).least
+  above (suc i) h = sheetable.rising i (suc i) (omega arith) h
 
   pub none_down : accent_down s st ≡ None
   unfolding accent_down
@@ -85,7 +85,7 @@ module _ (s : List ℕ) (d : Out SheetRead) (src : Source) (v : View) (fit : Vie
 
   -- ---- each row is the one due, and its numbers are in order
   tone_number : (i : ℕ) → i < length v.tones → number_at s (get_or (up_to tone_at (length v.tones)) i 0) ≡ (get_or v.tones i absent_tone).number
-  tone_number i h = ap (number_at s) (up_to_get tone_at (length v.tones) i h) ∙ (tone_read s d src v fit laid i h).number
+  tone_number i h = ap (number_at s) (up_to_get tone_at (length v.tones) i h) ∙ (tone_read s d src v sheetable laid i h).number
 
   prev_number_lem : (p : ℕ) → p ≤ length v.tones → prev_due s st p ≡ prev_number v.tones p
   prev_number_lem zero h = refl
@@ -94,8 +94,8 @@ module _ (s : List ℕ) (d : Out SheetRead) (src : Source) (v : View) (fit : Vie
   row_due_lem : (r : ℕ) → r < rows_of v → row_due s st r ≡ true
   unfolding row_due
   row_due_lem r h =
-      let w = row_read s d src v fit laid r h in
-      let p = places s d src v fit laid r h in
+      let w = row_read s d src v sheetable laid r h in
+      let p = places s d src v sheetable laid r h in
       let t = length v.tones in
       rw (
         up_to_length tone_at t,
@@ -107,7 +107,7 @@ module _ (s : List ℕ) (d : Out SheetRead) (src : Source) (v : View) (fit : Vie
         tone_number (tone_place t r) p.tone,
         prev_number_lem (prev_place t r) p.prev,
       )
-      (rw (eq-eqb _ _ (asks_accent s d src v fit laid r), eq-eqb _ _ (asks_tone s d src v fit laid r)) (eq-eqb _ _ (asks_prev s d src v fit laid r)))
+      (rw (eq-eqb _ _ (asks_accent s d src v sheetable laid r), eq-eqb _ _ (asks_tone s d src v sheetable laid r)) (eq-eqb _ _ (asks_prev s d src v sheetable laid r)))
 
   row_names_lem : (r : ℕ) → r < rows_of v → row_names s st r (length (so_far v r)) ≡ true
   unfolding row_names
@@ -147,8 +147,8 @@ module _ (s : List ℕ) (d : Out SheetRead) (src : Source) (v : View) (fit : Vie
       let b = list_at v lists j in
       let same = equal_bytes a b e in
       lists_once v i j h l
-      (sym (list_back s d src v fit laid i h) ∙ content_same s a b (byte_at s (a + 6)) same
-      ∙ ap (carried_from s b) (same 6 (omega arith) (omega arith)) ∙ list_back s d src v fit laid j l)
+      (sym (list_back s d src v sheetable laid i h) ∙ content_same s a b (byte_at s (a + 6)) same
+      ∙ ap (carried_from s b) (same 6 (omega arith) (omega arith)) ∙ list_back s d src v sheetable laid j l)
 
   none_repeated : (i : ℕ) → i < length lists → repeated s (up_to (list_at v lists) (length lists)) i (list_at v lists i) ≡ false
   unfolding repeated
@@ -162,7 +162,7 @@ module _ (s : List ℕ) (d : Out SheetRead) (src : Source) (v : View) (fit : Vie
   none_unordered =
       rw (up_to_length (list_at v lists) (length lists))
       (to_through (list_turn s st) (λ u. None) (λ i. 0) (length lists)
-      (λ i h. rw (up_to_get (list_at v lists) (length lists) i h, eq-eqb _ _ (list_head s d src v fit laid i h).number, list_named i h, none_repeated i h)))
+      (λ i h. rw (up_to_get (list_at v lists) (length lists) i h, eq-eqb _ _ (list_head s d src v sheetable laid i h).number, list_named i h, none_repeated i h)))
 
   pub nothing_found : (e : ℕ) → finished s st e ≡ loaded st e
   unfolding finished

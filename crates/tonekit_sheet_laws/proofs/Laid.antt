@@ -8,7 +8,7 @@ use Rattle.tonekit_sheet_laws.proofs.Place.{components_before, tone_at, accent_a
 use Rattle.tonekit_sheet.specs.Parts.{tone_piece, accent_piece, row_piece, list_piece}
 use Rattle.tonekit_bytes.proofs.Stands.{Stands, stands_at, stands_whole, stands_first, stands_then}
 use Rattle.tonekit_sheet_laws.proofs.Bytes.{piece_stands, even_stands, gather_next}
-use Rattle.tonekit_sheet_laws.proofs.Placed.{before_none}
+use Rattle.tonekit_sheet_laws.proofs.Offsets.{before_none}
 use Rattle.tonekit_sheet_laws.proofs.Records.{Ten, list_length}
 
 -- s has the records of this view, with these lists, in order

@@ -3,12 +3,12 @@ pub mod Loops
 pub mod Numbers
 pub mod FirstUse
 pub mod Bytes
-pub mod Placed
+pub mod Offsets
 pub mod Records
 pub mod Laid
 pub mod Ascending
 pub mod Asked
-pub mod Fitting
+pub mod Sheetables
 pub mod Turns
 pub mod Tones
 pub mod Accents

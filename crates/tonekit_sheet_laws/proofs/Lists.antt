@@ -10,19 +10,19 @@ use Rattle.tonekit_core.proofs.Split.{split}
 use Rattle.spec_lookup.specs.Source.{Carried, Source}
 use Rattle.spec_sheet.specs.Sheet.{View, absent_carried, rows_of, lists_of}
 use Rattle.spec_sheet.specs.Reader.{SheetRead, size_of, complete, due_next, list_crowded, list_fine, list_verdict, point_fine, points_fine, component_fine, component_verdict, body_verdict, added}
-use Rattle.tonekit_sheet.specs.Sheetable.{Bits, f32, ListFit}
+use Rattle.tonekit_sheet.specs.Sheetable.{Bits, f32, ListSheetable}
 use Rattle.tonekit_sheet_laws.proofs.Place.{up_to, components_before, accent_at, list_at, read_to, last_of}
 use Rattle.tonekit_sheet_laws.proofs.Loops.{range_all}
-use Rattle.tonekit_sheet_laws.proofs.Placed.{up_to_length, up_to_get, holds_one, before_next, before_below}
+use Rattle.tonekit_sheet_laws.proofs.Offsets.{up_to_length, up_to_get, holds_one, before_next, before_below}
 use Rattle.tonekit_sheet_laws.proofs.Records.{Ten, HeadThere, head_there, head_stands, ComponentThere, component_there, behind_head}
 use Rattle.tonekit_sheet_laws.proofs.Laid.{Laid}
-use Rattle.tonekit_sheet_laws.proofs.Fitting.{ViewFit}
+use Rattle.tonekit_sheet_laws.proofs.Sheetables.{ViewSheetable}
 use Rattle.tonekit_sheet_laws.proofs.Turns.{all_pass, Passes, Reach, stay, then, one_to}
 use Rattle.tonekit_sheet_laws.proofs.Accents.{accent_read}
 use Rattle.tonekit_sheet_laws.proofs.Rows.{rows_due_lem}
 
 -- ---- one list's head
-module _ (src : Source) (cs : List Carried) (f : ListFit src cs) where
+module _ (src : Source) (cs : List Carried) (f : ListSheetable src cs) where
   abbrev first : Carried
   first = get_or cs 0 absent_carried
 
@@ -54,7 +54,7 @@ module _ (s : List ℕ) (o : ℕ) (c : Carried) (w : ComponentThere s o c) where
   unfolding points_fine
   points_fine_lem h = range_all (λ k. point_fine (f32_at s (o + 5 + 4 * k))) 0 10 (omega arith) (λ k _ l. ap (λ (x : ℕ). point_fine (of_bits binary32 x)) (w.points k l) ∙ h k l)
 
-module _ (s : List ℕ) (d : Out SheetRead) (src : Source) (v : View) (fit : ViewFit src v) (laid : Laid s v (lists_of v)) where
+module _ (s : List ℕ) (d : Out SheetRead) (src : Source) (v : View) (sheetable : ViewSheetable src v) (laid : Laid s v (lists_of v)) where
   abbrev lists : List (List Carried)
   lists = lists_of v
 
@@ -63,12 +63,12 @@ module _ (s : List ℕ) (d : Out SheetRead) (src : Source) (v : View) (fit : Vie
   list i = get_or lists i []
 
   pub list_head : (i : ℕ) → i < length lists → HeadThere s (list_at v lists i) (i + 1) (get_or (list i) 0 absent_carried) (length (list i))
-  list_head i h = head_there s (list_at v lists i) (i + 1) (get_or (list i) 0 absent_carried) (length (list i)) (fit.lists i h).label (head_stands (i + 1) (list i) (laid.list i h))
+  list_head i h = head_there s (list_at v lists i) (i + 1) (get_or (list i) 0 absent_carried) (length (list i)) (sheetable.lists i h).label (head_stands (i + 1) (list i) (laid.list i h))
 
   pub list_component : (i : ℕ) → i < length lists → (j : ℕ) → j < length (list i) → ComponentThere s (list_at v lists i + 7 + 45 * j) (get_or (list i) j absent_carried)
   list_component i h j l =
-      let f = (fit.lists i h).each j l in
-      component_there (get_or (list i) j absent_carried) f.ten (weight_bits _ f.weight) f.points_bits (behind_head (i + 1) (list i) (ten src (list i) (fit.lists i h)) (laid.list i h) j l)
+      let f = (sheetable.lists i h).each j l in
+      component_there (get_or (list i) j absent_carried) f.ten (weight_bits _ f.weight) f.points_bits (behind_head (i + 1) (list i) (ten src (list i) (sheetable.lists i h)) (laid.list i h) j l)
 
   -- after all rows and i lists; after the head of list i and j of its components
   abbrev after : ℕ → SheetRead
@@ -79,26 +79,26 @@ module _ (s : List ℕ) (d : Out SheetRead) (src : Source) (v : View) (fit : Vie
 
   pub all_there : (i : ℕ) → complete (after i) ≡ true
   unfolding complete
-  all_there zero = eq-eqb (rows_of v) _ (sym (rows_due_lem s d src v fit laid 20 (rows_of v) 0 0 (components_before lists 0)))
+  all_there zero = eq-eqb (rows_of v) _ (sym (rows_due_lem s d src v sheetable laid 20 (rows_of v) 0 0 (components_before lists 0)))
   all_there (suc i) = refl
 
   owner_held : (i : ℕ) → i < length lists → holds s (up_to (accent_at v) (length v.accents)) (byte_at s (list_at v lists i + 2)) ≡ true
   owner_held i h =
-      let k = fit.owners i h in
-      holds_one s (accent_at v) (length v.accents) (byte_at s (list_at v lists i + 2)) k.0 k.1 ((accent_read s d src v fit laid k.0 k.1).number ∙ k.2 ∙ sym (list_head i h).owner)
+      let k = sheetable.owners i h in
+      holds_one s (accent_at v) (length v.accents) (byte_at s (list_at v lists i + 2)) k.0 k.1 ((accent_read s d src v sheetable laid k.0 k.1).number ∙ k.2 ∙ sym (list_head i h).owner)
 
   owner_some : (i : ℕ) → i < length lists → 1 ≤ (get_or (list i) 0 absent_carried).owner
-  owner_some i h = let k = fit.owners i h in omega (arith, k.2, (fit.accents k.0 k.1).least)
+  owner_some i h = let k = sheetable.owners i h in omega (arith, k.2, (sheetable.accents k.0 k.1).least)
 
   head_room : (i : ℕ) → i < length lists → list_crowded s (list_at v lists i) (after i) ≡ false
   head_room i h =
       let w = list_head i h in
-      rw (w.count, w.form) (crowded src (list i) (fit.lists i h) (length (up_to (list_at v lists) i)) (omega (arith, up_to_length (list_at v lists) i, fit.few_lists)))
+      rw (w.count, w.form) (crowded src (list i) (sheetable.lists i h) (length (up_to (list_at v lists) i)) (omega (arith, up_to_length (list_at v lists) i, sheetable.few_lists)))
 
   head_fine : (i : ℕ) → i < length lists → list_fine s (list_at v lists i) ≡ true
   head_fine i h =
       let w = list_head i h in
-      rw (w.number, w.owner, w.form, w.count, w.label) (fine src (list i) (fit.lists i h) (i + 1) (omega arith) (owner_some i h))
+      rw (w.number, w.owner, w.form, w.count, w.label) (fine src (list i) (sheetable.lists i h) (i + 1) (omega arith) (owner_some i h))
 
   head_pass : (i : ℕ) → i < length lists → Passes s (list_at v lists i) (after i) 21 7
   unfolding size_of due_next body_verdict list_verdict
@@ -131,21 +131,21 @@ module _ (s : List ℕ) (d : Out SheetRead) (src : Source) (v : View) (fit : Vie
   unit_weight : (i : ℕ) → i < length lists → (j : ℕ) → j < length (list i) → (eqb (get_or (list i) 0 absent_carried).form 3 || eqb (get_or (list i) j absent_carried).weight 0x3f80_0000) ≡ true
   unit_weight i h zero l =
       split (eqb (get_or (list i) 0 absent_carried).form 3) (λ e. rw e)
-      (λ e. rw (e, (fit.lists i h).unit (eqb-false (get_or (list i) 0 absent_carried).form 3 e)))
+      (λ e. rw (e, (sheetable.lists i h).unit (eqb-false (get_or (list i) 0 absent_carried).form 3 e)))
   unit_weight i h (suc j) l =
       split (eqb (get_or (list i) 0 absent_carried).form 3) (λ e. rw e)
-      (λ e. absurd (omega (arith, (fit.lists i h).lone (eqb-false (get_or (list i) 0 absent_carried).form 3 e))))
+      (λ e. absurd (omega (arith, (sheetable.lists i h).lone (eqb-false (get_or (list i) 0 absent_carried).form 3 e))))
 
   component_is_fine : (i : ℕ) → i < length lists → (j : ℕ) → j < length (list i) → component_fine s (list_at v lists i + 7 + 45 * j) (within i j) ≡ true
   component_is_fine i h j l =
       let o = list_at v lists i + 7 + 45 * j in
       let c = get_or (list i) j absent_carried in
-      let f = (fit.lists i h).each j l in
+      let f = (sheetable.lists i h).each j l in
       let w = list_component i h j l in
       rw (last_list_lem i j, (list_head i h).form, w.weight, f.weight, unit_weight i h j l) (points_fine_lem s o c w f.points)
 
   room_for : (i : ℕ) → i < length lists → (j : ℕ) → j < length (list i) → components_before lists i + j < 192
-  room_for i h j l = omega (arith, before_next lists i, before_below lists (length lists - (i + 1)) (i + 1) (omega arith), fit.few_components)
+  room_for i h j l = omega (arith, before_next lists i, before_below lists (length lists - (i + 1)) (i + 1) (omega arith), sheetable.few_components)
 
   due_component : (i j : ℕ) → j < length (list i) → due_next (within i j) 22 ≡ true
   unfolding due_next
@@ -188,7 +188,7 @@ module _ (s : List ℕ) (d : Out SheetRead) (src : Source) (v : View) (fit : Vie
       let n = length (list i) in
       let z : n - n ≡ 0 = omega arith in
       let a : list_at v lists i + 7 + 45 * n ≡ list_at v lists (suc i) = omega arith in
-      then (head_on i h) (rw (last_some n (fit.lists i h).any, z, a) at (components_on i h n (omega arith)))
+      then (head_on i h) (rw (last_some n (sheetable.lists i h).any, z, a) at (components_on i h n (omega arith)))
 
   lists_on : (n : ℕ) → n ≤ length lists → Reach s d (list_at v lists 0) (after 0) (list_at v lists n) (after n)
   lists_on zero h = stay s d (list_at v lists 0) (after 0)

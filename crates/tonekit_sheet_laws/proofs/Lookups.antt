@@ -20,10 +20,10 @@ use Rattle.spec_sheet.specs.FromSheet.{list_numbered, prev_found, look_placed}
 use Rattle.tonekit_sheet_laws.proofs.Place.{up_to, tone_at, accent_at, list_at, read_to}
 use Rattle.tonekit_sheet.specs.Parts.{row_place, final_place}
 use Rattle.tonekit_sheet_laws.proofs.FirstUse.{Listed, listed_first, listed_final}
-use Rattle.tonekit_sheet_laws.proofs.Placed.{up_to_length, up_to_get}
+use Rattle.tonekit_sheet_laws.proofs.Offsets.{up_to_length, up_to_get}
 use Rattle.tonekit_sheet.proofs.RowPlaces.{place_below}
 use Rattle.tonekit_sheet_laws.proofs.Laid.{Laid}
-use Rattle.tonekit_sheet_laws.proofs.Fitting.{ViewFit}
+use Rattle.tonekit_sheet_laws.proofs.Sheetables.{ViewSheetable}
 use Rattle.tonekit_sheet_laws.proofs.Tones.{tone_read}
 use Rattle.tonekit_sheet_laws.proofs.Accents.{accent_read}
 use Rattle.tonekit_sheet_laws.proofs.Content.{list_back}
@@ -55,7 +55,7 @@ pub record FoundAt (f : Found ℕ) (count : ℕ) (number : ℕ → ℕ) (n : ℕ
   pub there : at < count
   pub same : number at ≡ n
 
-module _ (s : List ℕ) (d : Out SheetRead) (src : Source) (v : View) (fit : ViewFit src v) (laid : Laid s v (lists_of v)) (last total : ℕ) where
+module _ (s : List ℕ) (d : Out SheetRead) (src : Source) (v : View) (sheetable : ViewSheetable src v) (laid : Laid s v (lists_of v)) (last total : ℕ) where
   abbrev lists : List (List Carried)
   lists = lists_of v
 
@@ -68,20 +68,20 @@ module _ (s : List ℕ) (d : Out SheetRead) (src : Source) (v : View) (fit : Vie
   accent_place_lem n m h e =
       let a = length v.accents in
       let os = up_to (accent_at v) a in
-      let f = index_is s os n m (rw (up_to_length (accent_at v) a) h) (ap (number_at s) (up_to_get (accent_at v) a m h) ∙ (accent_read s d src v fit laid m h).number ∙ e) in
+      let f = index_is s os n m (rw (up_to_length (accent_at v) a) h) (ap (number_at s) (up_to_get (accent_at v) a m h) ∙ (accent_read s d src v sheetable laid m h).number ∙ e) in
       let g = index_found s os n f.0 f.1 in
       let l : f.0 < a = omega (arith, g.inside, up_to_length (accent_at v) a) in
-      record { at = f.0; is = f.1; there = l; same = sym (accent_read s d src v fit laid f.0 l).number ∙ ap (number_at s) (sym (up_to_get (accent_at v) a f.0 l)) ∙ g.number }
+      record { at = f.0; is = f.1; there = l; same = sym (accent_read s d src v sheetable laid f.0 l).number ∙ ap (number_at s) (sym (up_to_get (accent_at v) a f.0 l)) ∙ g.number }
 
   pub tone_place_lem : (n m : ℕ) → m < length v.tones → (get_or v.tones m absent_tone).number ≡ n
       → FoundAt (index_of s (up_to tone_at (length v.tones)) n) (length v.tones) (λ i. (get_or v.tones i absent_tone).number) n
   tone_place_lem n m h e =
       let t = length v.tones in
       let os = up_to tone_at t in
-      let f = index_is s os n m (rw (up_to_length tone_at t) h) (ap (number_at s) (up_to_get tone_at t m h) ∙ (tone_read s d src v fit laid m h).number ∙ e) in
+      let f = index_is s os n m (rw (up_to_length tone_at t) h) (ap (number_at s) (up_to_get tone_at t m h) ∙ (tone_read s d src v sheetable laid m h).number ∙ e) in
       let g = index_found s os n f.0 f.1 in
       let l : f.0 < t = omega (arith, g.inside, up_to_length tone_at t) in
-      record { at = f.0; is = f.1; there = l; same = sym (tone_read s d src v fit laid f.0 l).number ∙ ap (number_at s) (sym (up_to_get tone_at t f.0 l)) ∙ g.number }
+      record { at = f.0; is = f.1; there = l; same = sym (tone_read s d src v sheetable laid f.0 l).number ∙ ap (number_at s) (sym (up_to_get tone_at t f.0 l)) ∙ g.number }
 
   -- none before, or a tone
   pub prev_none : (n : ℕ) → n ≡ 0 → FoundAt (prev_found s st n) (suc (length v.tones)) (prev_number v.tones) n
@@ -90,7 +90,7 @@ module _ (s : List ℕ) (d : Out SheetRead) (src : Source) (v : View) (fit : Vie
   pub prev_tone : (n m : ℕ) → m < length v.tones → (get_or v.tones m absent_tone).number ≡ n → FoundAt (prev_found s st n) (suc (length v.tones)) (prev_number v.tones) n
   prev_tone n m h e =
       let f = tone_place_lem n m h e in
-      let least = (fit.tones m h).least in
+      let least = (sheetable.tones m h).least in
       record { at = suc f.at; is = rw (ne_eqb n 0 (λ z. omega arith), f.is, add-one); there = omega (arith, f.there); same = f.same }
 
   -- ---- what a list number stands for
@@ -99,11 +99,11 @@ module _ (s : List ℕ) (d : Out SheetRead) (src : Source) (v : View) (fit : Vie
   numbered_back none l = refl
   numbered_back (some w) l =
       let i = place_in w lists in
-      rw (up_to_get (list_at v lists) (length lists) i l.below) (ap some (list_back s d src v fit laid i l.below ∙ l.gives w refl))
+      rw (up_to_get (list_at v lists) (length lists) i l.below) (ap some (list_back s d src v sheetable laid i l.below ∙ l.gives w refl))
 
   row_back : (r : ℕ) (final : Bool) → r < rows_of v → (c : Context) → c.last ≡ final → list_numbered s st (byte_at s (row_in st r + final_place c)) ≡ v.row r final
-  row_back r false h c e = rw (e, first_number s d src v fit laid last total r h) (numbered_back (v.row r false) (listed_first v r h))
-  row_back r true h c e = rw (e, final_number s d src v fit laid last total r h) (numbered_back (v.row r true) (listed_final v r h))
+  row_back r false h c e = rw (e, first_number s d src v sheetable laid last total r h) (numbered_back (v.row r false) (listed_first v r h))
+  row_back r true h c e = rw (e, final_number s d src v sheetable laid last total r h) (numbered_back (v.row r true) (listed_final v r h))
 
   -- the row of a context's places
   pub look_back : (c : Context) (a t p : ℕ) → a < length v.accents → t < length v.tones → p ≤ length v.tones

@@ -1,4 +1,4 @@
--- The sheet of a source that fits loads, and the reader has every record where it was written. Assumes nothing.
+-- The sheet of a source within its limits loads, and the reader has every record where it was written. Assumes nothing.
 use Rattle.std.proofs.Common.{ℕ, ◌+◌, ◌*◌, ◌≤◌, ◌≡◌, refl, sym, ap, ◌∙◌, subst, List, [], mul-pos, arith, length, get_or, le-ltb, Ok}
 use Rattle.tonekit_core.specs.declared.Refusal.TheVariants.{CutShort}
 use Rattle.spec_lookup.specs.Source.{Carried, Source}
@@ -8,9 +8,9 @@ use Rattle.spec_sheet.specs.Reader.{SheetRead, size_of, due_next, body_verdict, 
 use Rattle.tonekit_sheet.specs.Sheetable.{Sheetable}
 use Rattle.tonekit_sheet_laws.proofs.Place.{components_before, tone_at, accent_at, row_at, list_at, read_to, last_of, st_of_view, st_of}
 use Rattle.tonekit_bytes.proofs.Stands.{kind}
-use Rattle.tonekit_sheet_laws.proofs.Placed.{before_none, before_all}
+use Rattle.tonekit_sheet_laws.proofs.Offsets.{before_none, before_all}
 use Rattle.tonekit_sheet_laws.proofs.Laid.{Laid, laid}
-use Rattle.tonekit_sheet_laws.proofs.Fitting.{ViewFit, view_fit}
+use Rattle.tonekit_sheet_laws.proofs.Sheetables.{ViewSheetable, view_sheetable}
 use Rattle.tonekit_sheet_laws.proofs.Turns.{Passes, Reach, then, over}
 use Rattle.tonekit_sheet_laws.proofs.Tones.{through_tones}
 use Rattle.tonekit_sheet_laws.proofs.Accents.{through_accents}
@@ -22,7 +22,7 @@ use Rattle.tonekit_sheet_laws.proofs.Finished.{nothing_found}
 from : {s : List ℕ} {d : Out SheetRead} {a b : ℕ} {x y : SheetRead} (c : ℕ) (z : SheetRead) → Reach s d a x b y → a ≡ c → x ≡ z → Reach s d c z b y
 from {s} {d} {a} {b} {x} {y} c z r e f = subst (λ (w : SheetRead). Reach s d c w b y) f (subst (λ (n : ℕ). Reach s d n x b y) e r)
 
-module _ (s : List ℕ) (src : Source) (v : View) (fit : ViewFit src v) (laid : Laid s v (lists_of v)) where
+module _ (s : List ℕ) (src : Source) (v : View) (sheetable : ViewSheetable src v) (laid : Laid s v (lists_of v)) where
   abbrev lists : List (List Carried)
   lists = lists_of v
 
@@ -38,16 +38,16 @@ module _ (s : List ℕ) (src : Source) (v : View) (fit : ViewFit src v) (laid : 
   some_rows : 1 ≤ rows_of v
   some_rows =
       let t = length v.tones in
-      mul-pos {m = length v.accents} {n = t * (t + 1)} fit.some_accents (mul-pos {m = t} {n = t + 1} fit.some_tones (omega arith))
+      mul-pos {m = length v.accents} {n = t * (t + 1)} sheetable.some_accents (mul-pos {m = t} {n = t + 1} sheetable.some_tones (omega arith))
 
   through : Reach s d 0 sheet_reader.start.st end at_end
   through =
       let t = length v.tones in
       let a = length v.accents in
-      then (through_tones s d src v fit laid)
-      (then (from (tone_at t) (read_to v lists 18 t 0 0 0 0 0) (through_accents s d src v fit laid) (omega arith) refl)
-      (then (from (accent_at v a) (read_to v lists 19 t a 0 0 0 0) (through_rows s d src v fit laid some_rows) (omega arith) refl)
-      (from (row_at v (rows_of v)) (read_to v lists 20 t a (rows_of v) 0 0 0) (through_lists s d src v fit laid) (omega (arith, before_none lists)) (rw (before_none lists)))))
+      then (through_tones s d src v sheetable laid)
+      (then (from (tone_at t) (read_to v lists 18 t 0 0 0 0 0) (through_accents s d src v sheetable laid) (omega arith) refl)
+      (then (from (accent_at v a) (read_to v lists 19 t a 0 0 0 0) (through_rows s d src v sheetable laid some_rows) (omega arith) refl)
+      (from (row_at v (rows_of v)) (read_to v lists 20 t a (rows_of v) 0 0 0) (through_lists s d src v sheetable laid) (omega (arith, before_none lists)) (rw (before_none lists)))))
 
   end_pass : Passes s end at_end 23 1
   unfolding size_of due_next body_verdict
@@ -56,7 +56,7 @@ module _ (s : List ℕ) (src : Source) (v : View) (fit : ViewFit src v) (laid : 
     sized = refl;
     some = omega arith;
     whole = laid.finish.fits;
-    due = all_there s d src v fit laid (length lists);
+    due = all_there s d src v sheetable laid (length lists);
     body = refl;
   }
 
@@ -64,7 +64,7 @@ module _ (s : List ℕ) (src : Source) (v : View) (fit : ViewFit src v) (laid : 
   unfolding read_sheet
   reads =
       let r = through.go (length s + 1) (omega arith) in
-      r.2 ∙ over s d end at_end r.0 end_pass r.1 ∙ nothing_found s d src v fit laid _ _ (end + 1) ∙ ap (loaded at_end) (sym laid.size)
+      r.2 ∙ over s d end at_end r.0 end_pass r.1 ∙ nothing_found s d src v sheetable laid _ _ (end + 1) ∙ ap (loaded at_end) (sym laid.size)
 
   pub loads : load_sheet s ≡ loaded (st_of_view v lists) (length s)
   unfolding load_sheet st_of_view
@@ -73,13 +73,13 @@ module _ (s : List ℕ) (src : Source) (v : View) (fit : ViewFit src v) (laid : 
 -- where its records stand
 pub sheet_laid : (src : Source) → Sheetable src → Laid (sheet src) (view_of src) (lists_of (view_of src))
 unfolding sheet
-sheet_laid src fit = laid (view_of src) (lists_of (view_of src)) (λ i h. ten src (get_or (lists_of (view_of src)) i []) ((view_fit src fit).lists i h))
+sheet_laid src sheetable = laid (view_of src) (lists_of (view_of src)) (λ i h. ten src (get_or (lists_of (view_of src)) i []) ((view_sheetable src sheetable).lists i h))
 
 pub round : (src : Source) → Sheetable src → load_sheet (sheet src) ≡ loaded (st_of src) (length (sheet src))
 unfolding st_of
-round src fit = loads (sheet src) src (view_of src) (view_fit src fit) (sheet_laid src fit)
+round src sheetable = loads (sheet src) src (view_of src) (view_sheetable src sheetable) (sheet_laid src sheetable)
 
 -- so it loads
 pub sheet_loads : (src : Source) → Sheetable src → check_sheet (sheet src) ≡ Ok tt
 unfolding check_sheet
-sheet_loads src fit = rw (round src fit)
+sheet_loads src sheetable = rw (round src sheetable)

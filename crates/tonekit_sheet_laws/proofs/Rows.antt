@@ -10,16 +10,16 @@ use Rattle.spec_sheet.specs.Sheet.{View, absent_accent, accent_place, tone_place
 use Rattle.spec_sheet.specs.Reader.{SheetRead, size_of, due_next, rows_due, row_verdict, body_verdict, added}
 use Rattle.tonekit_sheet_laws.proofs.Place.{up_to, tone_at, accent_at, row_at, read_to, last_of}
 use Rattle.tonekit_sheet.specs.Parts.{row_fine, row_held}
-use Rattle.tonekit_sheet_laws.proofs.Placed.{up_to_length, holds_one, zero_or_one, zero_or_zero}
+use Rattle.tonekit_sheet_laws.proofs.Offsets.{up_to_length, holds_one, zero_or_one, zero_or_zero}
 use Rattle.tonekit_sheet_laws.proofs.Records.{RowThere, row_there}
 use Rattle.tonekit_sheet_laws.proofs.Laid.{Laid}
 use Rattle.tonekit_sheet.proofs.RowPlaces.{Places, row_places}
-use Rattle.tonekit_sheet_laws.proofs.Fitting.{ViewFit}
+use Rattle.tonekit_sheet_laws.proofs.Sheetables.{ViewSheetable}
 use Rattle.tonekit_sheet_laws.proofs.Turns.{all_pass, Passes, Reach, stay, then, one_to}
 use Rattle.tonekit_sheet_laws.proofs.Tones.{tone_read}
 use Rattle.tonekit_sheet_laws.proofs.Accents.{accent_read}
 
-module _ (s : List ℕ) (d : Out SheetRead) (src : Source) (v : View) (fit : ViewFit src v) (laid : Laid s v (lists_of v)) where
+module _ (s : List ℕ) (d : Out SheetRead) (src : Source) (v : View) (sheetable : ViewSheetable src v) (laid : Laid s v (lists_of v)) where
   -- the context of row r
   abbrev pub asks : ℕ → Context
   asks r = row_context v.tones v.accents r false
@@ -28,7 +28,7 @@ module _ (s : List ℕ) (d : Out SheetRead) (src : Source) (v : View) (fit : Vie
   row_read r h = row_there s (row_at v r) (asks r) (number_in (lists_of v) (v.row r false)) (number_in (lists_of v) (v.row r true)) (laid.row r h)
 
   pub places : (r : ℕ) → r < rows_of v → Places (length v.accents) (length v.tones) r
-  places r h = row_places (length v.accents) (length v.tones) r fit.some_tones h
+  places r h = row_places (length v.accents) (length v.tones) r sheetable.some_tones h
 
   -- what a row has at its place
   pub asks_accent : (r : ℕ) → (asks r).accent ≡ (get_or v.accents (accent_place (length v.tones) r) absent_accent).number
@@ -59,13 +59,13 @@ module _ (s : List ℕ) (d : Out SheetRead) (src : Source) (v : View) (fit : Vie
   row_fine_lem r h =
       let w = row_read r h in
       let p = places r h in
-      let a = (fit.accents (accent_place (length v.tones) r) p.accent).least in
-      let t = (fit.tones (tone_place (length v.tones) r) p.tone).least in
+      let a = (sheetable.accents (accent_place (length v.tones) r) p.accent).least in
+      let t = (sheetable.tones (tone_place (length v.tones) r) p.tone).least in
       rw (w.accent, w.tone, ne_eqb (asks r).accent 0 (λ e. omega (arith, asks_accent r)), ne_eqb (asks r).tone 0 (λ e. omega (arith, asks_tone r)))
 
   prev_held : (x p : ℕ) → p ≤ length v.tones → x ≡ prev_number v.tones p → zero_or_held s (up_to tone_at (length v.tones)) x ≡ true
   prev_held x zero h e = zero_or_zero s tone_at (length v.tones) x e
-  prev_held x (suc p) h e = zero_or_one s tone_at (length v.tones) x p h ((tone_read s d src v fit laid p h).number ∙ sym e)
+  prev_held x (suc p) h e = zero_or_one s tone_at (length v.tones) x p h ((tone_read s d src v sheetable laid p h).number ∙ sym e)
 
   row_held_lem : (r : ℕ) → r < rows_of v → row_held s (row_at v r) (after r) ≡ true
   row_held_lem r h =
@@ -74,8 +74,8 @@ module _ (s : List ℕ) (d : Out SheetRead) (src : Source) (v : View) (fit : Vie
       let a = accent_place (length v.tones) r in
       let t = tone_place (length v.tones) r in
       rw (
-        holds_one s (accent_at v) (length v.accents) (byte_at s (row_at v r + 1)) a p.accent ((accent_read s d src v fit laid a p.accent).number ∙ sym (asks_accent r) ∙ sym w.accent),
-        holds_one s tone_at (length v.tones) (byte_at s (row_at v r + 2)) t p.tone ((tone_read s d src v fit laid t p.tone).number ∙ sym (asks_tone r) ∙ sym w.tone),
+        holds_one s (accent_at v) (length v.accents) (byte_at s (row_at v r + 1)) a p.accent ((accent_read s d src v sheetable laid a p.accent).number ∙ sym (asks_accent r) ∙ sym w.accent),
+        holds_one s tone_at (length v.tones) (byte_at s (row_at v r + 2)) t p.tone ((tone_read s d src v sheetable laid t p.tone).number ∙ sym (asks_tone r) ∙ sym w.tone),
       )
       (prev_held (byte_at s (row_at v r + 3)) (prev_place (length v.tones) r) p.prev (w.prev ∙ asks_prev r))
 

@@ -8,33 +8,33 @@ use Rattle.spec_pack.specs.Pack.{holds, settings_verdict}
 use Rattle.spec_lookup.specs.Source.{Tone, Source, absent_tone}
 use Rattle.spec_sheet.specs.Sheet.{View, lists_of}
 use Rattle.spec_sheet.specs.Reader.{SheetRead, size_of, due_next, tone_fine, tone_verdict, body_verdict, added, sheet_reader}
-use Rattle.tonekit_sheet.specs.Sheetable.{ToneFit, region_fits}
+use Rattle.tonekit_sheet.specs.Sheetable.{ToneSheetable, region_sheetable}
 use Rattle.tonekit_sheet_laws.proofs.Place.{up_to, tone_at, read_to, last_of}
-use Rattle.tonekit_sheet_laws.proofs.Placed.{up_to_length, holds_none}
+use Rattle.tonekit_sheet_laws.proofs.Offsets.{up_to_length, holds_none}
 use Rattle.tonekit_sheet_laws.proofs.Records.{SettingsThere, settings_there, ToneThere, tone_there}
 use Rattle.tonekit_sheet_laws.proofs.Laid.{Laid}
-use Rattle.tonekit_sheet_laws.proofs.Fitting.{ViewFit}
+use Rattle.tonekit_sheet_laws.proofs.Sheetables.{ViewSheetable}
 use Rattle.tonekit_sheet_laws.proofs.Turns.{all_pass, Passes, Reach, stay, then, one_to}
 
 -- ---- one tone
-region_there : (s : List ℕ) (o : ℕ) (t : Tone) → ToneThere s o t → region_fine s (o + 6) ≡ region_fits t
+region_there : (s : List ℕ) (o : ℕ) (t : Tone) → ToneThere s o t → region_fine s (o + 6) ≡ region_sheetable t
 unfolding region_fine
 region_there s o t w =
     let a : o + 6 + 1 ≡ o + 7 = omega arith in
     let b : o + 6 + 5 ≡ o + 11 = omega arith in
     rw (a, b, w.flag, w.from, w.to)
 
-tone_fine_lem : (s : List ℕ) (o : ℕ) (t : Tone) → ToneThere s o t → ToneFit t → tone_fine s o ≡ true
+tone_fine_lem : (s : List ℕ) (o : ℕ) (t : Tone) → ToneThere s o t → ToneSheetable t → tone_fine s o ≡ true
 tone_fine_lem s o t w f =
     rw (region_there s o t w, w.number, w.prior, ne_eqb t.number 0 (λ e. omega (arith, f.least)), f.prior) f.region
 
-module _ (s : List ℕ) (d : Out SheetRead) (src : Source) (v : View) (fit : ViewFit src v) (laid : Laid s v (lists_of v)) where
+module _ (s : List ℕ) (d : Out SheetRead) (src : Source) (v : View) (sheetable : ViewSheetable src v) (laid : Laid s v (lists_of v)) where
   pub settings_read : SettingsThere s 0 v.settings
-  settings_read = settings_there s 0 v.settings fit.settings.temperature_bits fit.settings.threshold_bits laid.settings
+  settings_read = settings_there s 0 v.settings sheetable.settings.temperature_bits sheetable.settings.threshold_bits laid.settings
 
   pub tone_read : (i : ℕ) → i < length v.tones → ToneThere s (tone_at i) (get_or v.tones i absent_tone)
   tone_read i h =
-      let f = fit.tones i h in
+      let f = sheetable.tones i h in
       tone_there s (tone_at i) (get_or v.tones i absent_tone) f.prior_bits f.from_bits f.to_bits (laid.tone i h)
 
   -- before any record, and after i tones
@@ -51,7 +51,7 @@ module _ (s : List ℕ) (d : Out SheetRead) (src : Source) (v : View) (fit : Vie
         some = omega arith;
         whole = w.whole;
         due = refl;
-        body = rw (w.temperature, w.threshold, fit.settings.temperature, fit.settings.threshold);
+        body = rw (w.temperature, w.threshold, sheetable.settings.temperature, sheetable.settings.threshold);
       }
 
   settings_on : Reach s d 0 sheet_reader.start.st 9 (after 0)
@@ -66,7 +66,7 @@ module _ (s : List ℕ) (d : Out SheetRead) (src : Source) (v : View) (fit : Vie
   tone_new : (i : ℕ) → i < length v.tones → not (holds s (up_to tone_at i) (number_at s (tone_at i))) ≡ true
   tone_new i h =
       rw (holds_none s tone_at i (number_at s (tone_at i))
-      (λ j l e. let q : j ≡ i = fit.tones_once j i (omega arith) h (sym (tone_read j (omega arith)).number ∙ e ∙ (tone_read i h).number) in omega arith))
+      (λ j l e. let q : j ≡ i = sheetable.tones_once j i (omega arith) h (sym (tone_read j (omega arith)).number ∙ e ∙ (tone_read i h).number) in omega arith))
 
   tone_pass : (i : ℕ) → i < length v.tones → Passes s (tone_at i) (after i) 18 15
   unfolding size_of body_verdict tone_verdict
@@ -80,8 +80,8 @@ module _ (s : List ℕ) (d : Out SheetRead) (src : Source) (v : View) (fit : Vie
         due = due_tone i;
         body =
             all_pass (leb 8 (length (up_to tone_at i))) (tone_fine s (tone_at i)) (not (holds s (up_to tone_at i) (number_at s (tone_at i)))) true
-            (lt-leb 8 (length (up_to tone_at i)) (omega (arith, up_to_length tone_at i, fit.few_tones)))
-            (tone_fine_lem s (tone_at i) (get_or v.tones i absent_tone) w (fit.tones i h)) (tone_new i h) refl;
+            (lt-leb 8 (length (up_to tone_at i)) (omega (arith, up_to_length tone_at i, sheetable.few_tones)))
+            (tone_fine_lem s (tone_at i) (get_or v.tones i absent_tone) w (sheetable.tones i h)) (tone_new i h) refl;
       }
 
   tone_on : (i : ℕ) → i < length v.tones → Reach s d (tone_at i) (after i) (tone_at (suc i)) (after (suc i))
@@ -98,4 +98,4 @@ module _ (s : List ℕ) (d : Out SheetRead) (src : Source) (v : View) (fit : Vie
 
   -- all of them
   pub through_tones : Reach s d 0 sheet_reader.start.st (tone_at (length v.tones)) (read_to v (lists_of v) 18 (length v.tones) 0 0 0 0 0)
-  through_tones = then settings_on (rw (last_some (length v.tones) fit.some_tones) at (tones_on (length v.tones) (omega arith)))
+  through_tones = then settings_on (rw (last_some (length v.tones) sheetable.some_tones) at (tones_on (length v.tones) (omega arith)))

@@ -2,7 +2,7 @@
 use Rattle.std.proofs.Common.{◌≡◌, length, rules}
 use Rattle.tonekit_core.specs.declared.layout.TheConstants.{SHAPE_SIZE}
 use Rattle.tonekit_report.proofs.Told.{tells}
-use Rattle.tonekit_output.proofs.Fits.{shape_fits}
+use Rattle.tonekit_output.proofs.Rooms.{shape_fits}
 use Rattle.tonekit_output.proofs.shape_output.Goals as goal
 
 pub returns : goal.returns

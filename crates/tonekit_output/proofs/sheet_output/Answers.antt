@@ -2,7 +2,7 @@
 use Rattle.std.proofs.Common.{◌≡◌, length, rules}
 use Rattle.tonekit_core.specs.declared.layout.TheConstants.{SHEET_MOST}
 use Rattle.tonekit_report.proofs.Told.{tells}
-use Rattle.tonekit_output.proofs.Fits.{sheet_fits}
+use Rattle.tonekit_output.proofs.Rooms.{sheet_fits}
 use Rattle.tonekit_output.proofs.sheet_output.Goals as goal
 
 pub returns : goal.returns

@@ -2,7 +2,7 @@
 use Rattle.std.proofs.Common.{rules, ◌≡◌, length}
 use Rattle.tonekit_core.specs.declared.layout.TheConstants.{JUDGEMENT_SIZE}
 use Rattle.tonekit_report.proofs.Told.{tells}
-use Rattle.tonekit_station_output.proofs.Fits.{judgement_fits}
+use Rattle.tonekit_station_output.proofs.Rooms.{judgement_fits}
 use Rattle.tonekit_station_output.proofs.output.Goals as goal
 
 pub returns : goal.returns

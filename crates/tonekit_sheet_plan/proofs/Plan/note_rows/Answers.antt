@@ -5,7 +5,7 @@ use Rattle.tonekit_bytes.proofs.InOrder.{order_length}
 use Rattle.spec_pack.specs.Pack.{read_pack}
 use Rattle.tonekit_pack.specs.Held.{records_of}
 use Rattle.tonekit_sheet.specs.Parts.{note_turn}
-use Rattle.tonekit_sheet_fit.proofs.Fits.{few_lists}
+use Rattle.tonekit_sheet_limits.proofs.OfPack.{few_lists}
 use Rattle.tonekit_sheet_plan.specs.Rows.{pack_view, end_of}
 use Rattle.tonekit_sheet_plan.specs.Plans.{planned_by}
 use Rattle.tonekit_sheet_plan.proofs.Views.{turn_room, lists_begun}

@@ -18,10 +18,10 @@ use Rattle.tonekit_expect.proofs.Curves.{points_fine_lem}
 use Rattle.tonekit_expect.proofs.Carried.{named, part_number, citation_weight, components_length, components_at, carried_ten}
 use Rattle.spec_sheet.specs.Agree.{Bytes}
 use Rattle.spec_sheet.specs.Sheet.{absent_carried}
-use Rattle.tonekit_sheet.specs.Sheetable.{CarriedFit, ListFit}
-use Rattle.tonekit_sheet_fit.proofs.Bits.{weight_again, carried_bits, carried_fine}
-use Rattle.tonekit_sheet_fit.proofs.Drawn.{Drawn, ruled, cited, accent_of, list_of, drawn}
-use Rattle.tonekit_sheet_fit.proofs.Held.{accent_there}
+use Rattle.tonekit_sheet.specs.Sheetable.{CarriedSheetable, ListSheetable}
+use Rattle.tonekit_sheet_limits.proofs.Bits.{weight_again, carried_bits, carried_fine}
+use Rattle.tonekit_sheet_limits.proofs.Drawn.{Drawn, ruled, cited, accent_of, list_of, drawn}
+use Rattle.tonekit_sheet_limits.proofs.Held.{accent_there}
 
 -- ---- what a listing shows of its components
 record Fine (s accents : List ℕ) (m : Listing) : Type 0 where
@@ -93,8 +93,8 @@ module _ (s : List ℕ) (b : Bytes s) (st : PackRead) (e : ℕ) (p : read_pack s
     at : (j : ℕ) → j < m.count → get_or (list_of s m) j absent_carried ≡ carried (component_of s m j)
     at j h = components_at s m absent_carried m.count j h
 
-    carried_fits : (j : ℕ) → j < m.count → CarriedFit (carried (component_of s m 0)) j (carried (component_of s m j))
-    carried_fits j h =
+    carried_sheetable : (j : ℕ) → j < m.count → CarriedSheetable (carried (component_of s m 0)) j (carried (component_of s m j))
+    carried_sheetable j h =
         let n = named s m j in
         let z = named s m 0 in
         record {
@@ -108,9 +108,9 @@ module _ (s : List ℕ) (b : Bytes s) (st : PackRead) (e : ℕ) (p : read_pack s
           points = λ k g. carried_fine s m j k g (points_fine_lem s st e p c m j q h k g);
         }
 
-    list_fits : ListFit (source_of_pack s st) (list_of s m)
+    list_sheetable : ListSheetable (source_of_pack s st) (list_of s m)
     unfolding source_of_pack
-    list_fits =
+    list_sheetable =
         let f = fine in
         let n = components_length s m m.count in
         let z = named s m 0 in
@@ -118,7 +118,7 @@ module _ (s : List ℕ) (b : Bytes s) (st : PackRead) (e : ℕ) (p : read_pack s
         record {
           any = omega (arith, f.any);
           few = omega (arith, f.few);
-          each = λ j h. let g : j < m.count = omega arith in rw (first, at j g) (carried_fits j g);
+          each = λ j h. let g : j < m.count = omega arith in rw (first, at j g) (carried_sheetable j g);
           owner = rw (first, z.owner) f.owner;
           least = rw (first, z.form) f.least;
           most = rw (first, z.form) f.most;
@@ -128,10 +128,10 @@ module _ (s : List ℕ) (b : Bytes s) (st : PackRead) (e : ℕ) (p : read_pack s
           unit = rw (first, z.form) f.unit;
         }
 
-  of_look : (o : Option Listing) (cs : List Carried) → look_up s st c ≡ o → carried_of s o ≡ some cs → ListFit (source_of_pack s st) cs
+  of_look : (o : Option Listing) (cs : List Carried) → look_up s st c ≡ o → carried_of s o ≡ some cs → ListSheetable (source_of_pack s st) cs
   of_look None cs q g = let z : ◌≡◌ {A = ℕ} 0 1 = cc in absurd (omega arith)
-  of_look (Some m) cs q g = let h : list_of s m ≡ cs = cc in subst (ListFit (source_of_pack s st)) h (list_fits m q)
+  of_look (Some m) cs q g = let h : list_of s m ≡ cs = cc in subst (ListSheetable (source_of_pack s st)) h (list_sheetable m q)
 
-  pub lists_fit : (cs : List Carried) → (source_of_pack s st).look c ≡ some cs → ListFit (source_of_pack s st) cs
+  pub lists_sheetable : (cs : List Carried) → (source_of_pack s st).look c ≡ some cs → ListSheetable (source_of_pack s st) cs
   unfolding source_of_pack
-  lists_fit cs h = of_look (look_up s st c) cs refl h
+  lists_sheetable cs h = of_look (look_up s st c) cs refl h

@@ -13,30 +13,30 @@ use Rattle.tonekit_pack.proofs.Loads.{ToneFine, AccentFine, Loads, tones_once, a
 use Rattle.spec_lookup.specs.Source.{Tone, Accent, settings_at, tone_at, accent_at, accent_in, absent_tone}
 use Rattle.spec_sheet.specs.Agree.{Bytes}
 use Rattle.spec_sheet.specs.Sheet.{absent_accent}
-use Rattle.tonekit_sheet.specs.Sheetable.{SettingsFit, region_fits, ToneFit, AccentFit}
+use Rattle.tonekit_sheet.specs.Sheetable.{SettingsSheetable, region_sheetable, ToneSheetable, AccentSheetable}
 
 module _ (s : List ℕ) (b : Bytes s) where
-  region_fits_lem : (o : ℕ) → region_fine s (o + 47) ≡ true → region_fits (tone_at 47 s o) ≡ true
+  region_sheetable_lem : (o : ℕ) → region_fine s (o + 47) ≡ true → region_sheetable (tone_at 47 s o) ≡ true
   unfolding region_fine
-  region_fits_lem o h =
+  region_sheetable_lem o h =
       let p : o + 47 + 1 ≡ o + 48 = omega arith in
       let q : o + 47 + 5 ≡ o + 52 = omega arith in
       rw (p, q) at h
 
-  tone_fits : (before : List ℕ) (o : ℕ) → ToneFine s before o → ToneFit (tone_at 47 s o)
-  tone_fits before o t = record {
+  tone_sheetable : (before : List ℕ) (o : ℕ) → ToneFine s before o → ToneSheetable (tone_at 47 s o)
+  tone_sheetable before o t = record {
     least = t.number;
     byte = b (o + 1);
     prior_bits = u32_below s b (o + 2);
     prior = t.prior;
     from_bits = u32_below s b (o + 48);
     to_bits = u32_below s b (o + 52);
-    region = region_fits_lem o t.region;
+    region = region_sheetable_lem o t.region;
   }
 
-  accent_fits : (before : List ℕ) (o : ℕ) → AccentFine s before o → AccentFit (accent_at 3 s o)
+  accent_sheetable : (before : List ℕ) (o : ℕ) → AccentFine s before o → AccentSheetable (accent_at 3 s o)
   unfolding tolerances_fine
-  accent_fits before o a =
+  accent_sheetable before o a =
       let p : o + 3 + 4 ≡ o + 7 = omega arith in
       let q : o + 3 + 8 ≡ o + 11 = omega arith in
       let r : o + 3 + 12 ≡ o + 15 = omega arith in
@@ -57,20 +57,20 @@ module _ (s : List ℕ) (b : Bytes s) where
       }
 
   module _ (st : PackRead) (e : ℕ) (l : Loads s st e) where
-    pub settings_fit : SettingsFit (settings_at s 0)
-    settings_fit =
+    pub settings_sheetable : SettingsSheetable (settings_at s 0)
+    settings_sheetable =
         let t = l.kept.begun (omega arith) in
         record { temperature_bits = u32_below s b 1; threshold_bits = u32_below s b 5; temperature = t.1; threshold = t.2 }
 
-    pub tones_fit : (i : ℕ) → i < length (map (tone_at 47 s) st.tones) → ToneFit (get_or (map (tone_at 47 s) st.tones) i absent_tone)
-    tones_fit i h =
+    pub tones_sheetable : (i : ℕ) → i < length (map (tone_at 47 s) st.tones) → ToneSheetable (get_or (map (tone_at 47 s) st.tones) i absent_tone)
+    tones_sheetable i h =
         let g : i < length st.tones = omega (arith, length-map st.tones (tone_at 47 s)) in
-        rw (get_or-map (tone_at 47 s) st.tones i 0 absent_tone g) (tone_fits _ (get_or st.tones i 0) (l.kept.tones i g))
+        rw (get_or-map (tone_at 47 s) st.tones i 0 absent_tone g) (tone_sheetable _ (get_or st.tones i 0) (l.kept.tones i g))
 
-    pub accents_fit : (i : ℕ) → i < length (map (accent_at 3 s) st.accents) → AccentFit (get_or (map (accent_at 3 s) st.accents) i absent_accent)
-    accents_fit i h =
+    pub accents_sheetable : (i : ℕ) → i < length (map (accent_at 3 s) st.accents) → AccentSheetable (get_or (map (accent_at 3 s) st.accents) i absent_accent)
+    accents_sheetable i h =
         let g : i < length st.accents = omega (arith, length-map st.accents (accent_at 3 s)) in
-        rw (get_or-map (accent_at 3 s) st.accents i 0 absent_accent g) (accent_fits _ (get_or st.accents i 0) (l.kept.accents i g))
+        rw (get_or-map (accent_at 3 s) st.accents i 0 absent_accent g) (accent_sheetable _ (get_or st.accents i 0) (l.kept.accents i g))
 
 -- no two places of which the higher repeats the lower
 apart : (n : ℕ) (f : ℕ → ℕ) → ((i j : ℕ) → i < j → j < n → f i ≡ f j → ⊥) → (i j : ℕ) → i < n → j < n → f i ≡ f j → i ≡ j

@@ -14,7 +14,7 @@ use Rattle.spec_shape.specs.declared.Extent.{Extent}
 use Rattle.spec_arithmetic.specs.Files.{Out, loaded, refused}
 use Rattle.spec_pack.specs.Pack.{PackRead, load_pack}
 use Rattle.tonekit_pack.proofs.Single.{loads_alone}
-use Rattle.tonekit_sheet_fit.proofs.Size.{suffices}
+use Rattle.tonekit_sheet_limits.proofs.Size.{suffices}
 use Rattle.spec_sheet.specs.Outcome.{sheet_of, sheet_outcome}
 
 -- ---- the shape record

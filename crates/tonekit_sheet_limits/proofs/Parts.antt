@@ -11,7 +11,7 @@ use Rattle.tonekit_pack.proofs.Records.{Due, settings, tone, accent, rule, part,
 use Rattle.tonekit_pack.proofs.Loads.{loads, parts_miss}
 use Rattle.tonekit_expect.proofs.Parts.{parts_hit}
 use Rattle.tonekit_bytes.proofs.Files.{read_keeps, same_loaded}
-use Rattle.tonekit_sheet_fit.proofs.Budget.{sum_to, sum_same}
+use Rattle.tonekit_sheet_limits.proofs.Budget.{sum_to, sum_same}
 
 -- the parts of rule k, and of all rules
 abbrev pub parts_of : List ℕ → List ℕ → ℕ → ℕ

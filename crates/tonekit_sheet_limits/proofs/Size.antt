@@ -15,12 +15,12 @@ use Rattle.tonekit_sheet.proofs.Gather.{gather_length}
 use Rattle.spec_sheet.specs.Sheet.{or_skip, asc_from, ascending, View, rows_of, view_of, lists_of, bits_bytes, components_bytes, bytes_with, sheet}
 use Rattle.tonekit_sheet.proofs.Components.{component_length, components_snoc}
 use Rattle.tonekit_sheet.specs.Parts.{bytes_of, tone_piece, accent_piece, row_piece, list_piece, component_bytes}
-use Rattle.tonekit_sheet_fit.specs.Room.{Suffices}
-use Rattle.tonekit_sheet_fit.proofs.Budget.{sum_scaled, weigh}
+use Rattle.tonekit_sheet_limits.specs.Room.{Suffices}
+use Rattle.tonekit_sheet_limits.proofs.Budget.{sum_scaled, weigh}
 use Rattle.tonekit_expect.proofs.Carried.{carried_ten}
-use Rattle.tonekit_sheet_fit.proofs.Drawn.{rule_of, citation_of}
-use Rattle.tonekit_sheet_fit.proofs.Parts.{parts_of, few_parts}
-use Rattle.tonekit_sheet_fit.proofs.Fits.{rule_list, citation_list, within}
+use Rattle.tonekit_sheet_limits.proofs.Drawn.{rule_of, citation_of}
+use Rattle.tonekit_sheet_limits.proofs.Parts.{parts_of, few_parts}
+use Rattle.tonekit_sheet_limits.proofs.OfPack.{rule_list, citation_list, within}
 
 -- ---- no more accents in order than are held
 unfoldable one_of : Option Accent → ℕ

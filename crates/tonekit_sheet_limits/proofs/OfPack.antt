@@ -1,4 +1,4 @@
--- Every pack that loads gives a source that fits a sheet (`fit_of_pack`).
+-- Every pack that loads gives a source within the limits of a sheet (`sheetable_of_pack`).
 use Rattle.std.specs.Prelude.{Option}
 use Rattle.std.proofs.Common.{ℕ, ◌+◌, ◌*◌, ◌/◌, ◌%◌, ◌≤◌, ◌≡◌, refl, ap, subst, inl, inr, List, [], ◌∷◌, arith, length}
 use mathlib.Core.Option.{some}
@@ -15,11 +15,11 @@ use Rattle.tonekit_expect.proofs.Carried.{components_length}
 use Rattle.spec_sheet.specs.Agree.{Bytes}
 use Rattle.spec_sheet.specs.Sheet.{view_of, lists_of}
 use Rattle.tonekit_sheet.specs.Sheetable.{components_in, Sheetable}
-use Rattle.tonekit_sheet_fit.proofs.Budget.{sum_same, sum_scaled, weigh, Pooled, whole, budget}
-use Rattle.tonekit_sheet_fit.proofs.Drawn.{Drawn, ruled, cited, rule_of, citation_of, list_of, drawn}
-use Rattle.tonekit_sheet_fit.proofs.Parts.{parts_of, few_parts}
-use Rattle.tonekit_sheet_fit.proofs.Held.{settings_fit, tones_fit, tones_apart, accents_fit, accents_apart}
-use Rattle.tonekit_sheet_fit.proofs.Lists.{lists_fit}
+use Rattle.tonekit_sheet_limits.proofs.Budget.{sum_same, sum_scaled, weigh, Pooled, whole, budget}
+use Rattle.tonekit_sheet_limits.proofs.Drawn.{Drawn, ruled, cited, rule_of, citation_of, list_of, drawn}
+use Rattle.tonekit_sheet_limits.proofs.Parts.{parts_of, few_parts}
+use Rattle.tonekit_sheet_limits.proofs.Held.{settings_sheetable, tones_sheetable, tones_apart, accents_sheetable, accents_apart}
+use Rattle.tonekit_sheet_limits.proofs.Lists.{lists_sheetable}
 
 -- ---- the lists that a lookup can give: one for each rule, and one for each accent and tone
 abbrev pub rule_list : List ℕ → PackRead → ℕ → List Carried
@@ -89,23 +89,23 @@ module _ (s : List ℕ) (st : PackRead) (e : ℕ) (p : read_pack s ≡ loaded st
       )
 
 -- ---- together
-pub fit_of_pack : (s : List ℕ) → Bytes s → (st : PackRead) (e : ℕ) → read_pack s ≡ loaded st e → Sheetable (source_of_pack s st)
+pub sheetable_of_pack : (s : List ℕ) → Bytes s → (st : PackRead) (e : ℕ) → read_pack s ≡ loaded st e → Sheetable (source_of_pack s st)
 unfolding source_of_pack
-fit_of_pack s b st e p =
+sheetable_of_pack s b st e p =
     let l = loads s st e p in
     let t = length-map st.tones (tone_at 47 s) in
     let a = length-map st.accents (accent_at 3 s) in
     record {
-      settings = settings_fit s b st e l;
+      settings = settings_sheetable s b st e l;
       some_tones = omega (arith, some_tones s st e l);
       few_tones = omega (arith, l.kept.few_tones);
-      tones = tones_fit s b st e l;
+      tones = tones_sheetable s b st e l;
       tones_once = tones_apart s st e l;
       some_accents = omega (arith, some_accents s st e l);
       few_accents = omega (arith, l.kept.few_accents);
-      accents = accents_fit s b st e l;
+      accents = accents_sheetable s b st e l;
       accents_once = accents_apart s st e l;
-      lists = λ c cs h q. lists_fit s b st e p c cs q;
+      lists = λ c cs h q. lists_sheetable s b st e p c cs q;
       few_lists = few_lists s st e p;
       few_components = few_components s st e p;
     }

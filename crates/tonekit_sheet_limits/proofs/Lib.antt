@@ -4,5 +4,5 @@ pub mod Drawn
 pub mod Parts
 pub mod Held
 pub mod Lists
-pub mod Fits
+pub mod OfPack
 pub mod Size
