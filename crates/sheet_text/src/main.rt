@@ -3,16 +3,17 @@
 // describes the text.
 #![tactic(auto)]
 
-mod page;
+mod record;
 mod tables;
 
-use crate::page::{Page, Record};
+use crate::record::Record;
 use std::env::Env;
 use std::fmt::Write;
 use std::io::Read;
 use std::rt::Files;
 use std::{fmt, fs, io, str};
 use tonekit_core::layout;
+use tonekit_edge::Page;
 use tonekit_sheet_read::SheetView;
 
 // The title and the settings.
@@ -153,7 +154,7 @@ fn add_sheet(out: &mut impl Write, view: &SheetView) -> fmt::Result {
 fn print_sheet<R: Print + Eprint>(rt: &R, bytes: &[u8]) {
     match tonekit_sheet_read::load_sheet(bytes) {
         Ok(loaded) => {
-            let mut page = Page::new(rt);
+            let mut page = Page::new(rt, "sheet_text");
             let sheet = loaded.held;
             let _ = add_sheet(&mut page, &SheetView { bytes, sheet });
             page.flush();

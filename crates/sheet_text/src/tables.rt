@@ -1,5 +1,5 @@
 // The tables of a sheet's text: for each accent and tone which list each context takes, contexts that take one list folded together.
-use crate::page::Record;
+use crate::record::Record;
 use std::fmt;
 use std::fmt::Write;
 use tonekit_core::layout;

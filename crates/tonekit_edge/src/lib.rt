@@ -6,6 +6,9 @@ ghost use Rattle.std.specs.Prelude.{◌<◌, ◌≤◌, length, take, IfOk};
 ghost use Rattle.std.specs.Io.{ReadsAtMost};
 ghost use Rattle.std.specs.Io.KnownBytes.{Consumes, IsAtEnd};
 
+mod page;
+
+pub use crate::page::Page;
 use arrayvec::ArrayString;
 use std::convert::AsSlice;
 use std::env::{Env, FillError};
