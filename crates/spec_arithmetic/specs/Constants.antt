@@ -24,9 +24,12 @@ one64 = from_bits binary64 0x3FF0_0000_0000_0000
 abbrev pub whole64 : ℕ → Float
 whole64 n = of_int binary64 (pos n)
 
--- "LN2 is 0x3FE62E42FEFA39EF"
-abbrev pub LN2 : Float
-LN2 = from_bits binary64 0x3FE6_2E42_FEFA_39EF
+-- "LN2 is split into hi = 0x3FE62E42FEE00000 and lo = 0x3DEA39EF35793C76"
+abbrev pub LN2_HI : Float
+LN2_HI = from_bits binary64 0x3FE6_2E42_FEE0_0000
+
+abbrev pub LN2_LO : Float
+LN2_LO = from_bits binary64 0x3DEA_39EF_3579_3C76
 
 -- "LOG2E the f64 nearest 1.4426950408889634"
 abbrev pub LOG2E : Float

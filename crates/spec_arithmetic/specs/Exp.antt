@@ -1,8 +1,9 @@
--- exp as document 01's Arithmetic section writes it: f64 operations, each rounded once, in its order.
+-- exp as document 01's Arithmetic section writes it, with the split LN2 of document 02's Ask 10: f64 operations, each rounded once, in this
+-- order.
 use Rattle.std.specs.Prelude.{ℕ, zero, suc, ◌+◌, ◌-◌, ◌*◌, ◌/◌, true, false, cond, ℤ, pos, neg_ℤ, is_nan, Float}
 use Rattle.std.specs.Float.{nan, inf, fin, binary64}
 use Rattle.std.specs.Float.Ieee.{up, down, add, sub, mul, div, neg, lt, of_int}
-use Rattle.spec_arithmetic.specs.Constants.{LN2, LOG2E, half, one64, bound, whole64}
+use Rattle.spec_arithmetic.specs.Constants.{LN2_HI, LN2_LO, LOG2E, half, one64, bound, whole64}
 
 -- "floor": the whole number at or below x
 unfoldable pub floor_of : Float → ℤ
@@ -19,9 +20,13 @@ exp_horner (suc j) r q = exp_horner j r (add binary64 one64 (div binary64 (mul b
 unfoldable pub exp_series : Float → Float
 exp_series r = exp_horner 13 r one64
 
--- "r = v − n·LN2 .. result q·2^n"
+-- "r becomes (v − n·hi) − n·lo"
+unfoldable pub rest : Float → Float → Float
+rest v n = sub binary64 (sub binary64 v (mul binary64 n LN2_HI)) (mul binary64 n LN2_LO)
+
+-- ".. result q·2^n"
 unfoldable pub exp_by : Float → ℤ → Float
-exp_by v n = mul binary64 (exp_series (sub binary64 v (mul binary64 (of_int binary64 n) LN2))) (fin false 1 n)
+exp_by v n = mul binary64 (exp_series (rest v (of_int binary64 n))) (fin false 1 n)
 
 -- "NaN gives NaN, below −708 it is 0, above 708 +infinity. Else n = floor(v·LOG2E + 0.5) .."
 unfoldable pub exp_of : Float → Float

@@ -1,8 +1,9 @@
--- ln and log2 as document 01's Arithmetic section writes them: f64 operations, each rounded once, in its order.
+-- ln and log2 as document 01's Arithmetic section writes them, ln with the split LN2 of document 02's Ask 10: f64 operations, each rounded
+-- once, in this order.
 use Rattle.std.specs.Prelude.{ℕ, zero, suc, ◌+◌, ◌-◌, ◌*◌, ◌/◌, ◌^◌, true, false, cond, from_bits, Float}
 use Rattle.std.specs.Float.{nan, inf, fin, binary64}
 use Rattle.std.specs.Float.Ieee.{add, sub, mul, div, lt, of_int, up, down, size, round, minus}
-use Rattle.spec_arithmetic.specs.Constants.{LN2, LOG2E, half, one64, whole64}
+use Rattle.spec_arithmetic.specs.Constants.{LN2_HI, LN2_LO, LOG2E, half, one64, whole64}
 use Rattle.spec_arithmetic.specs.declared.Parts.{Parts}
 
 -- 1 / (2 j + 1)
@@ -35,9 +36,9 @@ log_by f (fin s zero e) = inf true
 log_by f (fin false (suc m) e) = f (centred (parts_of (suc m * up e * 2 ^ 1074 / down e)))
 log_by f v = nan
 
--- "ln is e·LN2 + (2·s)·p"
+-- "ln becomes e·hi + ((2·s)·p + e·lo)"
 unfoldable pub ln_of : Float → Float
-ln_of = log_by (λ p. add binary64 (mul binary64 p.e LN2) (series p.m))
+ln_of = log_by (λ p. add binary64 (mul binary64 p.e LN2_HI) (add binary64 (series p.m) (mul binary64 p.e LN2_LO)))
 
 -- "log2 is e + ((2·s)·p)·LOG2E"
 unfoldable pub log2_of : Float → Float

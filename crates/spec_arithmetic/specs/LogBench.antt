@@ -4,7 +4,7 @@ use Rattle.std.specs.Float.{fin, binary64}
 use Rattle.std.specs.Float.Ieee.{is_nan, neg, add, sub, mul, div, lt, of_bits, of_int, round}
 use Rattle.spec_arithmetic.specs.Constants.{one64, whole64}
 use Rattle.spec_arithmetic.specs.Log.{ln_of, log2_of, log_by, parts_of, centred, series, log_horner}
-use Rattle.spec_arithmetic.specs.Exp.{exp_of, exp_by, exp_series, exp_horner, floor_of}
+use Rattle.spec_arithmetic.specs.Exp.{exp_of, exp_by, rest, exp_series, exp_horner, floor_of}
 
 -- 12 log2 (x / 55)
 abbrev semitones : Float → Float
@@ -23,18 +23,23 @@ pub at_27_5 : semitones (of_bits binary64 0x403B_8000_0000_0000) ≡ fin true 3 
 unfolding log2_of add sub mul div lt of_bits of_int round log_by parts_of centred series log_horner
 at_27_5 = refl
 
--- where the series count: the logarithms of 3, and e to the power −18.3125, where the 13th term changes the last bit
-pub ln_of_3 : ln_of (whole64 3) ≡ of_bits binary64 0x3FF1_93EA_7AAD_030A
+-- where the series count, and where the last bit tells LN2's two parts, and the order of the operations, from every other: the logarithms of
+-- 10 and e to the power −8, where the 13th term changes the last bit too
+pub ln_of_10 : ln_of (whole64 10) ≡ of_bits binary64 0x4002_6BB1_BBB5_5516
 unfolding ln_of add sub mul div lt of_bits of_int round log_by parts_of centred series log_horner
-ln_of_3 = refl
+ln_of_10 = refl
+
+pub log2_of_10 : log2_of (whole64 10) ≡ of_bits binary64 0x400A_934F_0979_A371
+unfolding log2_of add sub mul div lt of_bits of_int round log_by parts_of centred series log_horner
+log2_of_10 = refl
 
 pub log2_of_3 : log2_of (whole64 3) ≡ of_bits binary64 0x3FF9_5C01_A39F_BD69
 unfolding log2_of add sub mul div lt of_bits of_int round log_by parts_of centred series log_horner
 log2_of_3 = refl
 
-pub exp_below_18 : exp_of (of_bits binary64 0xC032_5000_0000_0000) ≡ of_bits binary64 0x3E47_EDA6_3A15_1DB8
-unfolding exp_of is_nan neg add sub mul div lt of_bits of_int round exp_by exp_series exp_horner floor_of
-exp_below_18 = refl
+pub exp_of_minus_8 : exp_of (of_bits binary64 0xC020_0000_0000_0000) ≡ of_bits binary64 0x3F35_FC21_0410_27AD
+unfolding exp_of is_nan neg add sub mul div lt of_bits of_int round exp_by rest exp_series exp_horner floor_of
+exp_of_minus_8 = refl
 
 -- "if m > 1.4142135623730951, halve m": not that number itself
 pub bound_not_halved : let root2 = from_bits binary64 0x3FF6_A09E_667F_3BCD in centred (record { m = root2; e = one64 }) ≡ record { m = root2; e = one64 }
@@ -43,7 +48,7 @@ bound_not_halved = refl
 
 -- "below −708 it is 0"
 pub exp_of_708_5 : exp_of (of_bits binary64 0xC086_2400_0000_0000) ≡ fin false 0 (pos 0)
-unfolding exp_of exp_by exp_series exp_horner floor_of is_nan neg add sub mul div lt of_bits of_int round
+unfolding exp_of exp_by rest exp_series exp_horner floor_of is_nan neg add sub mul div lt of_bits of_int round
 exp_of_708_5 = refl
 
 -- the floors of −2 and −1.5

@@ -5,7 +5,7 @@ use Rattle.std.specs.Float.Ieee.{is_nan, eq, neg, add, sub, mul, div, lt, le, ro
 use Rattle.tonekit_core.specs.Loop.{turns, range}
 use Rattle.spec_arithmetic.specs.Narrow.{narrowed}
 use Rattle.spec_arithmetic.specs.Log.{ln_of, log_by, parts_of, centred, series, log_horner}
-use Rattle.spec_arithmetic.specs.Exp.{exp_of, exp_by, exp_series, exp_horner, floor_of}
+use Rattle.spec_arithmetic.specs.Exp.{exp_of, exp_by, rest, exp_series, exp_horner, floor_of}
 use Rattle.spec_arithmetic.specs.Pick.{greater}
 use Rattle.tonekit_core.specs.declared.layout.TheConstants.{JUDGEMENT_SIZE, JUDGEMENT_EXPECTED, JUDGEMENT_TONE_COUNT, JUDGEMENT_LOGLIK, JUDGEMENT_LLR, JUDGEMENT_DISTANCED}
 use Rattle.tonekit_core.specs.declared.layout.TheConstants.{JUDGEMENT_DISTANCE, JUDGEMENT_OWNER, JUDGEMENT_FORM, JUDGEMENT_LABEL, JUDGEMENT_PART, JUDGEMENT_HEARD}
@@ -54,12 +54,12 @@ abbrev two_tones : Inventory
 two_tones = record { items = likely 7 ∷ likely 9 ∷ [] }
 
 pub equal_tones : heard_of two_tones quarter (ranking_of two_tones (zero ∷ zero ∷ [])) ≡ Some 7
-unfolding heard_of ranking_of ranked range turns add_to value_of ln_of exp_of is_nan eq neg add sub mul div lt le round of_int of_bits log_by parts_of centred series log_horner exp_by exp_series exp_horner floor_of
+unfolding heard_of ranking_of ranked range turns add_to value_of ln_of exp_of is_nan eq neg add sub mul div lt le round of_int of_bits log_by parts_of centred series log_horner exp_by rest exp_series exp_horner floor_of
 equal_tones = refl
 
 -- of a tone at 0 and one at −100 the first is as good as certain: e^(−100) adds nothing to 1 in f64
 pub likelier_tone : heard_of two_tones one64 (ranking_of two_tones (zero ∷ of_bits binary32 0xc2c8_0000 ∷ [])) ≡ Some 7
-unfolding heard_of ranking_of ranked range turns add_to value_of ln_of exp_of is_nan eq neg add sub mul div lt le round of_int of_bits log_by parts_of centred series log_horner exp_by exp_series exp_horner floor_of
+unfolding heard_of ranking_of ranked range turns add_to value_of ln_of exp_of is_nan eq neg add sub mul div lt le round of_int of_bits log_by parts_of centred series log_horner exp_by rest exp_series exp_horner floor_of
 likelier_tone = refl
 
 -- a component's region is that of its own tone: a shape that is 1 high throughout and unvoiced, where the second tone has a region, has the two ends' distance

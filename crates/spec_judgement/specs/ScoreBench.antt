@@ -8,7 +8,7 @@ use Rattle.spec_judgement.specs.declared.Scoring.{Scoring}
 use Rattle.spec_arithmetic.specs.Narrow.{narrowed}
 use Rattle.spec_arithmetic.specs.Pick.{greater}
 use Rattle.spec_arithmetic.specs.Log.{ln_of, log_by, parts_of, centred, series, log_horner}
-use Rattle.spec_arithmetic.specs.Exp.{exp_of, exp_by, exp_series, exp_horner, floor_of}
+use Rattle.spec_arithmetic.specs.Exp.{exp_of, exp_by, rest, exp_series, exp_horner, floor_of}
 use Rattle.spec_judgement.specs.Score.{million, neg_inf, widen_for, clamp_log, empty, add_to, value_of, excused, point_weight, scoring_of, squares_of, no_mixing, mixed, mix_turn}
 use Rattle.spec_arithmetic.specs.Constants.{zero64, one64, zero32}
 
@@ -30,7 +30,7 @@ pub clamped_infinity : clamp_log (inf false) ≡ million
 unfolding clamp_log is_nan lt narrowed round neg of_bits
 clamped_infinity = refl
 
--- the sum of nothing, of −infinity, and of 0 twice
+-- the sum of nothing, of −infinity, and of 0 twice, which is the logarithm of 2
 pub of_nothing : value_of empty ≡ neg_inf
 unfolding value_of lt of_bits
 of_nothing = refl
@@ -39,8 +39,8 @@ pub of_minus_infinity : add_to empty neg_inf ≡ empty
 unfolding add_to eq of_bits
 of_minus_infinity = refl
 
-pub of_two : value_of (add_to (add_to empty zero64) zero64) ≡ ln_of (of_bits binary64 0x4000_0000_0000_0000)
-unfolding value_of add_to ln_of exp_of is_nan eq neg add sub mul div lt le round of_int of_bits log_by parts_of centred series log_horner exp_by exp_series exp_horner floor_of
+pub of_two : value_of (add_to (add_to empty zero64) zero64) ≡ of_bits binary64 0x3fe6_2e42_fefa_39ef
+unfolding value_of add_to ln_of exp_of is_nan eq neg add sub mul div lt le round of_int of_bits log_by parts_of centred series log_horner exp_by rest exp_series exp_horner floor_of
 of_two = refl
 
 -- both ends belong to a region: point 9 of one that ends at 1, voiced 0.25

@@ -8,8 +8,8 @@ use Rattle.tonekit_float.proofs.Units.{unique}
 use Rattle.tonekit_float.proofs.NarrowRound.{L}
 use Rattle.tonekit_float.proofs.Order.{yes}
 use Rattle.tonekit_float.proofs.Patterns.{power_value}
-use Rattle.spec_arithmetic.specs.Constants.{LN2, bound}
-use Rattle.spec_arithmetic.specs.Exp.{exp_series, floor_of, exp_by, exp_of}
+use Rattle.spec_arithmetic.specs.Constants.{LN2_HI, LN2_LO, bound}
+use Rattle.spec_arithmetic.specs.Exp.{exp_series, floor_of, rest, exp_by, exp_of}
 use Rattle.tonekit_log.proofs.Turns.{by_log2e}
 
 fits_up : (k : ℕ) → k ≤ 1023 → T (fits binary64 (fin false 1 (pos k)))
@@ -59,10 +59,10 @@ unfolding exp_of
 exp_is v a b c = rw (a, b, c)
 
 abbrev Result : Float → Float → Float → Float
-Result v n p = mul binary64 (exp_series (sub binary64 v (mul binary64 n LN2))) p
+Result v n p = mul binary64 (exp_series (sub binary64 (sub binary64 v (mul binary64 n LN2_HI)) (mul binary64 n LN2_LO))) p
 
 by : (v : Float) (n : ℤ) → exp_by v n ≡ Result v (of_int binary64 n) (fin false 1 n)
-unfolding exp_by
+unfolding exp_by rest
 by v n = refl
 
 -- the exponent's field of 2 ^ n, as the code finds it

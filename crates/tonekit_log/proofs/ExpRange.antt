@@ -1,6 +1,7 @@
--- How large exp of a number that is not above 0 can be. With n = -k, the rest r = v - n·LN2 is of size at most 23/64: rounding keeps the order,
--- so that every bound by a fraction of few digits that holds for an exact sum or product holds for the rounded one. Assumes nothing.
-use Rattle.std.proofs.Common.{◌≡◌, ℕ, zero, suc, ◌+◌, ◌-◌, ◌*◌, ◌/◌, ◌^◌, ◌<◌, ◌≤◌, Bool, true, false, ◌&&◌, T, ℤ, pos, negsuc, neg_ℤ, sym, refl, ap, ◌∙◌, subst, true≢false, le_trans, le_of_eq, lt_of_lt_of_le, le_of_suc-le-suc, lt_irrefl, mul-le-mul_right, zero-lt-suc, mul_assoc, mul_comm, div-lt_iff_lt-mul, add-mul, mul-lt-mul_of_pos_right, mul-pos, one-mul, lt_of_not-le, zero-mul, mul-add, div-mul-le_self, le_of_mul-le-mul_right, mul_left_comm, arith, lit<, lit≤, pow_pos, pow_mono, pow-add, Float}
+-- exp of a number that is not above 0 lies from 0 to 1. With n = -k, v - n·hi is of size at most 23/64, and so the rest r at most 3/8: rounding
+-- keeps the order, so that every bound by a fraction of few digits that holds for an exact sum or product holds for the rounded one. Then q is at
+-- most 13/8, and its half at most 1; and where k is 0, r is not above 0, and q at most 1. Assumes nothing.
+use Rattle.std.proofs.Common.{◌≡◌, ℕ, zero, suc, ◌+◌, ◌-◌, ◌*◌, ◌/◌, ◌^◌, ◌<◌, ◌≤◌, Bool, true, false, ◌&&◌, T, ℤ, pos, negsuc, neg_ℤ, sym, refl, ap, ◌∙◌, subst, true≢false, le_trans, le_of_eq, lt_of_lt_of_le, le_of_suc-le-suc, lt_irrefl, zero-le, mul-le-mul_right, zero-lt-suc, mul_assoc, mul_comm, div-lt_iff_lt-mul, add-mul, mul-lt-mul_of_pos_right, mul-pos, one-mul, lt_of_not-le, zero-mul, mul-add, div-mul-le_self, le_of_mul-le-mul_right, mul_left_comm, arith, lit<, lit≤, pow_pos, pow_mono, pow-add, Float}
 use native.Mathlib.Nat.{div-eq_of_lt}
 use lib.Ieee.{nan, inf, fin, binary64, up, down, round, neg, sum, add, sub, mul, div, lt, le, eq, is_nan, of_int, of_bits, fits}
 use lib.Ieee.Exact.{HasValue, round_exact}
@@ -8,17 +9,17 @@ use lib.Ieee.Fits.{and_l, and_r, down_pos, round-fits}
 use lib.Ieee.Positive.{den, den_pos, positive}
 use lib.Ieee.Scale.{finite}
 use Rattle.spec_arithmetic.specs.Bounds.{In}
-use Rattle.tonekit_float.proofs.Fraction.{Within, pos_part, neg_part}
-use Rattle.tonekit_float.proofs.Size.{within_lit, within_whole, within_neg, within_more, within_mul}
-use Rattle.tonekit_float.proofs.Order.{yes, lt→le, le→under, under→le, neg_finite, flipped, le_trans_float}
-use Rattle.tonekit_float.proofs.Monotone.{Rounds, zero_f, add_rounds, mul_rounds, mul_comm_float}
-use Rattle.tonekit_float.proofs.Bounds.{in_wider, in_add, in_mul, in_div, in_scale, finite4, about0}
-use Rattle.tonekit_float.proofs.Exact.{rounds_under, rounds_over, whole, whole_worth}
-use Rattle.spec_arithmetic.specs.Constants.{LN2, LOG2E, half, one64, bound, whole64}
-use Rattle.tonekit_log.proofs.Powers.{minus_is}
+use Rattle.tonekit_float.proofs.Fraction.{pos_part, neg_part}
+use Rattle.tonekit_float.proofs.Order.{yes, lt→le, le→under, under→le, neg_finite, neg_le, flipped, le_trans_float}
+use Rattle.tonekit_float.proofs.Monotone.{Rounds, zero_f, add_rounds, mul_rounds, mul_comm_float, sub_le}
+use Rattle.tonekit_float.proofs.Bounds.{in_finite, in_wider, in_add, in_sub, in_mul, in_div, in_scale, finite4, about0}
+use Rattle.tonekit_float.proofs.Exact.{one_f, rounds_under, rounds_over, whole, whole_le}
+use Rattle.spec_arithmetic.specs.Constants.{LN2_HI, LN2_LO, LOG2E, half, one64, bound, whole64}
+use Rattle.tonekit_log.proofs.Powers.{minus_is, high32, high_exact}
+use Rattle.tonekit_log.proofs.LogRange.{in_times}
 use Rattle.tonekit_log.proofs.Turns.{by_log2e, inside, keeps, v_finite, times_finite, turns_finite, no_deeper}
 use Rattle.tonekit_log.proofs.ExpCases.{exp_is, low_result}
-use Rattle.spec_arithmetic.specs.Exp.{exp_horner, exp_series, floor_of, exp_by, exp_of}
+use Rattle.spec_arithmetic.specs.Exp.{exp_horner, exp_series, floor_of, rest, exp_by, exp_of}
 
 -- ---- -n / 2 ^ b, exactly
 shl_lt : (n c : ℕ) → n < 2 ^ 53 → c ≤ 1074 → n * 2 ^ c < 2 ^ 2098
@@ -127,9 +128,9 @@ floored (fin true m e) f h l =
 abbrev l2e : ℕ
 l2e = 0xB_8AA3_B295_C17F
 
-constants : (LOG2E ≡ fin false l2e (negsuc 50)) × (half ≡ fin false 1 (negsuc 0)) × (LN2 ≡ fin false 0x16_2E42_FEFA_39EF (negsuc 52))
+constants : (LOG2E ≡ fin false l2e (negsuc 50)) × (half ≡ fin false 1 (negsuc 0))
 unfolding of_bits
-constants = (refl, refl, refl)
+constants = (refl, refl)
 
 times_rounds : (v : Float) → T (finite v) → Rounds binary64 (mul binary64 v LOG2E) (pos_part v * l2e + neg_part v * 0) (pos_part v * 0 + neg_part v * l2e) (den v * 2 ^ 51)
 times_rounds v f =
@@ -214,70 +215,32 @@ module _ (v : Float) (k : ℕ) (A : T (finite v)) (N : pos_part v ≡ 0) (W : T 
           let g = sum_down K in
           lt_irrefl 0 (omega arith)
 
--- ---- n·LN2 lies between -k a and -k b, in units of 2 ^ -24
+-- ---- n is -k as an f64; n·hi lies between -k a and -k b, in units of 2 ^ -24
+abbrev n_of : ℕ → Float
+n_of k = of_int binary64 (neg_ℤ (pos k))
+
 abbrev lo24 : ℕ
 lo24 = 11629079
 
 abbrev hi24 : ℕ
 hi24 = 11629080
 
-abbrev ln2 : ℕ
-ln2 = 0x16_2E42_FEFA_39EF
-
-record Whole (x : Float) (k : ℕ) : Type 0 where
-  real : T (finite x)
-  none : pos_part x ≡ 0
-  is : neg_part x ≡ k * den x
-  size : Within 1022 x
-
-down_whole : (k : ℕ) → k ≤ 1022 → Whole (of_int binary64 (neg_ℤ (pos k))) k
-down_whole zero h =
-    let w = whole_worth binary64 0 (lit≤ tt) in
-    record { real = w.real; none = w.plus_is ∙ zero-mul (den (whole binary64 0)); is = w.minus_is ∙ sym (zero-mul (den (whole binary64 0))); size = within_more (lit≤ tt) (within_whole binary64 0 (lit≤ tt)) }
-down_whole (suc k) h =
-    let n = whole binary64 (suc k) in
-    let few : suc k ≤ 2 ^ 53 = omega arith in
-    let w = whole_worth binary64 (suc k) few in
-    let f = flipped n in
-    subst (λ (y : Float). Whole y (suc k)) (sym (minus_is k))
-    (record {
-      real = neg_finite n w.real;
-      none = f.up ∙ w.minus_is;
-      is = f.below ∙ w.plus_is ∙ ap (λ (i : ℕ). suc k * i) (sym f.over);
-      size = within_neg (within_more h (within_whole binary64 (suc k) few));
-    })
-
-ln2_rounds : (x : Float) → T (finite x) → Rounds binary64 (mul binary64 x LN2) (pos_part x * ln2 + neg_part x * 0) (pos_part x * 0 + neg_part x * ln2) (den x * 2 ^ 53)
-ln2_rounds x f =
-    subst (λ (y : Float). Rounds binary64 (mul binary64 x y) (pos_part x * ln2 + neg_part x * 0) (pos_part x * 0 + neg_part x * ln2) (den x * 2 ^ 53)) (sym constants.2)
-    (mul_rounds binary64 x (fin false ln2 (negsuc 52)) f tt)
-
-ln2_within : Within 1 LN2
-unfolding of_bits
-ln2_within = within_lit 1 LN2 tt
-
 record Product (u : Float) (k : ℕ) : Type 0 where
   real : T (finite u)
   low : pos_part u * 2 ^ 24 + k * lo24 * den u ≤ neg_part u * 2 ^ 24
   high : neg_part u * 2 ^ 24 ≤ pos_part u * 2 ^ 24 + k * hi24 * den u
 
-product : (k : ℕ) → k ≤ 1022 → Product (mul binary64 (of_int binary64 (neg_ℤ (pos k))) LN2) k
-product k h =
-    let x = of_int binary64 (neg_ℤ (pos k)) in
-    let u = mul binary64 x LN2 in
-    let w = down_whole k h in
-    let F = (within_mul binary64 (lit≤ tt) w.size ln2_within).real in
-    let D : 0 < den x * 2 ^ 53 = mul-pos (den_pos x) (pow_pos 53) in
-    let R = ln2_rounds x w.real in
-    let o : pos_part x * ln2 ≡ 0 = ap (λ (i : ℕ). i * ln2) w.none ∙ zero-mul ln2 in
-    let m : neg_part x * ln2 ≡ ln2 * (k * den x) = ap (λ (i : ℕ). i * ln2) w.is ∙ mul_comm (k * den x) ln2 in
-    let p : k * lo24 * (den x * 2 ^ 53) ≡ lo24 * 2 ^ 53 * (k * den x) = simp (mul_assoc, mul_comm, mul_left_comm) in
-    let q : k * hi24 * (den x * 2 ^ 53) ≡ hi24 * 2 ^ 53 * (k * den x) = simp (mul_assoc, mul_comm, mul_left_comm) in
-    record {
-      real = F;
-      low = at_most_lem u (pos_part x * ln2 + neg_part x * 0) (pos_part x * 0 + neg_part x * ln2) (den x * 2 ^ 53) (k * lo24) 24 1050 refl (omega arith) D F R (omega arith);
-      high = at_least u (pos_part x * ln2 + neg_part x * 0) (pos_part x * 0 + neg_part x * ln2) (den x * 2 ^ 53) (k * hi24) 24 1050 refl (omega arith) D F R (omega arith);
-    }
+product : (k : ℕ) → k ≤ 1022 → Product (mul binary64 (n_of k) LN2_HI) k
+product zero h = unfold mul of_int of_bits round in record { real = tt; low = lit≤ tt; high = lit≤ tt }
+product (suc j) h =
+    let u = mul binary64 (n_of (suc j)) LN2_HI in
+    let m = minus_of u (suc j * high32) (2 ^ 32) (high_exact (negsuc j) (omega arith)) in
+    let n = m.none in
+    let is = m.is in
+    let a : suc j * high32 * den u ≡ high32 * (suc j * den u) = simp (mul_assoc, mul_comm) in
+    let b : suc j * lo24 * den u ≡ lo24 * (suc j * den u) = simp (mul_assoc, mul_comm) in
+    let c : suc j * hi24 * den u ≡ hi24 * (suc j * den u) = simp (mul_assoc, mul_comm) in
+    record { real = m.real; low = omega arith; high = omega arith }
 
 -- ---- r
 rest_up : (M D k U P E : ℕ) → U * 2 ^ 24 ≤ P * 2 ^ 24 + k * hi24 * E → 64 * (hi24 * (k * D)) ≤ 2 ^ 24 * (23 * D + 64 * M) → (0 * E + U * D) * 64 + 0 * (D * E) ≤ 23 * (D * E) + (M * E + P * D) * 64
@@ -331,24 +294,24 @@ coefficient_down M D k h g =
     let y = coarse_down ((64 * k + 33) * D) M (subst (λ (i : ℕ). 64 * (M * l2e) < i) (sym (mul_assoc (64 * k + 33) D (2 ^ 51))) g) in
     down_sum M D (k * D) (subst (λ (i : ℕ). 64 * (M * lo20) < i * 2 ^ 20) x y) (mul-le-mul_right D h)
 
--- 23/64
-abbrev most_r : Float
-most_r = fin false 23 (negsuc 5)
+-- v - n·hi, at most 23/64
+abbrev most_d : Float
+most_d = fin false 23 (negsuc 5)
 
-abbrev least_r : Float
-least_r = fin true 23 (negsuc 5)
+abbrev least_d : Float
+least_d = fin true 23 (negsuc 5)
 
-ends_fit : T (fits binary64 most_r) × T (fits binary64 least_r)
+ends_fit : T (fits binary64 most_d) × T (fits binary64 least_d)
 unfolding fits
 ends_fit = (tt, tt)
 
-abbrev pub rest : Float → ℤ → Float
-rest v n = sub binary64 v (mul binary64 (of_int binary64 n) LN2)
+abbrev difference : Float → ℕ → Float
+difference v k = sub binary64 v (mul binary64 (n_of k) LN2_HI)
 
-rest_in : (v : Float) (k : ℕ) → T (finite v) → pos_part v ≡ 0 → k ≤ 1022 → Near v k → In least_r most_r (rest v (neg_ℤ (pos k)))
+difference_in : (v : Float) (k : ℕ) → T (finite v) → pos_part v ≡ 0 → k ≤ 1022 → Near v k → In least_d most_d (difference v k)
 unfolding sub
-rest_in v k f n h a =
-    let u = mul binary64 (of_int binary64 (neg_ℤ (pos k))) LN2 in
+difference_in v k f n h a =
+    let u = mul binary64 (n_of k) LN2_HI in
     let P = product k h in
     let g = flipped u in
     let R = add_rounds binary64 v (neg u) f (neg_finite u P.real) in
@@ -364,89 +327,153 @@ rest_in v k f n h a =
     (subst (λ (i : ℕ). Rounds binary64 (add binary64 v (neg u)) (pos_part v * den (neg u) + pos_part (neg u) * D) (M * den (neg u) + neg_part (neg u) * D) i) d R)) in
     let pos-d = mul-pos (den_pos v) (den_pos u) in
     record {
-      low = rounds_over binary64 (add binary64 v (neg u)) least_r _ _ _ pos-d ends_fit.1 tt R' (rest_down M D k (neg_part u) (pos_part u) E P.low (coefficient_down M D k h a.upper));
-      high = rounds_under binary64 (add binary64 v (neg u)) most_r _ _ _ pos-d ends_fit.0 tt R' (rest_up M D k (neg_part u) (pos_part u) E P.high (coefficient_up M D k h a.lower));
+      low = rounds_over binary64 (add binary64 v (neg u)) least_d _ _ _ pos-d ends_fit.1 tt R' (rest_down M D k (neg_part u) (pos_part u) E P.low (coefficient_down M D k h a.upper));
+      high = rounds_under binary64 (add binary64 v (neg u)) most_d _ _ _ pos-d ends_fit.0 tt R' (rest_up M D k (neg_part u) (pos_part u) E P.high (coefficient_up M D k h a.lower));
     }
 
--- ---- q stays from 3/8 to 13/8
+-- n·lo, from -1022·lo to 0
+abbrev whole1022 : Float
+whole1022 = whole binary64 1022
+
+n_ends : T (le (neg whole1022) (n_of 0)) × T (le (n_of 0) zero_f) × T (le (neg (whole binary64 0)) zero_f)
+unfolding neg of_int round le lt eq
+n_ends = (tt, tt, tt)
+
+n_in : (k : ℕ) → k ≤ 1022 → In (neg whole1022) zero_f (n_of k)
+n_in zero h = record { low = n_ends.0; high = n_ends.1 }
+n_in (suc j) h =
+    let n = whole binary64 (suc j) in
+    subst (λ (y : Float). In (neg whole1022) zero_f y) (sym (minus_is j))
+    (record {
+      low = neg_le n whole1022 (whole_le binary64 (suc j) 1022 h);
+      high = le_trans_float (neg n) (neg (whole binary64 0)) zero_f (neg_le (whole binary64 0) n (whole_le binary64 0 (suc j) zero-le)) n_ends.2;
+    })
+
+-- r, at most 3/8
+abbrev most_r : Float
+most_r = fin false 3 (negsuc 2)
+
+abbrev least_r : Float
+least_r = fin true 3 (negsuc 2)
+
+abbrev least_low : Float
+least_low = mul binary64 (neg whole1022) LN2_LO
+
+abbrev most_low : Float
+most_low = mul binary64 zero_f LN2_LO
+
+low_ends : T (finite (neg whole1022) && finite zero_f) × T (finite LN2_LO) × T (le zero_f LN2_LO) × T (finite4 least_d most_d least_low most_low)
+    × T (le least_r (sub binary64 least_d most_low) && le (sub binary64 most_d least_low) most_r)
+unfolding neg of_int of_bits mul sub add sum round le lt eq
+low_ends = (tt, tt, tt, tt, tt)
+
+low_in : (k : ℕ) → k ≤ 1022 → In least_low most_low (mul binary64 (n_of k) LN2_LO)
+low_in k h = in_times (neg whole1022) zero_f LN2_LO low_ends.0 low_ends.1 low_ends.2 (n_in k h)
+
+rest_in : (v : Float) (k : ℕ) → k ≤ 1022 → In least_d most_d (difference v k) → In least_r most_r (rest v (n_of k))
+unfolding rest
+rest_in v k h d = in_wider low_ends.4 (in_sub binary64 low_ends.3 d (low_in k h))
+
+-- where k is 0, nothing is taken from v
+zeros : (mul binary64 (n_of 0) LN2_HI ≡ zero_f) × (mul binary64 (n_of 0) LN2_LO ≡ zero_f) × (sub binary64 zero_f zero_f ≡ zero_f) × T (le zero_f zero_f)
+unfolding of_int of_bits mul sub add sum neg round le lt eq
+zeros = (refl, refl, refl, tt)
+
+rest_0 : (v : Float) → T (finite v) → In least_d most_d (difference v 0) → T (le v zero_f) → T (le (rest v (n_of 0)) zero_f)
+unfolding rest
+rest_0 v f d h = no_more (difference v 0) (mul binary64 (n_of 0) LN2_LO) (in_finite {lo = least_d} {hi = most_d} tt d) zeros.1 (no_more v (mul binary64 (n_of 0) LN2_HI) f zeros.0 h)
+  where
+    no_more : (x z : Float) → T (finite x) → z ≡ zero_f → T (le x zero_f) → T (le (sub binary64 x z) zero_f)
+    no_more x z f e h =
+        subst (λ (y : Float). T (le (sub binary64 x y) zero_f)) (sym e)
+        (subst (λ (y : Float). T (le (sub binary64 x zero_f) y)) zeros.2 (sub_le binary64 x zero_f zero_f zero_f f tt tt tt h zeros.3))
+
+-- ---- q, for an r from -3/8 to s: from 3/8 to t
 abbrev least_q : Float
 least_q = fin false 3 (negsuc 2)
 
 abbrev most_q : Float
 most_q = fin false 13 (negsuc 2)
 
-abbrev one_f : Float
-one_f = fin false 1 (pos 0)
+abbrev half_f : Float
+half_f = fin false 1 (negsuc 0)
 
-abbrev two_f : Float
-two_f = fin false 1 (pos 1)
+module _ (s t : Float) where
+  -- a step's least and greatest result
+  abbrev least_step : ℕ → Float
+  least_step j = div binary64 (mul binary64 t least_r) (whole64 j)
 
--- a step's least and greatest result
-abbrev least_step : ℕ → Float
-least_step j = div binary64 (mul binary64 most_q least_r) (whole64 j)
+  abbrev most_step : ℕ → Float
+  most_step j = div binary64 (mul binary64 t s) (whole64 j)
 
-abbrev most_step : ℕ → Float
-most_step j = div binary64 (mul binary64 most_q most_r) (whole64 j)
+  abbrev step_ok : ℕ → Bool
+  step_ok j = positive (whole64 j) && finite4 one64 one64 (least_step j) (most_step j) && (le least_q (add binary64 one64 (least_step j)) && le (add binary64 one64 (most_step j)) t)
 
-abbrev step_ok : ℕ → Bool
-step_ok j = positive (whole64 j) && finite4 one64 one64 (least_step j) (most_step j) && (le least_q (add binary64 one64 (least_step j)) && le (add binary64 one64 (most_step j)) most_q)
+  steps_ok : ℕ → Bool
+  steps_ok zero = true
+  steps_ok (suc j) = step_ok (suc j) && steps_ok j
 
-steps_ok : ℕ → Bool
-steps_ok zero = true
-steps_ok (suc j) = step_ok (suc j) && steps_ok j
+  record Ends : Type 0 where
+    real : T (finite (mul binary64 t least_r) && finite (mul binary64 t s))
+    about : T (about0 least_r s t)
+    kept : T (le zero_f least_q && le t t)
+    steps : T (steps_ok 13)
+    start : T (le least_q one64) × T (le one64 t)
 
-steps_13 : T (steps_ok 13)
+-- t is 13/8 for every r, and 1 for one that is not above 0
+any_r : Ends most_r most_q
 unfolding steps_ok of_bits of_int mul div add sum round le lt eq
-steps_13 = tt
+any_r = record { real = tt; about = tt; kept = tt; steps = tt; start = (tt, tt) }
 
-product_ends : T (finite (mul binary64 most_q least_r) && finite (mul binary64 most_q most_r)) × T (about0 least_r most_r most_q) × T (le zero_f least_q && le most_q most_q)
-unfolding mul round le lt eq
-product_ends = (tt, tt, tt)
+minus_r : Ends zero_f one_f
+unfolding steps_ok of_bits of_int mul div add sum round le lt eq
+minus_r = record { real = tt; about = tt; kept = tt; steps = tt; start = (tt, tt) }
 
 one_in : In one64 one64 one64
 unfolding of_bits le lt eq
 one_in = record { low = tt; high = tt }
 
-step_in : (j : ℕ) (r q : Float) → T (step_ok j) → In least_r most_r r → In least_q most_q q → In least_q most_q (add binary64 one64 (div binary64 (mul binary64 r q) (whole64 j)))
-step_in j r q t hr hq =
-    let A = positive (whole64 j) in
-    let B = finite4 one64 one64 (least_step j) (most_step j) in
-    let C = le least_q (add binary64 one64 (least_step j)) && le (add binary64 one64 (most_step j)) most_q in
-    let m : In (mul binary64 most_q least_r) (mul binary64 most_q most_r) (mul binary64 r q) =
-    subst (λ (y : Float). In (mul binary64 most_q least_r) (mul binary64 most_q most_r) y) (mul_comm_float binary64 q r)
-    (in_scale binary64 product_ends.1 (in_wider product_ends.2 hq) hr) in
-    in_wider (and_r (A && B) C t)
-    (in_add binary64 (and_r A B (and_l (A && B) C t)) one_in (in_div binary64 (whole64 j) product_ends.0 (and_l A B (and_l (A && B) C t)) m))
+module _ (s t : Float) (E : Ends s t) where
+  step_in : (j : ℕ) (r q : Float) → T (step_ok s t j) → In least_r s r → In least_q t q → In least_q t (add binary64 one64 (div binary64 (mul binary64 r q) (whole64 j)))
+  step_in j r q ok hr hq =
+      let A = positive (whole64 j) in
+      let B = finite4 one64 one64 (least_step s t j) (most_step s t j) in
+      let C = le least_q (add binary64 one64 (least_step s t j)) && le (add binary64 one64 (most_step s t j)) t in
+      let m : In (mul binary64 t least_r) (mul binary64 t s) (mul binary64 r q) =
+      subst (λ (y : Float). In (mul binary64 t least_r) (mul binary64 t s) y) (mul_comm_float binary64 q r)
+      (in_scale binary64 E.about (in_wider E.kept hq) hr) in
+      in_wider (and_r (A && B) C ok)
+      (in_add binary64 (and_r A B (and_l (A && B) C ok)) one_in (in_div binary64 (whole64 j) E.real (and_l A B (and_l (A && B) C ok)) m))
 
-steps_in : (j : ℕ) (r q : Float) → T (steps_ok j) → In least_r most_r r → In least_q most_q q → In least_q most_q (exp_horner j r q)
-unfolding exp_horner steps_ok
-steps_in zero r q t hr hq = hq
-steps_in (suc j) r q t hr hq =
-    steps_in j r (add binary64 one64 (div binary64 (mul binary64 r q) (whole64 (suc j)))) (and_r (step_ok (suc j)) (steps_ok j) t) hr
-    (step_in (suc j) r q (and_l (step_ok (suc j)) (steps_ok j) t) hr hq)
+  steps_in : (j : ℕ) (r q : Float) → T (steps_ok s t j) → In least_r s r → In least_q t q → In least_q t (exp_horner j r q)
+  unfolding exp_horner steps_ok
+  steps_in zero r q ok hr hq = hq
+  steps_in (suc j) r q ok hr hq =
+      steps_in j r (add binary64 one64 (div binary64 (mul binary64 r q) (whole64 (suc j)))) (and_r (step_ok s t (suc j)) (steps_ok s t j) ok) hr
+      (step_in (suc j) r q (and_l (step_ok s t (suc j)) (steps_ok s t j) ok) hr hq)
 
-start : In least_q most_q one64
-unfolding of_bits le lt eq
-start = record { low = tt; high = tt }
+  series_in : (r : Float) → In least_r s r → In least_q t (exp_series r)
+  unfolding exp_series
+  series_in r h = steps_in 13 r one64 E.steps h (record { low = E.start.0; high = E.start.1 })
 
-series_in : (r : Float) → In least_r most_r r → In least_q most_q (exp_series r)
-unfolding exp_series
-series_in r h = steps_in 13 r one64 steps_13 h start
+-- ---- q·2 ^ -k
+power_in : (k : ℕ) → In zero_f half_f (fin false 1 (negsuc k))
+power_in k =
+    let p = pow_mono {i = 1} {j = suc k} (omega arith) in
+    record { low = under→le zero_f (fin false 1 (negsuc k)) tt tt (omega arith); high = under→le (fin false 1 (negsuc k)) half_f tt tt (omega arith) }
 
--- ---- 2 ^ -k
-power_in : (k : ℕ) → In zero_f one_f (fin false 1 (neg_ℤ (pos k)))
-power_in zero = record { low = under→le zero_f one_f tt tt (omega arith); high = under→le one_f one_f tt tt (omega arith) }
-power_in (suc k) =
-    let p = pow_pos (suc k) in
-    record { low = under→le zero_f (fin false 1 (negsuc k)) tt tt (omega arith); high = under→le (fin false 1 (negsuc k)) one_f tt tt (omega arith) }
-
-result_ends : T (le zero_f (mul binary64 least_q zero_f) && le (mul binary64 most_q one_f) two_f) × T (le zero_f least_q && le zero_f zero_f)
+result_ends : T (le zero_f (mul binary64 least_q zero_f) && le (mul binary64 most_q half_f) one_f) × T (le zero_f (mul binary64 least_q zero_f) && le (mul binary64 one_f one_f) one_f)
+    × T (le zero_f least_q && le zero_f zero_f) × T (le zero_f one_f) × T (le one_f one_f)
 unfolding mul round le lt eq
-result_ends = (tt, tt)
+result_ends = (tt, tt, tt, tt, tt)
 
-by_in : (v : Float) (k : ℕ) → In least_r most_r (rest v (neg_ℤ (pos k))) → In zero_f two_f (exp_by v (neg_ℤ (pos k)))
+by_in : (v : Float) (k : ℕ) → T (finite v) → T (le v zero_f) → k ≤ 1022 → In least_d most_d (difference v k) → In zero_f one_f (exp_by v (neg_ℤ (pos k)))
 unfolding exp_by
-by_in v k h = in_wider result_ends.0 (in_mul binary64 {a = least_q} {b = most_q} {c = zero_f} {d = one_f} tt result_ends.1 (series_in (rest v (neg_ℤ (pos k))) h) (power_in k))
+by_in v zero f l h d =
+    let r : In least_r zero_f (rest v (n_of 0)) = record { low = (rest_in v 0 h d).low; high = rest_0 v f d l } in
+    in_wider result_ends.1 (in_mul binary64 {a = least_q} {b = one_f} {c = zero_f} {d = one_f} tt result_ends.2 (series_in zero_f one_f minus_r (rest v (n_of 0)) r) (record { low = result_ends.3; high = result_ends.4 }))
+by_in v (suc k) f l h d =
+    in_wider result_ends.0 (in_mul binary64 {a = least_q} {b = most_q} {c = zero_f} {d = half_f} tt result_ends.2 (series_in most_r most_q any_r (rest v (n_of (suc k))) (rest_in v (suc k) h d)) (power_in k))
 
 -- ---- exp of a number that is not above 0
 number : (v : Float) → T (le v zero_f) → is_nan v ≡ false
@@ -472,18 +499,18 @@ not_above v h = go (lt bound v) refl
     go true q = absurd (bound_above (le_trans_float bound v zero_f (lt→le bound v (yes q)) h))
     go false q = refl
 
-turns_zero : T (le (by_log2e zero_f) (fin false 1 (negsuc 0))) × T (finite (mul binary64 zero_f LOG2E)) × T (le zero_f zero_f && le zero_f two_f)
+turns_zero : T (le (by_log2e zero_f) (fin false 1 (negsuc 0))) × T (finite (mul binary64 zero_f LOG2E)) × T (le zero_f zero_f && le zero_f one_f)
 unfolding of_bits mul add sum round le lt eq
 turns_zero = (tt, tt, tt)
 
-pub exp_in : (v : Float) → T (le v zero_f) → In zero_f two_f (exp_of v)
+pub exp_in : (v : Float) → T (le v zero_f) → In zero_f one_f (exp_of v)
 exp_in v h = go (lt v (neg bound)) refl
   where
-    zero_in : In zero_f two_f zero_f
-    zero_in = record { low = and_l (le zero_f zero_f) (le zero_f two_f) turns_zero.2; high = and_r (le zero_f zero_f) (le zero_f two_f) turns_zero.2 }
+    zero_in : In zero_f one_f zero_f
+    zero_in = record { low = and_l (le zero_f zero_f) (le zero_f one_f) turns_zero.2; high = and_r (le zero_f zero_f) (le zero_f one_f) turns_zero.2 }
 
-    go : (b : Bool) → lt v (neg bound) ≡ b → In zero_f two_f (exp_of v)
-    go true q = subst (λ (y : Float). In zero_f two_f y) (low_result v (number v h) q) zero_in
+    go : (b : Bool) → lt v (neg bound) ≡ b → In zero_f one_f (exp_of v)
+    go true q = subst (λ (y : Float). In zero_f one_f y) (low_result v (number v h) q) zero_in
     go false q =
         let i = inside v (number v h) q (not_above v h) in
         let A = v_finite v i in
@@ -493,5 +520,5 @@ exp_in v h = go (lt v (neg bound)) refl
         let f = floored (by_log2e v) F (no_deeper v i) l in
         let k = f.k in
         let n = no_plus v A h in
-        subst (λ (y : Float). In zero_f two_f y) (sym (exp_is v (number v h) q (not_above v h) ∙ ap (λ (z : ℤ). exp_by v z) f.at.floor))
-        (by_in v k (rest_in v k A n f.at.few (near v k A n W F f.at)))
+        subst (λ (y : Float). In zero_f one_f y) (sym (exp_is v (number v h) q (not_above v h) ∙ ap (λ (z : ℤ). exp_by v z) f.at.floor))
+        (by_in v k A h f.at.few (difference_in v k A n f.at.few (near v k A n W F f.at)))

@@ -1,22 +1,26 @@
 -- What callers may cite of ln, log2 and exp. Nothing above unfolds their definitions. Assumes nothing.
-use Rattle.std.proofs.Common.{◌≡◌, zero, suc, Bool, true, false, cond, T, ℤ, pos, sym, refl, ap, ◌∙◌, subst, Float}
+use Rattle.std.proofs.Common.{◌≡◌, ◌*◌, ◌^◌, ◌<◌, zero, suc, Bool, true, false, cond, T, ℤ, pos, nat_abs, sym, refl, ap, ◌∙◌, subst, Float}
 use lib.Ieee.{nan, inf, fin, binary64, round, neg, sum, add, sub, mul, div, lt, le, is_nan, of_int, of_bits, fits}
 use lib.Ieee.Bits.{is_true}
+use lib.Ieee.Exact.{HasValue}
+use Rattle.std.specs.Int.{is_negative}
 use lib.Ieee.Fits.{nan-fits, inf-fits, cond-fits, add-fits, mul-fits}
 use lib.Ieee.Scale.{finite}
+use Rattle.spec_arithmetic.specs.Bounds.{In}
 use Rattle.tonekit_float.proofs.Fraction.{Within}
 use Rattle.tonekit_float.proofs.Monotone.{zero_f}
 use Rattle.tonekit_float.proofs.Bounds.{in_finite}
+use Rattle.tonekit_float.proofs.Exact.{one_f}
 use Rattle.tonekit_float.proofs.Signs.{below}
 use Rattle.spec_arithmetic.specs.declared.Parts.{Parts}
-use Rattle.spec_arithmetic.specs.Constants.{LN2, LOG2E, one64, bound}
-use Rattle.spec_arithmetic.specs.Log.{series, log_by, ln_of, log2_of, log_horner}
-use Rattle.spec_arithmetic.specs.Exp.{exp_series, floor_of, exp_by, exp_of, exp_horner}
+use Rattle.spec_arithmetic.specs.Constants.{LN2_HI, LN2_LO, LOG2E, one64, bound}
+use Rattle.spec_arithmetic.specs.Log.{series, log_by, ln_of, log2_of, log_horner, parts_of, centred}
+use Rattle.spec_arithmetic.specs.Exp.{exp_series, floor_of, rest, exp_by, exp_of, exp_horner}
 use Rattle.tonekit_log.proofs.LogCases.{ln_is, log2_is, none_of, ln_at, log2_at}
-use Rattle.tonekit_log.proofs.Powers.{Exponent, at_power, log2_at_one, ln_at_one, none_more, exponent_stays, product_stays}
+use Rattle.tonekit_log.proofs.Powers.{Exponent, at_power, log2_at_one, ln_at_one, none_more, exponent_stays, low_stays, high_exact}
 use Rattle.tonekit_log.proofs.LogRange.{ln_at_in, log2_at_in, by_parts}
 use Rattle.tonekit_log.proofs.ExpCases as cases
-use Rattle.tonekit_log.proofs.ExpRange.{rest, exp_in}
+use Rattle.tonekit_log.proofs.ExpRange as range
 use Rattle.tonekit_log.proofs.Turns.{by_log2e}
 
 -- ---- powers of two
@@ -34,14 +38,28 @@ log2_power k h =
     ∙ ap (λ (y : Float). add binary64 (of_int binary64 k) y) (ap (λ (y : Float). mul binary64 y LOG2E) series_at_one ∙ none_more)
     ∙ exponent_stays k h
 
--- ln (2 ^ k) is k·LN2, rounded once
-pub ln_power : (k : ℤ) → Exponent k → ln_of (fin false 1 k) ≡ mul binary64 (of_int binary64 k) LN2
+-- ln (2 ^ k) is the sum of k·hi, which is exact (`high_part_exact`), and k·lo: product and sum are each rounded once
+pub ln_power : (k : ℤ) → Exponent k → ln_of (fin false 1 k) ≡ add binary64 (mul binary64 (of_int binary64 k) LN2_HI) (mul binary64 (of_int binary64 k) LN2_LO)
 ln_power k h =
+    let n = of_int binary64 k in
     ln_is (fin false 1 k)
     ∙ at_power ln_at k h
-    ∙ ln_at_one (of_int binary64 k)
-    ∙ ap (λ (y : Float). add binary64 (mul binary64 (of_int binary64 k) LN2) y) series_at_one
-    ∙ product_stays k h
+    ∙ ln_at_one n
+    ∙ ap (λ (y : Float). add binary64 (mul binary64 n LN2_HI) y) (ap (λ (y : Float). add binary64 y (mul binary64 n LN2_LO)) series_at_one ∙ low_stays k h)
+
+-- hi is 0xB17217F7 / 2 ^ 32
+pub high_part_is : HasValue LN2_HI false 0xB172_17F7 (2 ^ 32)
+unfolding of_bits
+high_part_is = (refl, refl)
+
+-- k·hi is exact for every k of at most 21 binary digits, so for each exponent that `ln` and `exp` multiply it by: it has k's sign, and |k|·hi for
+-- its size
+pub high_part_exact : (k : ℤ) → nat_abs k < 2 ^ 21 → HasValue (mul binary64 (of_int binary64 k) LN2_HI) (is_negative k) (nat_abs k * 0xB172_17F7) (2 ^ 32)
+high_part_exact k h = high_exact k h
+
+pub ln_one : ln_of one64 ≡ zero_f
+unfolding ln_of log_by parts_of centred series log_horner add sum sub mul div lt neg of_bits of_int round
+ln_one = refl
 
 -- ---- the logarithm of a positive number is finite, and how large it can be
 pub ln_within : (x : Float) → T (fits binary64 x) → T (lt zero_f x) → T (lt x (inf false)) → Within 746 (ln_of x)
@@ -92,7 +110,7 @@ log2_nan = log2_is nan ∙ by_nan log2_at
 
 -- ---- exp
 pub exp_zero : (s : Bool) → exp_of (fin s 0 (pos 0)) ≡ one64
-unfolding exp_of exp_by exp_series exp_horner floor_of is_nan lt neg of_bits of_int add sum sub mul div round
+unfolding exp_of exp_by rest exp_series exp_horner floor_of is_nan lt neg of_bits of_int add sum sub mul div round
 exp_zero true = refl
 exp_zero false = refl
 
@@ -109,9 +127,12 @@ exp_low v h = sym (cases.low_result v (number v h) (is_true (lt v (neg bound)) h
     number (inf s) h = unfold is_nan in refl
     number (fin s m e) h = unfold is_nan in refl
 
--- of a number that is not above 0, -infinity too; `exp_in` of ExpRange says that it is from 0 to 2
+-- of a number that is not above 0, -infinity too: from 0 to 1
+pub exp_in : (v : Float) → T (le v zero_f) → In zero_f one_f (exp_of v)
+exp_in v h = range.exp_in v h
+
 pub exp_finite : (v : Float) → T (le v zero_f) → T (finite (exp_of v))
-exp_finite v h = in_finite {lo = zero_f} {hi = fin false 1 (pos 1)} tt (exp_in v h)
+exp_finite v h = in_finite {lo = zero_f} {hi = one_f} tt (exp_in v h)
 
 -- ---- the results are f64s
 by_fits : (f : Parts → Float) → ((p : Parts) → T (fits binary64 (f p))) → (x : Float) → T (fits binary64 (log_by f x))
@@ -131,7 +152,7 @@ log2_fits x = subst (λ (y : Float). T (fits binary64 y)) (sym (log2_is x)) (by_
 
 by_series : (v : Float) (n : ℤ) → T (fits binary64 (exp_by v n))
 unfolding exp_by
-by_series v n = mul-fits binary64 (exp_series (rest v n)) (fin false 1 n)
+by_series v n = mul-fits binary64 (exp_series (rest v (of_int binary64 n))) (fin false 1 n)
 
 zero_fits : T (fits binary64 zero_f)
 unfolding fits

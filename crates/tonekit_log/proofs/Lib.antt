@@ -5,5 +5,5 @@ mod LogRange
 mod Floor
 mod Turns
 mod ExpCases
-pub mod ExpRange
+mod ExpRange
 pub mod Laws

@@ -4,14 +4,14 @@ use lib.Ieee.{nan, inf, fin, up, down, binary64, fits, unlike, add, mul, lt, eq,
 use Rattle.tonekit_float.proofs.Monotone.{zero_f}
 use Rattle.tonekit_float.proofs.Signs as signs
 use Rattle.spec_arithmetic.specs.declared.Parts.{Parts}
-use Rattle.spec_arithmetic.specs.Constants.{LN2, LOG2E}
+use Rattle.spec_arithmetic.specs.Constants.{LN2_HI, LN2_LO, LOG2E}
 use Rattle.spec_arithmetic.specs.Log.{parts_of, centred, log_by, series, ln_of, log2_of}
 use Rattle.tonekit_log.proofs.PartsOf.{scaled_is}
 use Rattle.tonekit_float.proofs.Narrowing.{round_number}
 use Rattle.tonekit_log.specs.Found.{scaled}
 
 abbrev pub ln_at : Parts → Float
-ln_at p = add binary64 (mul binary64 p.e LN2) (series p.m)
+ln_at p = add binary64 (mul binary64 p.e LN2_HI) (add binary64 (series p.m) (mul binary64 p.e LN2_LO))
 
 abbrev pub log2_at : Parts → Float
 log2_at p = add binary64 p.e (mul binary64 (series p.m) LOG2E)

@@ -19,7 +19,7 @@ use Rattle.tonekit_float.proofs.Size.{within_lit, in_within}
 use Rattle.tonekit_float.proofs.Patterns.{units_in, units_pos, units_lt}
 use Rattle.tonekit_float.proofs.Signs as signs
 use Rattle.spec_arithmetic.specs.declared.Parts.{Parts}
-use Rattle.spec_arithmetic.specs.Constants.{LN2, LOG2E, half, one64}
+use Rattle.spec_arithmetic.specs.Constants.{LN2_HI, LN2_LO, LOG2E, half, one64}
 use Rattle.spec_arithmetic.specs.Log.{recip, log_horner, series, parts_of, centred, log_by}
 use Rattle.tonekit_log.proofs.Powers.{minus_is, from_above}
 use Rattle.tonekit_log.proofs.LogCases.{number_is, ln_at, log2_at}
@@ -35,7 +35,7 @@ at_itself : (x : Float) → T (finite x) → In x x x
 at_itself x f = record { low = le_refl_finite x f; high = le_refl_finite x f }
 
 -- a factor that is not negative, on the right
-in_times : (a b z : Float) {x : Float} → T (finite a && finite b) → T (finite z) → T (le zero_f z) → In a b x → In (mul binary64 a z) (mul binary64 b z) (mul binary64 x z)
+pub in_times : (a b z : Float) {x : Float} → T (finite a && finite b) → T (finite z) → T (le zero_f z) → In a b x → In (mul binary64 a z) (mul binary64 b z) (mul binary64 x z)
 in_times a b z {x} t Z n h =
     let A = and_l (finite a) (finite b) t in
     let B = and_r (finite a) (finite b) t in
@@ -336,21 +336,28 @@ ends : T (finite (neg (W 1074)) && finite (W 1024)) × T (finite (neg one_f) && 
 unfolding neg of_int round
 ends = (tt, tt)
 
-factors : T (finite LN2) × T (le zero_f LN2) × T (finite LOG2E) × T (le zero_f LOG2E)
+factors : T (finite LN2_HI) × T (le zero_f LN2_HI) × T (finite LN2_LO) × T (le zero_f LN2_LO) × T (finite LOG2E) × T (le zero_f LOG2E)
 unfolding of_bits le lt eq
-factors = (tt, tt, tt, tt)
+factors = (tt, tt, tt, tt, tt, tt)
 
-ln_finite4 : T (finite4 (mul binary64 (neg (W 1074)) LN2) (mul binary64 (W 1024) LN2) (neg one_f) one_f)
-unfolding of_bits neg of_int mul round
-ln_finite4 = tt
+-- the series and e·lo
+abbrev low_down : Float
+low_down = add binary64 (neg one_f) (mul binary64 (neg (W 1074)) LN2_LO)
+
+abbrev low_up : Float
+low_up = add binary64 one_f (mul binary64 (W 1024) LN2_LO)
+
+ln_finite4 : T (finite4 (neg one_f) one_f (mul binary64 (neg (W 1074)) LN2_LO) (mul binary64 (W 1024) LN2_LO)) × T (finite4 (mul binary64 (neg (W 1074)) LN2_HI) (mul binary64 (W 1024) LN2_HI) low_down low_up)
+unfolding of_bits neg of_int mul add sum round
+ln_finite4 = (tt, tt)
 
 log2_finite4 : T (finite4 (neg (W 1074)) (W 1024) (mul binary64 (neg one_f) LOG2E) (mul binary64 one_f LOG2E))
 unfolding of_bits neg of_int mul round
 log2_finite4 = tt
 
-ln_ends : Within 746 (add binary64 (mul binary64 (neg (W 1074)) LN2) (neg one_f)) × Within 746 (add binary64 (mul binary64 (W 1024) LN2) one_f)
+ln_ends : Within 746 (add binary64 (mul binary64 (neg (W 1074)) LN2_HI) low_down) × Within 746 (add binary64 (mul binary64 (W 1024) LN2_HI) low_up)
 unfolding of_bits neg of_int mul add sum round
-ln_ends = (within_lit 746 (add binary64 (mul binary64 (neg (W 1074)) LN2) (neg one_f)) tt, within_lit 746 (add binary64 (mul binary64 (W 1024) LN2) one_f) tt)
+ln_ends = (within_lit 746 (add binary64 (mul binary64 (neg (W 1074)) LN2_HI) low_down) tt, within_lit 746 (add binary64 (mul binary64 (W 1024) LN2_HI) low_up) tt)
 
 log2_ends : Within 1076 (add binary64 (neg (W 1074)) (mul binary64 (neg one_f) LOG2E)) × Within 1076 (add binary64 (W 1024) (mul binary64 one_f LOG2E))
 unfolding of_bits neg of_int mul add sum round
@@ -359,12 +366,13 @@ log2_ends = (within_lit 1076 (add binary64 (neg (W 1074)) (mul binary64 (neg one
 pub ln_at_in : (p : Parts) → Centred p → Within 746 (ln_at p)
 ln_at_in p c =
     in_within ln_ends.0 ln_ends.1
-    (in_add binary64 ln_finite4 (in_times (neg (W 1074)) (W 1024) LN2 ends.0 factors.0 factors.1 c.e_in) (series_in p.m c.m_in))
+    (in_add binary64 ln_finite4.1 (in_times (neg (W 1074)) (W 1024) LN2_HI ends.0 factors.0 factors.1 c.e_in)
+    (in_add binary64 ln_finite4.0 (series_in p.m c.m_in) (in_times (neg (W 1074)) (W 1024) LN2_LO ends.0 factors.2 factors.3 c.e_in)))
 
 pub log2_at_in : (p : Parts) → Centred p → Within 1076 (log2_at p)
 log2_at_in p c =
     in_within log2_ends.0 log2_ends.1
-    (in_add binary64 log2_finite4 c.e_in (in_times (neg one_f) one_f LOG2E ends.1 factors.2 factors.3 (series_in p.m c.m_in)))
+    (in_add binary64 log2_finite4 c.e_in (in_times (neg one_f) one_f LOG2E ends.1 factors.4 factors.5 (series_in p.m c.m_in)))
 
 pub by_parts : (f : Parts → Float) (k : ℕ) → ((p : Parts) → Centred p → Within k (f p)) → (x : Float) → T (fits binary64 x) → T (lt zero_f x) → T (lt x (inf false)) → Within k (log_by f x)
 by_parts f k each x p g h =

@@ -11,7 +11,9 @@ ghost use Rattle.tonekit_log.specs.Found.{fields, scaled, IsPartsOf};
 pub use spec_arithmetic::Parts;
 use tonekit_float::Positive;
 
-const LN2: f64 = 0.6931471805599453;
+const LN2_HI: f64 = 0.6931471803691238;
+
+const LN2_LO: f64 = 1.9082149292705877e-10;
 
 const LOG2E: f64 = 1.4426950408889634;
 
@@ -103,7 +105,7 @@ pub fn ln(x: f64) -> f64
     ensures { result ≡ ln_of x }
 {
     match split(x) {
-        Ok(p) => p.e * LN2 + log_series(p.m),
+        Ok(p) => p.e * LN2_HI + (log_series(p.m) + p.e * LN2_LO),
         Err(limit) => limit,
     }
 }
@@ -185,6 +187,6 @@ pub fn exp(v: f64) -> f64
     }
     let t = v * LOG2E + 0.5;
     let n = whole_below(t);
-    let r = v - (n as f64) * LN2;
+    let r = (v - (n as f64) * LN2_HI) - (n as f64) * LN2_LO;
     exp_series(r) * f64::from_bits(((1023 + n) as u64) * 0x10_0000_0000_0000)
 }
