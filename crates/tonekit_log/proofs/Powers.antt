@@ -1,4 +1,4 @@
--- The logarithms of a power of two: its series is exactly 0, and adding 0 changes nothing. Assumes nothing.
+-- The logarithms of a power of two: its series is exactly 0, adding 0 changes nothing, and the exponent times LN2's high part is exact. Assumes nothing.
 use Rattle.std.proofs.Common.{◌≡◌, ℕ, zero, suc, ◌+◌, ◌-◌, ◌*◌, ◌/◌, ◌^◌, ◌<◌, ◌≤◌, Bool, true, false, cond, T, ◌⊎◌, ℤ, pos, negsuc, nat_abs, sym, refl, ap, ◌∙◌, subst, inl, inr, le_of_eq, lt_irrefl, lt_of_lt_of_le, mul_assoc, mul-one, mul_comm, mul-pos, one-mul, div-one, mul-div_cancel, arith, lit<, lit≤, pow_pos, pow-add}
 use lib.Dec.{leb-zero, leb-suc-zero}
 use borrow.Author.Tests.{lt-leb}
@@ -130,7 +130,7 @@ low_stays (negsuc k) h =
     (mul_le_left binary64 m (neg (whole binary64 1)) LN2_LO (neg_finite n F) one_down.2 low_finite.0 low_finite.1 (neg_le (whole binary64 1) n (whole_le binary64 1 (suc k) (from_one k))))))
     ∙ sym (ap (λ (y : Float). mul binary64 y LN2_LO) (minus_is k))
 
--- LN2's high part in units of 2 ^ -32
+-- ---- LN2's high part, in units of 2 ^ -32, and a whole number of at most 21 binary digits times it: exact
 abbrev pub high32 : ℕ
 high32 = 0xB172_17F7
 
@@ -138,7 +138,6 @@ high_is : LN2_HI ≡ fin false high32 (negsuc 31)
 unfolding of_bits
 high_is = refl
 
--- a whole number of at most 21 binary digits times the high part, exactly
 times_high : (x : Float) (s : Bool) (n : ℕ) → n < 2 ^ 21 → HasValue x s n 1 → HasValue (mul binary64 x (fin false high32 (negsuc 31))) s (n * high32) (2 ^ 32)
 unfolding mul
 times_high nan s n h v = absurd v
@@ -148,10 +147,10 @@ times_high (fin t m e) s n h v =
     let S = unlike t false in
     let D = mul-pos (down_pos e) (pow_pos 32) in
     let c : M * (high32 * 1) * 2 ^ 32 ≡ n * high32 * (down e * 2 ^ 32) = mul_assoc M (high32 * 1) (2 ^ 32) ∙ ap (λ (z : ℕ). z * (high32 * 2 ^ 32)) (sym (mul-one M) ∙ v.1) ∙ mul-mul-mul_comm n (down e) high32 (2 ^ 32) in
-    let few : n * high32 < 2 ^ 53 = omega arith in
+    let digits : n * high32 < 2 ^ 53 = omega arith in
     subst (λ (b : Bool). HasValue (round binary64 S (M * (high32 * 1)) (down e * 2 ^ 32)) b (n * high32) (2 ^ 32)) (same t ∙ v.0)
     (subst (λ (y : Float). HasValue y S (n * high32) (2 ^ 32)) (sym (round_same binary64 S (M * (high32 * 1)) (down e * 2 ^ 32) (n * high32) (2 ^ 32) D (pow_pos 32) c))
-    (round_exact binary64 S (n * high32) (2 ^ 32) (n * high32) 1042 (pow_pos 32) few (lt_of_lt_of_le (shl_lt 53 1042 few) (lit≤ tt)) (sym (mul_assoc (n * high32) (2 ^ 1042) (2 ^ 32)))))
+    (round_exact binary64 S (n * high32) (2 ^ 32) (n * high32) 1042 (pow_pos 32) digits (lt_of_lt_of_le (shl_lt 53 1042 digits) (lit≤ tt)) (sym (mul_assoc (n * high32) (2 ^ 1042) (2 ^ 32)))))
   where
     same : (t : Bool) → unlike t false ≡ t
     same true = refl
