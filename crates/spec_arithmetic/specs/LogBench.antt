@@ -24,7 +24,7 @@ unfolding log2_of add sub mul div lt of_bits of_int round log_by parts_of centre
 at_27_5 = refl
 
 -- where the series count, and where the last bit tells LN2's two parts, and the order of the operations, from every other: the logarithms of
--- 10 and e to the power −8, where the 13th term changes the last bit too
+-- 10, and e to the power −27.375, where the 13th term changes the last bit too, and v·LOG2E, −39.49, is nearer to the whole number above it
 pub ln_of_10 : ln_of (whole64 10) ≡ of_bits binary64 0x4002_6BB1_BBB5_5516
 unfolding ln_of add sub mul div lt of_bits of_int round log_by parts_of centred series log_horner
 ln_of_10 = refl
@@ -37,9 +37,9 @@ pub log2_of_3 : log2_of (whole64 3) ≡ of_bits binary64 0x3FF9_5C01_A39F_BD69
 unfolding log2_of add sub mul div lt of_bits of_int round log_by parts_of centred series log_horner
 log2_of_3 = refl
 
-pub exp_of_minus_8 : exp_of (of_bits binary64 0xC020_0000_0000_0000) ≡ of_bits binary64 0x3F35_FC21_0410_27AD
+pub exp_below_27 : exp_of (of_bits binary64 0xC03B_6000_0000_0000) ≡ of_bits binary64 0x3D76_B9A8_F25D_7B32
 unfolding exp_of is_nan neg add sub mul div lt of_bits of_int round exp_by rest exp_series exp_horner floor_of
-exp_of_minus_8 = refl
+exp_below_27 = refl
 
 -- "if m > 1.4142135623730951, halve m": not that number itself
 pub bound_not_halved : let root2 = from_bits binary64 0x3FF6_A09E_667F_3BCD in centred (record { m = root2; e = one64 }) ≡ record { m = root2; e = one64 }

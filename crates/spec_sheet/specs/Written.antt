@@ -153,6 +153,14 @@ after_tone : look_sheet printed read (at 5 1 false) ≡ none
 unfolding look_sheet index_of range_to turns_to carried_from carried_at bits_at
 after_tone = refl
 
+after_held : look_sheet printed read (at 3 1 false) ≡ some (lone 3 8 0 0)
+unfolding look_sheet index_of range_to turns_to carried_from carried_at bits_at
+after_held = refl
+
+after_unknown : look_sheet printed read (at 3 9 false) ≡ none
+unfolding look_sheet index_of range_to turns_to
+after_unknown = refl
+
 -- ---- every field of each record, read and written: bytes that are their own offsets behind the kind
 abbrev record17 : List ℕ
 record17 = 17 ∷ 1 ∷ 2 ∷ 3 ∷ 4 ∷ 5 ∷ 6 ∷ 7 ∷ 8 ∷ []
