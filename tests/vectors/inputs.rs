@@ -1,4 +1,5 @@
-// Inputs of the vectors, as bits of f64s: edges first, then seeded random ones. PER_OPERATION of each.
+// Inputs of the vectors, as bits of f64s: edges first, then seeded random ones, PER_OPERATION of each; behind these, for ln and exp,
+// the numbers at which LN2's two parts (change request 10) count most.
 #![allow(dead_code)]
 pub const PER_OPERATION: usize = 1500;
 
@@ -187,6 +188,56 @@ fn exponents(v: &mut Vec<u64>, r: &mut Random) {
     }
 }
 
+// Found by search: numbers at which lo's last digit, or the rounding of the product with lo, reaches the answer.
+const RARE_LN: [u64; 4] = [0x4700_0001_3CA5_CC92, 0x3A30_0000_2220_0AF0, 0x396F_FFFD_7B1A_EBD0, 0x473F_FFFF_96F2_7899];
+const RARE_EXP: [u64; 5] =
+    [0xC083_9A62_B5D5_3472, 0xC07B_6C31_C8AA_2181, 0xC06A_56EF_8EC9_3BB5, 0xC084_8E5F_987C_2ADD, 0xC081_3DF6_7979_E79B];
+
+// Every power of two that is an f64: their logarithms are k·hi + k·lo. Then the root of 2 in m, with its neighbours, for every fourth
+// exponent: where m is halved and e grows by 1.
+fn split_logarithms(v: &mut Vec<u64>) {
+    v.extend((0..52).map(|k| 1 << k));
+    v.extend((1..2047).map(|e| e << 52));
+    for e in (1..2047).step_by(4) {
+        beside(v, e << 52 | 0x6_A09E_667F_3BCD);
+    }
+    v.extend(RARE_LN);
+}
+
+// n of exp
+fn whole(v: f64) -> f64 {
+    (v * 1.4426950408889634 + 0.5).floor()
+}
+
+// The f64s beside v, which is not 0
+fn below(v: f64) -> f64 {
+    f64::from_bits(if v > 0.0 { v.to_bits() - 1 } else { v.to_bits() + 1 })
+}
+
+fn above(v: f64) -> f64 {
+    -below(-v)
+}
+
+// The two v between which exp's n steps up, for each n from -1020 to 1021; of those above 0 the upper alone. So every n is there that exp
+// has.
+fn split_exponents(v: &mut Vec<u64>) {
+    for n in -1020..=1021 {
+        let n = n as f64;
+        let mut last = (n - 0.5) * 0.6931471805599453;
+        while whole(last) >= n {
+            last = below(last);
+        }
+        while whole(above(last)) < n {
+            last = above(last);
+        }
+        if n <= 0.0 {
+            v.push(last.to_bits());
+        }
+        v.push(above(last).to_bits());
+    }
+    v.extend(RARE_EXP);
+}
+
 pub fn inputs(op: u8) -> Vec<u64> {
     let mut v = Vec::new();
     let mut r = Random(0x746F_6E65_6B69_7400 + op as u64);
@@ -198,6 +249,11 @@ pub fn inputs(op: u8) -> Vec<u64> {
         _ => exponents(&mut v, &mut r),
     }
     assert_eq!(v.len(), PER_OPERATION);
+    match op {
+        LN => split_logarithms(&mut v),
+        EXP => split_exponents(&mut v),
+        _ => {}
+    }
     v
 }
 

@@ -1,9 +1,11 @@
-// Vectors of ln, log2 and exp: the stand-ins of document 01, Arithmetic, operation by operation.
+// Vectors of ln, log2 and exp: the stand-ins of document 01, Arithmetic, ln and exp with change request 10's two parts of LN2, operation by
+// operation.
 mod inputs;
 use inputs::{bits, inputs, vector, EXP, LN, LOG2};
 use std::io::Write;
 
-const LN2: f64 = f64::from_bits(0x3FE6_2E42_FEFA_39EF);
+const HI: f64 = f64::from_bits(0x3FE6_2E42_FEE0_0000);
+const LO: f64 = f64::from_bits(0x3DEA_39EF_3579_3C76);
 const LOG2E: f64 = 1.4426950408889634;
 
 // e, and (2 s) p, of a positive finite number
@@ -49,7 +51,7 @@ fn exp(v: f64) -> f64 {
         return f64::INFINITY;
     }
     let n = (v * LOG2E + 0.5).floor();
-    let r = v - n * LN2;
+    let r = (v - n * HI) - n * LO;
     let mut q = 1.0;
     for j in (1..=13).rev() {
         q = 1.0 + (r * q) / j as f64;
@@ -60,7 +62,7 @@ fn exp(v: f64) -> f64 {
 fn main() {
     let mut out = std::io::stdout().lock();
     for b in inputs(LN) {
-        out.write_all(&vector(LN, b, bits(log(f64::from_bits(b), |e, t| e * LN2 + t)))).unwrap();
+        out.write_all(&vector(LN, b, bits(log(f64::from_bits(b), |e, t| e * HI + (t + e * LO))))).unwrap();
     }
     for b in inputs(LOG2) {
         out.write_all(&vector(LOG2, b, bits(log(f64::from_bits(b), |e, t| e + t * LOG2E)))).unwrap();

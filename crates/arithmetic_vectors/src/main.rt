@@ -118,7 +118,7 @@ fn main(rt: HostRuntime) -> io::Result<()> {
         tonekit_edge::say(&rt, "arithmetic_vectors", "no vectors\n");
         return Ok(());
     };
-    let mut buf = [0u8; 131072];
+    let mut buf = [0u8; 262144];
     let n = tonekit_edge::read_full(&mut file, &mut buf)?;
     tonekit_edge::say(&rt, "arithmetic_vectors", format_args!("bytes {n}\n"));
     let vectors = &buf[..n];

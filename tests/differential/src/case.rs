@@ -1,6 +1,7 @@
 //! The cases: what each is made of, and which calls it makes.
 
 use crate::damage;
+use crate::exact::exact;
 use crate::pack::{self, Pack, Part, Rule};
 use crate::query::{self, Query};
 use crate::rng::Rng;
@@ -52,12 +53,15 @@ pub const JUDGE_SHEET: u8 = 7;
 pub const LOOK_PACK: u8 = 8;
 pub const LOOK_SHEET: u8 = 9;
 pub const LN: u8 = 10;
+pub const LOG2: u8 = 11;
+pub const EXP: u8 = 12;
 pub const NARROW: u8 = 14;
 pub const EXPAND_KNOTS: u8 = 15;
 pub const MIN_MAX: u8 = 16;
 pub const SOLVE: u8 = 17;
 
 /// One call and its inputs; the second is empty where the call takes one.
+#[derive(PartialEq)]
 pub struct Call {
     pub call: u8,
     pub a: Vec<u8>,
@@ -218,6 +222,26 @@ fn settle(p: &mut Pack, accent: usize, judged: &dyn Fn(&Pack) -> Option<f32>) {
     p.accents[accent].tolerances = best.1;
 }
 
+/// Numbers, found by search, at which what next to no other shows can be seen.
+const RARE: [u64; 9] = [
+    0x4700_0001_3CA5_CC92, // ln: lo's last digit, and the rounding of e·lo
+    0x3A30_0000_2220_0AF0, // ln: lo's last digit
+    0x396F_FFFD_7B1A_EBD0, // ln: the rounding of e·lo
+    0xC083_9A62_B5D5_3472, // exp: lo's last digit
+    0xC06A_56EF_8EC9_3BB5, // exp: lo's last digit
+    0xC084_8E5F_987C_2ADD, // exp: lo's last digit, and the rounding of n·lo
+    0xC081_3DF6_7979_E79B, // exp: the rounding of n·lo
+    0xC02B_0861_A6C0_F69C, // exp: n by division by LN2
+    0xC037_386E_22ED_F4A7, // exp: n by division by LN2
+];
+
+/// A number n + `more` times LN2, mostly below 0, up to `far` from there or a few steps off.
+fn beside(r: &mut Rng, more: f64, far: f64) -> u64 {
+    let n = r.range(0, 1021) as f64 * r.pick(&[1.0, -1.0, -1.0, -1.0]);
+    let v = (n + more) * std::f64::consts::LN_2 + (r.unit() - 0.5) * far;
+    v.to_bits().wrapping_add(r.below(5) as u64).wrapping_sub(2)
+}
+
 /// Bits of f64s for the single functions.
 fn bits(r: &mut Rng) -> u64 {
     let special = [
@@ -246,7 +270,27 @@ fn bits(r: &mut Rng) -> u64 {
         0x3690_0000_0000_0000, // half of it
         0x3810_0000_0000_0000, // least normal f32
     ];
-    match r.below(16) {
+    match r.below(20) {
+        // Powers of two, and next to them.
+        16 if r.chance(1, 4) => r.pick(&RARE),
+        16 => {
+            let power = match r.range(0, 2097) as u64 {
+                k @ 0..=51 => 1 << k,
+                k => (k - 51) << 52,
+            };
+            power.wrapping_add(r.pick(&[0, 0, 1, u64::MAX]))
+        }
+        // Where m is halved, and next to it, with any exponent.
+        17 => {
+            let border = 0x0006_A09E_667F_3BCD + r.below(3) as u64 - 1;
+            (r.range(1, 2046) as u64) << 52 | border
+        }
+        // Where v·LOG2E + 0.5 steps from one whole number to the next, and where v is next to n·LN2.
+        18 => beside(r, -0.5, 0.0),
+        19 => {
+            let far = r.pick(&[0.1, 1.0e-3, 1.0e-5, 1.0e-9]);
+            beside(r, 0.0, far)
+        }
         // Mantissas at the ends of the series' reach, where its last term counts most.
         12..=14 => {
             let m = r.pick(&[1.400, 1.41421, 1.4143, 1.405, 1.41]) + 0.02 * (r.unit() - 0.5);
@@ -375,6 +419,7 @@ pub fn case(seed: u64, index: u64) -> Case {
             match r.below(40) {
                 0 => overflow(r, &mut p, &mut q),
                 1 | 2 => balance(r, &mut p, &mut q),
+                3..=6 => (p, q) = exact(r),
                 _ => {}
             }
             let (bytes, q) = (p.bytes(), q.bytes());

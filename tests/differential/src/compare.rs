@@ -386,6 +386,13 @@ fn look_at(t: &mut Tally, c: &Call, ours: &Answer) {
             } else {
                 "judged: a tone heard"
             });
+            // Of shares that come to 1, or of weights that come to the tolerances' product, ln and exp's rounding is left.
+            if (3..39)
+                .step_by(4)
+                .any(|k| f32_at(b, k) != 0.0 && f32_at(b, k).abs() < 1.0e-6)
+            {
+                t.see("judged: a log-likelihood or llr next to 0");
+            }
             for k in [51, 56] {
                 if b[k] > 0 {
                     t.see(

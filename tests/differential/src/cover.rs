@@ -6,7 +6,7 @@ use std::path::Path;
 use crate::ask::Answer;
 use crate::case::*;
 use crate::limits;
-use crate::samples::{agreed, load, put, told, Sample, COVER, LIMIT};
+use crate::samples::{agreed, answer_anew, load, put, told, Sample, COVER, LIMIT};
 
 /// What samples are asked to tell apart: a mistake, where it matters by a call of one number.
 pub struct Unit {
@@ -30,12 +30,13 @@ impl Unit {
     }
 }
 
-/// The calls that must tell a mistake apart each for itself: the readers, for what they share (ranges; places and order), and
-/// a step of the arithmetic alone. None stands for any call.
+/// The calls that must tell a mistake apart each for itself: the readers, for what they share (ranges; places and order), a step
+/// of the arithmetic alone, and for what change request 10 split a function alone and a whole record. None stands for any call.
 fn callers(number: u32) -> &'static [Option<u8>] {
     const PACK: Option<u8> = Some(CHECK_PACK);
     const QUERY: Option<u8> = Some(CHECK_QUERY);
     const SHEET: Option<u8> = Some(CHECK_SHEET);
+    const RECORD: Option<u8> = Some(JUDGE);
     match number {
         20 => &[None, Some(MIN_MAX)],
         21 => &[Some(MIN_MAX)],
@@ -45,6 +46,11 @@ fn callers(number: u32) -> &'static [Option<u8>] {
         42 => &[SHEET],
         31..=48 | 55 => &[PACK, SHEET],
         51..=56 => &[PACK, QUERY, SHEET],
+        6 | 7 | 371..=379 => &[Some(LN), RECORD],
+        380..=386 => &[Some(EXP), RECORD],
+        14 | 387 | 388 => &[Some(EXP)],
+        389 => &[Some(LOG2), RECORD],
+        390 => &[Some(LN), Some(EXP), RECORD],
         _ => &[None],
     }
 }
@@ -198,25 +204,35 @@ pub fn table(units: &[Unit], found: &[Option<String>]) -> String {
     out
 }
 
-/// The samples by hand, and the mistakes that neither they nor those of the other files tell apart.
+/// The samples that are there and those by hand, in `COVER`'s files, and the mistakes that neither they nor those of the other
+/// files tell apart.
 fn begun(dir: &Path, all: &[Unit]) -> (Vec<Sample>, Vec<Unit>) {
-    let by_hand = limits::all().into_iter();
-    let samples = by_hand.map(|(call, room)| agreed(call, room)).collect();
-    let mut files = load(dir);
-    files.retain(|f| !COVER.contains(&f.0));
+    let (covers, mut files): (Vec<_>, Vec<_>) =
+        load(dir).into_iter().partition(|f| COVER.contains(&f.0));
+    let mut samples: Vec<Sample> = covers.into_iter().flat_map(|f| f.1).collect();
+    println!("{} samples kept", samples.len());
+    let mut more = 0;
+    for (call, room) in limits::all() {
+        if !samples.iter().any(|s| s.call == call && s.room == room) {
+            samples.push(agreed(call, room));
+            more += 1;
+        }
+    }
+    println!("{more} more by hand");
     files.push((COVER[0], samples));
     let open = found(&files, all);
     let open = units().into_iter().zip(open).filter(|(_, at)| at.is_none());
     let missed = open.map(|(unit, _)| unit).collect();
-    (files.pop().expect("the samples by hand").1, missed)
+    (files.pop().expect("the covers' samples").1, missed)
 }
 
-/// Writes the samples by hand and what the other files' samples do not tell apart, and the table.
+/// Answers the samples anew, adds those by hand that are not there and such as tell apart what no sample does, and writes the
+/// table.
 pub fn write(dir: &Path, words: &Path, cases: u64, seed: u64) {
     std::panic::set_hook(Box::new(|_| {}));
     let all = units();
+    answer_anew(dir);
     let (mut samples, missed) = begun(dir, &all);
-    println!("{} samples by hand", samples.len());
     println!(
         "{} of {} lines not told apart by these and the other files",
         missed.len(),

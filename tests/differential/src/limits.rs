@@ -1,8 +1,10 @@
 //! Samples by hand: counts at their limits and past them, lent rooms around the needed length, refusals that meet in one call,
-//! and single steps of the arithmetic.
+//! exact scores, and single steps of the arithmetic.
 
 use crate::bytes::{record_length, starts};
 use crate::case::*;
+use crate::exact::exact;
+use crate::moved::BEFORE;
 use crate::pack::{Accent, Pack, Part, Rule, Tone};
 use crate::query::{Frame, Query};
 use crate::rng::Rng;
@@ -269,6 +271,39 @@ fn meetings(all: &mut Asking) {
     ask(0, None, &[&|q| q.floor = f32::NAN]);
 }
 
+/// Scores that are exact but for ln and exp: the judgement that docs/DIFFERENCES.md gives, with CreakyTail and without, and the
+/// first of a seed that change request 10 moved.
+fn exact_scores(all: &mut Asking) {
+    let mut p = pack(1, 1);
+    (p.threshold, p.tones[0].prior, p.tones[0].knots) = (0.5, 1.0, vec![3.0]);
+    p.accents[0].tolerances = [1.0; 4];
+    for issues in [1 << 9, 0] {
+        let mut q = query(1, 0);
+        (q.ceil, q.issues, q.variants) = (24.0, issues, vec![(1, 0.1)]);
+        for f in &mut q.frames {
+            (f.hz, f.p) = (110.0, 1.0);
+        }
+        all.ask(0, JUDGE, &p.bytes(), &q.bytes());
+    }
+    let made = (0..).map(|i| exact(&mut Rng::new(1, i)));
+    let made = made.map(|(p, q)| (p.bytes(), q.bytes()));
+    let moved = made.filter(|(p, q)| {
+        reference::plant(BEFORE);
+        let before = reference::judge(p, q);
+        reference::plant(0);
+        before != reference::judge(p, q)
+    });
+    for (p, q) in moved.take(12) {
+        all.ask(0, JUDGE, &p, &q);
+        all.ask(
+            0,
+            JUDGE_SHEET,
+            &reference::write_sheet(&p).expect("a pack that loads"),
+            &q,
+        );
+    }
+}
+
 /// Single steps: minimum and maximum of every pair of some numbers, and grids of small whole numbers, whose pivots are often
 /// equal, and two whose first pivot is 1e−12 and the number before it.
 fn steps(all: &mut Asking) {
@@ -308,6 +343,7 @@ pub fn all() -> Vec<Asked> {
     query_limits(&mut all);
     rooms(&mut all);
     meetings(&mut all);
+    exact_scores(&mut all);
     steps(&mut all);
     all.0
 }

@@ -7,7 +7,9 @@ mod compare;
 mod cover;
 mod coverage;
 mod damage;
+mod exact;
 mod limits;
+mod moved;
 mod pack;
 mod port;
 mod predict;
@@ -23,7 +25,7 @@ use std::time::Instant;
 
 use tally::Tally;
 
-const THREADS: u64 = 2;
+pub const THREADS: u64 = 2;
 
 /// With `plant` other than 0 the reference has that mistake, and the run should fail.
 fn run(cases: u64, seed: u64, plant: u32) -> bool {
@@ -134,6 +136,10 @@ fn main() {
             true
         }
         "replay" => samples::replay(Path::new(&args[1])) == 0,
+        "moved" => {
+            moved::moved(number(1, 100_000), number(2, 1));
+            true
+        }
         "sheets" => {
             write_sheets(number(1, 2_000), number(2, 1));
             true

@@ -189,6 +189,28 @@ pub fn write(dir: &Path, seed: u64) {
     }
 }
 
+/// Answers every sample anew, and prints which answers changed. What each was asked stays.
+pub fn answer_anew(dir: &Path) {
+    for (name, samples) in load(dir) {
+        let (mut out, mut count) = (Vec::new(), 0);
+        let mut changed: BTreeMap<u8, Vec<usize>> = BTreeMap::new();
+        for (index, s) in samples.into_iter().enumerate() {
+            let (before, now) = (s.fixed, agreed(s.call, s.room));
+            if now.fixed != before {
+                changed.entry(now.call.call).or_default().push(index);
+            }
+            put(&mut out, &now);
+            count += 1;
+        }
+        std::fs::write(dir.join(name), &out).expect("a samples' file");
+        println!("{name}: {count} samples answered anew");
+        for (call, at) in changed {
+            let call = CALLS[usize::from(call)];
+            println!("  {} of {call} have another answer: {at:?}", at.len());
+        }
+    }
+}
+
 /// Replays every file on reference, oracle and port; how many answers differ.
 pub fn replay(dir: &Path) -> u64 {
     let mut differ = 0;

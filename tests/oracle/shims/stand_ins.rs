@@ -1,7 +1,9 @@
-//! Document 01's logarithm and exponential, in its operations and its order. The scripted edits
-//! put these in the place of `ln`, `log2` and `exp` of the standard library.
+//! Document 01's logarithm and exponential with the split LN2 of change request 10, in their
+//! operations and their order. The scripted edits put these in the place of `ln`, `log2` and `exp`
+//! of the standard library.
 
-const LN2: f64 = f64::from_bits(0x3FE6_2E42_FEFA_39EF);
+const LN2_HI: f64 = f64::from_bits(0x3FE6_2E42_FEE0_0000);
+const LN2_LO: f64 = f64::from_bits(0x3DEA_39EF_3579_3C76);
 const LOG2E: f64 = 1.4426950408889634;
 
 pub trait StandIns {
@@ -13,7 +15,7 @@ pub trait StandIns {
 impl StandIns for f64 {
     fn stand_in_ln(self) -> f64 {
         match parts(self) {
-            Ok((e, tail)) => e * LN2 + tail,
+            Ok((e, tail)) => e * LN2_HI + (tail + e * LN2_LO),
             Err(limit) => limit,
         }
     }
@@ -36,7 +38,7 @@ impl StandIns for f64 {
             return f64::INFINITY;
         }
         let n = (self * LOG2E + 0.5).floor();
-        let r = self - n * LN2;
+        let r = (self - n * LN2_HI) - n * LN2_LO;
         let mut q = 1.0;
         for j in (1..=13).rev() {
             q = 1.0 + (r * q) / f64::from(j);

@@ -1,9 +1,13 @@
-//! Document 01, "Arithmetic": each operation rounded once, in the stated order.
+//! Document 01, "Arithmetic", with change request 10: each operation rounded once, in the stated
+//! order.
 
 use crate::plant::*;
 
-/// "LN2 is 0x3FE62E42FEFA39EF"
-pub const LN2: f64 = f64::from_bits(0x3FE6_2E42_FEFA_39EF);
+/// "LN2 is split into hi = 0x3FE62E42FEE00000 and lo = 0x3DEA39EF35793C76."
+const HI: f64 = f64::from_bits(0x3FE6_2E42_FEE0_0000);
+const LO: f64 = f64::from_bits(0x3DEA_39EF_3579_3C76);
+/// LN2 before it was split; only planted mistakes use it.
+const WHOLE: f64 = f64::from_bits(0x3FE6_2E42_FEFA_39EF);
 /// "LOG2E the f64 nearest 1.4426950408889634"
 #[allow(clippy::approx_constant)]
 pub const LOG2E: f64 = 1.442_695_040_888_963_4;
@@ -79,22 +83,35 @@ fn special(x: f64) -> Option<f64> {
     }
 }
 
-/// "ln is e·LN2 + (2·s)·p"
+/// A part of LN2, one unit of its last digit more.
+fn last_digit_more(part: f64) -> f64 {
+    f64::from_bits(part.to_bits() + 1)
+}
+
+/// "ln becomes e·hi + ((2·s)·p + e·lo)"
 pub fn ln(x: f64) -> f64 {
     if let Some(y) = special(x) {
         return y;
     }
     let (e, s, p) = series(x);
-    if planted(LN_FUSED) {
-        e.mul_add(LN2, (2.0 * s) * p)
-    } else if planted(LN_FUSED_TAIL) {
-        (2.0 * s).mul_add(p, e * LN2)
-    } else {
-        e * LN2 + (2.0 * s) * p
+    let tail = (2.0 * s) * p;
+    match () {
+        _ if planted(LN_FUSED) => e * HI + e.mul_add(LO, tail),
+        _ if planted(LN_FUSED_TAIL) => e * HI + (2.0 * s).mul_add(p, e * LO),
+        _ if planted(LN_ONE_PRODUCT) || planted(NOTHING_SPLIT) => e * WHOLE + tail,
+        _ if planted(LN_EXCHANGED) => e * LO + (tail + e * HI),
+        _ if planted(LN_PARTS_FIRST) => (e * HI + e * LO) + tail,
+        _ if planted(LN_NO_LOW) => e * HI + tail,
+        _ if planted(LN_LOW_ONCE) => e * HI + (tail + LO),
+        _ if planted(LN_LOW_NEGATIVE) => e * HI + (tail - e * LO),
+        _ if planted(LN_WHOLE_AND_LOW) => e * WHOLE + (tail + e * LO),
+        _ if planted(LN_HIGH_DIGIT) => e * last_digit_more(HI) + (tail + e * LO),
+        _ if planted(LN_LOW_DIGIT) => e * HI + (tail + e * last_digit_more(LO)),
+        _ => e * HI + (tail + e * LO),
     }
 }
 
-/// "log2 is e + ((2·s)·p)·LOG2E"
+/// "log2 is e + ((2·s)·p)·LOG2E", "log2 is left as it was"
 pub fn log2(x: f64) -> f64 {
     if planted(LOG2_OF_LN) {
         return ln(x) * LOG2E;
@@ -106,14 +123,17 @@ pub fn log2(x: f64) -> f64 {
     if planted(LOG2_GROUPED) {
         e + (2.0 * s) * (p * LOG2E)
     } else if planted(LOG2_OVER_LN2) {
-        e + ((2.0 * s) * p) / LN2
+        e + ((2.0 * s) * p) / WHOLE
+    } else if planted(LOG2_WITH_LOW) {
+        e + ((2.0 * s) * p + e * LO) * LOG2E
     } else {
         e + ((2.0 * s) * p) * LOG2E
     }
 }
 
 /// "exp ...: NaN gives NaN, below −708 it is 0, above 708 +infinity. Else n = floor(v·LOG2E + 0.5),
-/// r = v − n·LN2, q = 1; for j from 13 down to 1, q becomes 1 + (r·q)/j; result q·2^n."
+/// .., q = 1; for j from 13 down to 1, q becomes 1 + (r·q)/j; result q·2^n."
+/// "exp's r becomes (v − n·hi) − n·lo"
 pub fn exp(v: f64) -> f64 {
     if v.is_nan() {
         return f64::NAN;
@@ -125,8 +145,23 @@ pub fn exp(v: f64) -> f64 {
     if v > 708.0 {
         return f64::INFINITY;
     }
-    let n = if planted(EXP_TRUNCATED) { (v * LOG2E).trunc() } else { (v * LOG2E + 0.5).floor() };
-    let r = if planted(EXP_FUSED_REST) { (-n).mul_add(LN2, v) } else { v - n * LN2 };
+    let n = match () {
+        _ if planted(EXP_TRUNCATED) => (v * LOG2E).trunc(),
+        _ if planted(EXP_N_DIVIDED) => (v / WHOLE + 0.5).floor(),
+        _ => (v * LOG2E + 0.5).floor(),
+    };
+    let r = match () {
+        _ if planted(EXP_FUSED_REST) => (-n).mul_add(LO, v - n * HI),
+        _ if planted(EXP_ONE_PRODUCT) || planted(NOTHING_SPLIT) => v - n * WHOLE,
+        _ if planted(EXP_EXCHANGED) => (v - n * LO) - n * HI,
+        _ if planted(EXP_PARTS_FIRST) => v - (n * HI + n * LO),
+        _ if planted(EXP_NO_LOW) => v - n * HI,
+        _ if planted(EXP_LOW_ADDED) => (v - n * HI) + n * LO,
+        _ if planted(EXP_WHOLE_AND_LOW) => (v - n * WHOLE) - n * LO,
+        _ if planted(EXP_HIGH_DIGIT) => (v - n * last_digit_more(HI)) - n * LO,
+        _ if planted(EXP_LOW_DIGIT) => (v - n * HI) - n * last_digit_more(LO),
+        _ => (v - n * HI) - n * LO,
+    };
     let mut q = 1.0;
     let from = if planted(EXP_TERMS) { 12 } else { 13 };
     if planted(EXP_GROUPED) {

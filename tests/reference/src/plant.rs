@@ -32,7 +32,7 @@ mistakes! {
     3 LN_HALVE_LATE "ln, log2: m halved above 1.5";
     4 LN_TERMS "ln, log2: one term fewer";
     5 LN_FUSED_TERM "ln, log2: p·z + 1/(2j+1) rounded once";
-    6 LN_FUSED "ln: e·LN2 fused into the sum";
+    6 LN_FUSED "ln: e·lo fused into the sum";
     7 LN_FUSED_TAIL "ln: (2·s)·p fused into the sum";
     8 LOG2_OF_LN "log2: ln times LOG2E";
     9 LOG2_GROUPED "log2: (2·s)·(p·LOG2E)";
@@ -40,7 +40,7 @@ mistakes! {
     11 EXP_ZERO_EARLY "exp: 0 below −700";
     12 EXP_ZERO_AT "exp: 0 at −708 too";
     13 EXP_TRUNCATED "exp: n cut off instead of rounded";
-    14 EXP_FUSED_REST "exp: v − n·LN2 rounded once";
+    14 EXP_FUSED_REST "exp: n·lo fused into the difference";
     15 EXP_TERMS "exp: one term fewer";
     16 EXP_GROUPED "exp: 1 + r·(q/j)";
     17 ROOT_IN_F32 "root in f32";
@@ -371,4 +371,25 @@ mistakes! {
     365 WIDEN_BY_ALL "only all three together widen";
     366 WIDEN_BY_VALUE "1 + 0.5 × the bits as they stand";
     367 WIDEN_BIT_EARLY "bits 0, 1 and 3 widen";
+    // A finer logarithm (change request 10)
+    371 LN_ONE_PRODUCT "ln: e·LN2 in one product";
+    372 LN_EXCHANGED "ln: hi and lo exchanged, so that e·lo is added last";
+    373 LN_PARTS_FIRST "ln: e·hi + e·lo summed first";
+    374 LN_NO_LOW "ln: e·lo left out";
+    375 LN_LOW_ONCE "ln: lo added once instead of e times";
+    376 LN_LOW_NEGATIVE "ln: e·lo subtracted";
+    377 LN_WHOLE_AND_LOW "ln: LN2 whole in hi's place, and e·lo besides";
+    378 LN_HIGH_DIGIT "ln: hi's last digit one more";
+    379 LN_LOW_DIGIT "ln: lo's last digit one more";
+    380 EXP_ONE_PRODUCT "exp: n·LN2 in one product";
+    381 EXP_EXCHANGED "exp: hi and lo exchanged";
+    382 EXP_PARTS_FIRST "exp: v − (n·hi + n·lo)";
+    383 EXP_NO_LOW "exp: n·lo left out";
+    384 EXP_LOW_ADDED "exp: n·lo added";
+    385 EXP_WHOLE_AND_LOW "exp: LN2 whole in hi's place, and n·lo besides";
+    386 EXP_HIGH_DIGIT "exp: hi's last digit one more";
+    387 EXP_LOW_DIGIT "exp: lo's last digit one more";
+    388 EXP_N_DIVIDED "exp: n by division by LN2 instead of times LOG2E";
+    389 LOG2_WITH_LOW "log2: e·lo added to (2·s)·p too";
+    390 NOTHING_SPLIT "ln and exp by LN2 in one product, as before the request";
 }
