@@ -5,3 +5,4 @@ mod Terms
 mod Agree
 pub mod Bounds
 pub mod Winner
+pub mod Anew

@@ -6,3 +6,4 @@ mod Found
 mod Built
 mod Parts
 pub mod Outcomes
+pub mod Anew

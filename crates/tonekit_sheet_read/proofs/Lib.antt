@@ -7,3 +7,4 @@ pub mod Reading
 pub mod Kept
 pub mod Front
 pub mod Bounds
+pub mod Anew

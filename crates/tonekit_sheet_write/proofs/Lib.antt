@@ -1,3 +1,4 @@
 pub mod Bytes
 pub mod Together
 pub mod Answers
+pub mod Anew
