@@ -6,4 +6,3 @@ pub mod OwnRule
 pub mod Accents
 pub mod Tones
 pub mod BookOfRecords
-pub mod Anew

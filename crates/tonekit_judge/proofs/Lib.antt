@@ -5,4 +5,3 @@ mod Terms
 mod Agree
 pub mod Bounds
 pub mod Winner
-pub mod Anew

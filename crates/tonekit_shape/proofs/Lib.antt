@@ -6,4 +6,3 @@ mod Found
 mod Built
 mod Parts
 pub mod Outcomes
-pub mod Anew

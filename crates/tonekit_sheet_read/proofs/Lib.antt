@@ -7,4 +7,3 @@ pub mod Reading
 pub mod Kept
 pub mod Front
 pub mod Bounds
-pub mod Anew

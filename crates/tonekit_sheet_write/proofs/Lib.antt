@@ -1,4 +1,3 @@
 pub mod Bytes
 pub mod Together
 pub mod Answers
-pub mod Anew
