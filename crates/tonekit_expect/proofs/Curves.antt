@@ -15,7 +15,7 @@ use Rattle.spec_arithmetic.specs.Places.{index_of, number_at}
 use Rattle.spec_pack.specs.Ranges.{knot_fine, slot_fine, knots_fine}
 use Rattle.spec_arithmetic.specs.Files.{loaded}
 use Rattle.spec_pack.specs.Pack.{PackRead, read_pack, parts_from}
-use Rattle.tonekit_pack.proofs.SlotTurn.{slot_turn}
+use Rattle.tonekit_ranges.proofs.SlotTurn.{slot_turn}
 use Rattle.spec_pack.specs.Pack.{PackRead}
 use Rattle.std.specs.Prelude.{Some, None}
 use Rattle.spec_lookup.specs.declared.Context.{Context}

@@ -7,7 +7,7 @@ use Rattle.tonekit_core.proofs.LoopLaws.{range_same}
 use Rattle.spec_arithmetic.specs.Fields.{byte_at}
 use Rattle.tonekit_bytes.proofs.Agreeing.{Agree, taken_agrees, four, float}
 use Rattle.spec_pack.specs.Ranges.{slot_fine, knots_fine, region_fine, tolerances_fine}
-use Rattle.tonekit_pack.proofs.SlotTurn.{slot_turn}
+use Rattle.tonekit_ranges.proofs.SlotTurn.{slot_turn}
 use Rattle.spec_arithmetic.specs.Places.{number_at}
 use Rattle.spec_pack.specs.Pack.{PackRead, size_of, holds, zero_or_held, settings_verdict, tone_verdict, accent_verdict, rule_verdict, part_verdict, body_verdict, due_after, record_verdict, added, pack_reader, read_pack, load_pack}
 use Rattle.tonekit_core.proofs.Split.{split}

@@ -1,4 +1,3 @@
-pub mod SlotTurn
 pub mod Numbers
 pub mod ByKind
 pub mod Limits
@@ -9,4 +8,3 @@ pub mod Reading
 pub mod Single
 pub mod Loads
 pub mod Front
-pub mod Bounds

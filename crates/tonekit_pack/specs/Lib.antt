@@ -1,4 +1,3 @@
-pub mod Sizes
 pub mod Kinds
 pub mod Held
 pub mod Format

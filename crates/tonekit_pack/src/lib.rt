@@ -8,7 +8,6 @@ use tonekit_bytes::places::Offsets;
 pub mod format;
 mod kind;
 mod load;
-pub mod ranges;
 pub mod read;
 
 pub use kind::{Kind, size_of};

@@ -8,13 +8,13 @@ ghost use Rattle.tonekit_pack.specs.Held.{records_of, answered};
 ghost use Rattle.tonekit_pack.specs.Going.{Going, judges, refuses};
 
 use crate::format::Format;
-use crate::ranges::{
-    above_zero, knots_fine, probability_fine, region_fine, tolerances_fine, weight_fine,
-};
 use crate::{Kind, Loaded, Pack};
 use tonekit_bytes::places::{Offsets, index_of};
 use tonekit_bytes::{byte_at, f32_at, u32_at};
 use tonekit_core::{Refusal, Rejection, layout, limits};
+use tonekit_ranges::{
+    above_zero, knots_fine, probability_fine, region_fine, tolerances_fine, weight_fine,
+};
 
 // Whether one of the records at these offsets has x as its number.
 #[tactic(auto, using(crate::proofs::Numbers::holds_found))]

@@ -2,7 +2,7 @@
 use Rattle.std.proofs.Common.{◌≡◌, refl, ◌&&◌, Float}
 use lib.Ieee.{binary32, lt, neg, of_bits}
 use Rattle.spec_pack.specs.Ranges.{above_zero, knot_fine}
-use Rattle.tonekit_pack.specs.Sizes.{within}
+use Rattle.tonekit_ranges.specs.Sizes.{within}
 
 pub above_bits : (x : Float) → above_zero x ≡ (lt (of_bits binary32 0) x && lt x (of_bits binary32 0x7f80_0000))
 unfolding above_zero of_bits

@@ -1,7 +1,9 @@
 // Tests of the ranges of document 01's fields, on a record's bytes.
+#![tactic(auto)]
+
 ghost use Rattle.std.specs.Prelude.{◌≡◌, ◌<◌};
 ghost use Rattle.spec_pack.specs.Ranges.{above_zero, probability_fine, weight_fine, slot_fine, knots_fine, region_fine, tolerances_fine};
-ghost use Rattle.tonekit_pack.specs.Sizes.{within};
+ghost use Rattle.tonekit_ranges.specs.Sizes.{within};
 
 use tonekit_bytes::{byte_at, f32_at, u32_at};
 use tonekit_core::layout;

@@ -5,7 +5,7 @@ use Rattle.tonekit_core.proofs.LoopLaws.{range_same}
 use Rattle.spec_arithmetic.specs.Fields.{byte_at, u32_at, f32_at}
 use Rattle.tonekit_bytes.proofs.Stands.{Stands, field32}
 use Rattle.spec_pack.specs.Ranges.{slot_fine, knots_fine, region_fine, tolerances_fine}
-use Rattle.tonekit_pack.proofs.SlotTurn.{slot_turn}
+use Rattle.tonekit_ranges.proofs.SlotTurn.{slot_turn}
 use Rattle.spec_pack.specs.Pack.{size_of, settings_verdict, tone_fine, accent_fine, rule_fine, part_fine}
 
 module _ (s : List ℕ) (at : ℕ) (r : List ℕ) (h : Stands s at r) where

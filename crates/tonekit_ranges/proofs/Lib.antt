@@ -1,0 +1,2 @@
+pub mod SlotTurn
+pub mod Bounds
