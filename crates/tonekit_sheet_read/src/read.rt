@@ -11,8 +11,8 @@ use crate::{Sheet, SheetView};
 use tonekit_bytes::places::{Offsets, index_from};
 use tonekit_bytes::{byte_at, f32_at, u16_at, u32_at};
 use tonekit_core::{Refusal, layout, limits};
-use tonekit_ranges::{probability_fine, region_fine, tolerances_fine, weight_fine, within};
 use tonekit_pack::read::{in_turn, settings_verdict};
+use tonekit_ranges::{probability_fine, region_fine, tolerances_fine, weight_fine, within};
 use tonekit_sheet::{Kind, row_count};
 
 // Ten points from an offset on, each of size at most 128.
