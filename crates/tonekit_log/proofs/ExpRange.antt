@@ -1,4 +1,4 @@
--- exp of a number that is not above 0 lies from 0 to 1. With n = -k, v - n·hi is of size at most 23/64, and so the rest r at most 3/8: rounding
+-- exp of a number from -708 to 0 lies from 0 to 1. With n = -k, v - n·hi is of size at most 23/64, and so the rest r at most 3/8: rounding
 -- keeps the order, so that every bound by a fraction of few digits that holds for an exact sum or product holds for the rounded one. Then q is at
 -- most 13/8, and its half at most 1; and where k is 0, r is not above 0, and q at most 1. Assumes nothing.
 use Rattle.std.proofs.Common.{◌≡◌, ℕ, zero, suc, ◌+◌, ◌-◌, ◌*◌, ◌/◌, ◌^◌, ◌<◌, ◌≤◌, Bool, true, false, ◌&&◌, T, ℤ, pos, negsuc, neg_ℤ, sym, refl, ap, ◌∙◌, subst, true≢false, le_trans, le_of_eq, lt_of_lt_of_le, le_of_suc-le-suc, lt_irrefl, zero-le, mul-le-mul_right, zero-lt-suc, mul_assoc, mul_comm, div-lt_iff_lt-mul, add-mul, mul-lt-mul_of_pos_right, mul-pos, one-mul, lt_of_not-le, zero-mul, mul-add, div-mul-le_self, le_of_mul-le-mul_right, mul_left_comm, arith, lit<, lit≤, pow_pos, pow_mono, pow-add, Float}
@@ -18,7 +18,7 @@ use Rattle.spec_arithmetic.specs.Constants.{LN2_HI, LN2_LO, LOG2E, half, one64, 
 use Rattle.tonekit_log.proofs.Powers.{minus_is, high32, high_exact}
 use Rattle.tonekit_log.proofs.LogRange.{in_times}
 use Rattle.tonekit_log.proofs.Turns.{by_log2e, inside, keeps, v_finite, times_finite, turns_finite, no_deeper}
-use Rattle.tonekit_log.proofs.ExpCases.{exp_is, low_result}
+use Rattle.tonekit_log.proofs.ExpCases.{exp_is}
 use Rattle.spec_arithmetic.specs.Exp.{exp_horner, exp_series, floor_of, rest, exp_by, exp_of}
 
 -- ---- -n / 2 ^ b, exactly
@@ -499,26 +499,20 @@ not_above v h = go (lt bound v) refl
     go true q = absurd (bound_above (le_trans_float bound v zero_f (lt→le bound v (yes q)) h))
     go false q = refl
 
-turns_zero : T (le (by_log2e zero_f) (fin false 1 (negsuc 0))) × T (finite (mul binary64 zero_f LOG2E)) × T (le zero_f zero_f && le zero_f one_f)
+turns_zero : T (le (by_log2e zero_f) (fin false 1 (negsuc 0))) × T (finite (mul binary64 zero_f LOG2E))
 unfolding of_bits mul add sum round le lt eq
-turns_zero = (tt, tt, tt)
+turns_zero = (tt, tt)
 
-pub exp_in : (v : Float) → T (le v zero_f) → In zero_f one_f (exp_of v)
-exp_in v h = go (lt v (neg bound)) refl
-  where
-    zero_in : In zero_f one_f zero_f
-    zero_in = record { low = and_l (le zero_f zero_f) (le zero_f one_f) turns_zero.2; high = and_r (le zero_f zero_f) (le zero_f one_f) turns_zero.2 }
-
-    go : (b : Bool) → lt v (neg bound) ≡ b → In zero_f one_f (exp_of v)
-    go true q = subst (λ (y : Float). In zero_f one_f y) (low_result v (number v h) q) zero_in
-    go false q =
-        let i = inside v (number v h) q (not_above v h) in
-        let A = v_finite v i in
-        let W = times_finite v i in
-        let F = turns_finite v i in
-        let l = le_trans_float (by_log2e v) (by_log2e zero_f) (fin false 1 (negsuc 0)) (keeps v zero_f A tt W turns_zero.1 h) turns_zero.0 in
-        let f = floored (by_log2e v) F (no_deeper v i) l in
-        let k = f.k in
-        let n = no_plus v A h in
-        subst (λ (y : Float). In zero_f one_f y) (sym (exp_is v (number v h) q (not_above v h) ∙ ap (λ (z : ℤ). exp_by v z) f.at.floor))
-        (by_in v k A h f.at.few (difference_in v k A n f.at.few (near v k A n W F f.at)))
+-- from -708 to 0
+pub exp_from_bound : (v : Float) → T (le v zero_f) → lt v (neg bound) ≡ false → In zero_f one_f (exp_of v)
+exp_from_bound v h q =
+    let i = inside v (number v h) q (not_above v h) in
+    let A = v_finite v i in
+    let W = times_finite v i in
+    let F = turns_finite v i in
+    let l = le_trans_float (by_log2e v) (by_log2e zero_f) (fin false 1 (negsuc 0)) (keeps v zero_f A tt W turns_zero.1 h) turns_zero.0 in
+    let f = floored (by_log2e v) F (no_deeper v i) l in
+    let k = f.k in
+    let n = no_plus v A h in
+    subst (λ (y : Float). In zero_f one_f y) (sym (exp_is v (number v h) q (not_above v h) ∙ ap (λ (z : ℤ). exp_by v z) f.at.floor))
+    (by_in v k A h f.at.few (difference_in v k A n f.at.few (near v k A n W F f.at)))

@@ -1,6 +1,6 @@
 -- What callers may cite of ln, log2 and exp. Nothing above unfolds their definitions. Assumes nothing.
 use Rattle.std.proofs.Common.{◌≡◌, ◌*◌, ◌^◌, ◌<◌, zero, suc, Bool, true, false, cond, T, ℤ, pos, nat_abs, sym, refl, ap, ◌∙◌, subst, Float}
-use lib.Ieee.{nan, inf, fin, binary64, round, neg, sum, add, sub, mul, div, lt, le, is_nan, of_int, of_bits, fits}
+use lib.Ieee.{nan, inf, fin, binary64, round, neg, sum, add, sub, mul, div, lt, le, eq, is_nan, of_int, of_bits, fits}
 use lib.Ieee.Bits.{is_true}
 use lib.Ieee.Exact.{HasValue}
 use Rattle.std.specs.Int.{is_negative}
@@ -11,6 +11,7 @@ use Rattle.tonekit_float.proofs.Fraction.{Within}
 use Rattle.tonekit_float.proofs.Monotone.{zero_f}
 use Rattle.tonekit_float.proofs.Bounds.{in_finite}
 use Rattle.tonekit_float.proofs.Exact.{one_f}
+use Rattle.tonekit_float.proofs.Order.{yes}
 use Rattle.tonekit_float.proofs.Signs.{below}
 use Rattle.spec_arithmetic.specs.declared.Parts.{Parts}
 use Rattle.spec_arithmetic.specs.Constants.{LN2_HI, LN2_LO, LOG2E, one64, bound}
@@ -20,7 +21,7 @@ use Rattle.tonekit_log.proofs.LogCases.{ln_is, log2_is, none_of, ln_at, log2_at}
 use Rattle.tonekit_log.proofs.Powers.{Exponent, at_power, log2_at_one, ln_at_one, none_more, exponent_stays, low_stays, high_exact}
 use Rattle.tonekit_log.proofs.LogRange.{ln_at_in, log2_at_in, by_parts}
 use Rattle.tonekit_log.proofs.ExpCases as cases
-use Rattle.tonekit_log.proofs.ExpRange as range
+use Rattle.tonekit_log.proofs.ExpRange.{exp_from_bound}
 use Rattle.tonekit_log.proofs.Turns.{by_log2e}
 
 -- ---- powers of two
@@ -127,9 +128,17 @@ exp_low v h = sym (cases.low_result v (number v h) (is_true (lt v (neg bound)) h
     number (inf s) h = unfold is_nan in refl
     number (fin s m e) h = unfold is_nan in refl
 
+zero_in : In zero_f one_f zero_f
+unfolding le lt eq
+zero_in = record { low = tt; high = tt }
+
 -- of a number that is not above 0, -infinity too: from 0 to 1
 pub exp_in : (v : Float) → T (le v zero_f) → In zero_f one_f (exp_of v)
-exp_in v h = range.exp_in v h
+exp_in v h = go (lt v (neg bound)) refl
+  where
+    go : (b : Bool) → lt v (neg bound) ≡ b → In zero_f one_f (exp_of v)
+    go true q = subst (λ (y : Float). In zero_f one_f y) (sym (exp_low v (yes q))) zero_in
+    go false q = exp_from_bound v h q
 
 pub exp_finite : (v : Float) → T (le v zero_f) → T (finite (exp_of v))
 exp_finite v h = in_finite {lo = zero_f} {hi = one_f} tt (exp_in v h)
