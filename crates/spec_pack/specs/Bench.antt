@@ -1,11 +1,12 @@
 -- Worked examples, computed: the smallest pack loads, and one refusal of each number that a pack can have, with its place.
 use Rattle.std.specs.Prelude.{ℕ, ◌≡◌, refl, List, [], ◌∷◌, ◌++◌, replicate, Ok, Err}
 use Rattle.std.specs.Float.Ieee.{lt, le, of_bits}
-use Rattle.tonekit_core.specs.Loop.{range, turns, loop_to, loop_on}
-use Rattle.tonekit_core.specs.declared.Refusal.TheVariants.{Misplaced, CutShort, Overrun, Crowded, OffScale, Doubled, Loose}
+use Rattle.tonekit_core.specs.Loop.{range, turns, range_to, turns_to, loop_to, loop_on}
+use Rattle.spec_arithmetic.specs.Places.{index_of}
+use Rattle.tonekit_core.specs.declared.Refusal.TheVariants.{Misplaced, CutShort, Overrun, Crowded, OffScale, Doubled, Loose, Endless}
 use Rattle.spec_pack.specs.Ranges.{above_zero, probability_fine, knot_fine, weight_fine, slot_fine, knots_fine, region_fine, tolerances_fine}
 use Rattle.spec_arithmetic.specs.Files.{Out, loaded, refused}
-use Rattle.spec_pack.specs.Pack.{PackRead, due_after, size_of, holds, zero_or_held, settings_verdict, tone_verdict, accent_verdict, rule_verdict, part_verdict, body_verdict, record_verdict, added, read_pack, load_pack, check_pack}
+use Rattle.spec_pack.specs.Pack.{PackRead, due_after, size_of, holds, zero_or_held, settings_verdict, tone_verdict, accent_verdict, rule_verdict, part_verdict, body_verdict, record_verdict, added, parents_held, chain_ends, chains_end, end_verdict, read_pack, load_pack, check_pack}
 
 abbrev one : List ℕ
 one = 0 ∷ 0 ∷ 128 ∷ 63 ∷ []
@@ -25,77 +26,72 @@ abbrev pack : List ℕ
 pack = settings ++ (tone 1 1 ++ (accent 1 0 ++ (6 ∷ [])))
 
 smallest : load_pack pack ≡ loaded (record { last = 3; tones = 9 ∷ []; accents = 65 ∷ []; firsts = 0 ∷ []; rules = []; parts = 0; total = 0 }) 85
-unfolding load_pack read_pack record_verdict due_after size_of body_verdict settings_verdict tone_verdict accent_verdict rule_verdict part_verdict holds zero_or_held added above_zero probability_fine knot_fine weight_fine slot_fine knots_fine region_fine tolerances_fine range turns loop_to loop_on lt le of_bits
+unfolding load_pack read_pack record_verdict due_after size_of body_verdict settings_verdict tone_verdict accent_verdict rule_verdict part_verdict holds zero_or_held added parents_held chain_ends chains_end end_verdict index_of range_to turns_to above_zero probability_fine knot_fine weight_fine slot_fine knots_fine region_fine tolerances_fine range turns loop_to loop_on lt le of_bits
 smallest = refl
 
 -- a tone first
 no_settings : read_pack (tone 1 1) ≡ refused Misplaced 0
-unfolding load_pack read_pack record_verdict due_after size_of body_verdict settings_verdict tone_verdict accent_verdict rule_verdict part_verdict holds zero_or_held added above_zero probability_fine knot_fine weight_fine slot_fine knots_fine region_fine tolerances_fine range turns loop_to loop_on lt le of_bits
+unfolding load_pack read_pack record_verdict due_after size_of body_verdict settings_verdict tone_verdict accent_verdict rule_verdict part_verdict holds zero_or_held added parents_held chain_ends chains_end end_verdict index_of range_to turns_to above_zero probability_fine knot_fine weight_fine slot_fine knots_fine region_fine tolerances_fine range turns loop_to loop_on lt le of_bits
 no_settings = refl
 
 -- a kind that there is not, once something is due
 unknown_kind : read_pack (settings ++ (7 ∷ [])) ≡ refused Misplaced 9
-unfolding load_pack read_pack record_verdict due_after size_of body_verdict settings_verdict tone_verdict accent_verdict rule_verdict part_verdict holds zero_or_held added above_zero probability_fine knot_fine weight_fine slot_fine knots_fine region_fine tolerances_fine range turns loop_to loop_on lt le of_bits
+unfolding load_pack read_pack record_verdict due_after size_of body_verdict settings_verdict tone_verdict accent_verdict rule_verdict part_verdict holds zero_or_held added parents_held chain_ends chains_end end_verdict index_of range_to turns_to above_zero probability_fine knot_fine weight_fine slot_fine knots_fine region_fine tolerances_fine range turns loop_to loop_on lt le of_bits
 unknown_kind = refl
 
 -- nothing at all: the first record is missing, at the input's end
 empty : read_pack [] ≡ refused CutShort 0
-unfolding load_pack read_pack record_verdict due_after size_of body_verdict settings_verdict tone_verdict accent_verdict rule_verdict part_verdict holds zero_or_held added above_zero probability_fine knot_fine weight_fine slot_fine knots_fine region_fine tolerances_fine range turns loop_to loop_on lt le of_bits
+unfolding load_pack read_pack record_verdict due_after size_of body_verdict settings_verdict tone_verdict accent_verdict rule_verdict part_verdict holds zero_or_held added parents_held chain_ends chains_end end_verdict index_of range_to turns_to above_zero probability_fine knot_fine weight_fine slot_fine knots_fine region_fine tolerances_fine range turns loop_to loop_on lt le of_bits
 empty = refl
 
 -- a record that the input cuts
 cut : read_pack (settings ++ (2 ∷ 1 ∷ [])) ≡ refused CutShort 9
-unfolding load_pack read_pack record_verdict due_after size_of body_verdict settings_verdict tone_verdict accent_verdict rule_verdict part_verdict holds zero_or_held added above_zero probability_fine knot_fine weight_fine slot_fine knots_fine region_fine tolerances_fine range turns loop_to loop_on lt le of_bits
+unfolding load_pack read_pack record_verdict due_after size_of body_verdict settings_verdict tone_verdict accent_verdict rule_verdict part_verdict holds zero_or_held added parents_held chain_ends chains_end end_verdict index_of range_to turns_to above_zero probability_fine knot_fine weight_fine slot_fine knots_fine region_fine tolerances_fine range turns loop_to loop_on lt le of_bits
 cut = refl
 
 -- no End: it is missing, at the input's end
 no_end : read_pack (settings ++ (tone 1 1 ++ accent 1 0)) ≡ refused CutShort 84
-unfolding load_pack read_pack record_verdict due_after size_of body_verdict settings_verdict tone_verdict accent_verdict rule_verdict part_verdict holds zero_or_held added above_zero probability_fine knot_fine weight_fine slot_fine knots_fine region_fine tolerances_fine range turns loop_to loop_on lt le of_bits
+unfolding load_pack read_pack record_verdict due_after size_of body_verdict settings_verdict tone_verdict accent_verdict rule_verdict part_verdict holds zero_or_held added parents_held chain_ends chains_end end_verdict index_of range_to turns_to above_zero probability_fine knot_fine weight_fine slot_fine knots_fine region_fine tolerances_fine range turns loop_to loop_on lt le of_bits
 no_end = refl
 
 -- one byte behind the pack
 behind : load_pack (pack ++ (0 ∷ [])) ≡ refused Overrun 85
-unfolding load_pack read_pack record_verdict due_after size_of body_verdict settings_verdict tone_verdict accent_verdict rule_verdict part_verdict holds zero_or_held added above_zero probability_fine knot_fine weight_fine slot_fine knots_fine region_fine tolerances_fine range turns loop_to loop_on lt le of_bits
+unfolding load_pack read_pack record_verdict due_after size_of body_verdict settings_verdict tone_verdict accent_verdict rule_verdict part_verdict holds zero_or_held added parents_held chain_ends chains_end end_verdict index_of range_to turns_to above_zero probability_fine knot_fine weight_fine slot_fine knots_fine region_fine tolerances_fine range turns loop_to loop_on lt le of_bits
 behind = refl
 
 -- the same byte is no matter to a pack at the front
 front : read_pack (pack ++ (0 ∷ [])) ≡ loaded (record { last = 3; tones = 9 ∷ []; accents = 65 ∷ []; firsts = 0 ∷ []; rules = []; parts = 0; total = 0 }) 85
-unfolding load_pack read_pack record_verdict due_after size_of body_verdict settings_verdict tone_verdict accent_verdict rule_verdict part_verdict holds zero_or_held added above_zero probability_fine knot_fine weight_fine slot_fine knots_fine region_fine tolerances_fine range turns loop_to loop_on lt le of_bits
+unfolding load_pack read_pack record_verdict due_after size_of body_verdict settings_verdict tone_verdict accent_verdict rule_verdict part_verdict holds zero_or_held added parents_held chain_ends chains_end end_verdict index_of range_to turns_to above_zero probability_fine knot_fine weight_fine slot_fine knots_fine region_fine tolerances_fine range turns loop_to loop_on lt le of_bits
 front = refl
 
 -- eleven knots, although the number is off scale too
 eleven : read_pack (settings ++ tone 0 11) ≡ refused Crowded 9
-unfolding load_pack read_pack record_verdict due_after size_of body_verdict settings_verdict tone_verdict accent_verdict rule_verdict part_verdict holds zero_or_held added above_zero probability_fine knot_fine weight_fine slot_fine knots_fine region_fine tolerances_fine range turns loop_to loop_on lt le of_bits
+unfolding load_pack read_pack record_verdict due_after size_of body_verdict settings_verdict tone_verdict accent_verdict rule_verdict part_verdict holds zero_or_held added parents_held chain_ends chains_end end_verdict index_of range_to turns_to above_zero probability_fine knot_fine weight_fine slot_fine knots_fine region_fine tolerances_fine range turns loop_to loop_on lt le of_bits
 eleven = refl
 
 -- tone 0, although the slots are in their ranges
 no_number : read_pack (settings ++ tone 0 1) ≡ refused OffScale 9
-unfolding load_pack read_pack record_verdict due_after size_of body_verdict settings_verdict tone_verdict accent_verdict rule_verdict part_verdict holds zero_or_held added above_zero probability_fine knot_fine weight_fine slot_fine knots_fine region_fine tolerances_fine range turns loop_to loop_on lt le of_bits
+unfolding load_pack read_pack record_verdict due_after size_of body_verdict settings_verdict tone_verdict accent_verdict rule_verdict part_verdict holds zero_or_held added parents_held chain_ends chains_end end_verdict index_of range_to turns_to above_zero probability_fine knot_fine weight_fine slot_fine knots_fine region_fine tolerances_fine range turns loop_to loop_on lt le of_bits
 no_number = refl
 
 -- a slot that is no knot holds 1
 loose_slot : read_pack (settings ++ tone 1 0) ≡ refused OffScale 9
-unfolding load_pack read_pack record_verdict due_after size_of body_verdict settings_verdict tone_verdict accent_verdict rule_verdict part_verdict holds zero_or_held added above_zero probability_fine knot_fine weight_fine slot_fine knots_fine region_fine tolerances_fine range turns loop_to loop_on lt le of_bits
+unfolding load_pack read_pack record_verdict due_after size_of body_verdict settings_verdict tone_verdict accent_verdict rule_verdict part_verdict holds zero_or_held added parents_held chain_ends chains_end end_verdict index_of range_to turns_to above_zero probability_fine knot_fine weight_fine slot_fine knots_fine region_fine tolerances_fine range turns loop_to loop_on lt le of_bits
 loose_slot = refl
 
 -- a tone's number again
 twice : read_pack (settings ++ (tone 1 1 ++ tone 1 1)) ≡ refused Doubled 65
-unfolding load_pack read_pack record_verdict due_after size_of body_verdict settings_verdict tone_verdict accent_verdict rule_verdict part_verdict holds zero_or_held added above_zero probability_fine knot_fine weight_fine slot_fine knots_fine region_fine tolerances_fine range turns loop_to loop_on lt le of_bits
+unfolding load_pack read_pack record_verdict due_after size_of body_verdict settings_verdict tone_verdict accent_verdict rule_verdict part_verdict holds zero_or_held added parents_held chain_ends chains_end end_verdict index_of range_to turns_to above_zero probability_fine knot_fine weight_fine slot_fine knots_fine region_fine tolerances_fine range turns loop_to loop_on lt le of_bits
 twice = refl
 
 -- and that of one that is not the first
 twice_later : read_pack (settings ++ (tone 1 1 ++ (tone 2 1 ++ tone 2 1))) ≡ refused Doubled 121
-unfolding load_pack read_pack record_verdict due_after size_of body_verdict settings_verdict tone_verdict accent_verdict rule_verdict part_verdict holds zero_or_held added above_zero probability_fine knot_fine weight_fine slot_fine knots_fine region_fine tolerances_fine range turns loop_to loop_on lt le of_bits
+unfolding load_pack read_pack record_verdict due_after size_of body_verdict settings_verdict tone_verdict accent_verdict rule_verdict part_verdict holds zero_or_held added parents_held chain_ends chains_end end_verdict index_of range_to turns_to above_zero probability_fine knot_fine weight_fine slot_fine knots_fine region_fine tolerances_fine range turns loop_to loop_on lt le of_bits
 twice_later = refl
 
--- an accent that is its own parent
-own_parent : read_pack (settings ++ (tone 1 1 ++ accent 1 1)) ≡ refused Loose 65
-unfolding load_pack read_pack record_verdict due_after size_of body_verdict settings_verdict tone_verdict accent_verdict rule_verdict part_verdict holds zero_or_held added above_zero probability_fine knot_fine weight_fine slot_fine knots_fine region_fine tolerances_fine range turns loop_to loop_on lt le of_bits
-own_parent = refl
-
--- a number again comes before a parent that is not there
+-- a number again, whose parent is not there
 again : read_pack (settings ++ (tone 1 1 ++ (accent 1 0 ++ accent 1 9))) ≡ refused Doubled 84
-unfolding load_pack read_pack record_verdict due_after size_of body_verdict settings_verdict tone_verdict accent_verdict rule_verdict part_verdict holds zero_or_held added above_zero probability_fine knot_fine weight_fine slot_fine knots_fine region_fine tolerances_fine range turns loop_to loop_on lt le of_bits
+unfolding load_pack read_pack record_verdict due_after size_of body_verdict settings_verdict tone_verdict accent_verdict rule_verdict part_verdict holds zero_or_held added parents_held chain_ends chains_end end_verdict index_of range_to turns_to above_zero probability_fine knot_fine weight_fine slot_fine knots_fine region_fine tolerances_fine range turns loop_to loop_on lt le of_bits
 again = refl
 
 -- a rule of tone 1 of this form, and a part of weight 1 or 0 with one knot
@@ -110,27 +106,27 @@ begun = settings ++ (tone 1 1 ++ accent 1 0)
 
 -- a rule with two parts
 mixture : read_pack (begun ++ (rule 3 ++ (part one ++ (part (replicate 4 0) ++ (6 ∷ []))))) ≡ loaded (record { last = 5; tones = 9 ∷ []; accents = 65 ∷ []; firsts = 0 ∷ []; rules = 84 ∷ []; parts = 2; total = 2 }) 184
-unfolding load_pack read_pack record_verdict due_after size_of body_verdict settings_verdict tone_verdict accent_verdict rule_verdict part_verdict holds zero_or_held added above_zero probability_fine knot_fine weight_fine slot_fine knots_fine region_fine tolerances_fine range turns loop_to loop_on lt le of_bits
+unfolding load_pack read_pack record_verdict due_after size_of body_verdict settings_verdict tone_verdict accent_verdict rule_verdict part_verdict holds zero_or_held added parents_held chain_ends chains_end end_verdict index_of range_to turns_to above_zero probability_fine knot_fine weight_fine slot_fine knots_fine region_fine tolerances_fine range turns loop_to loop_on lt le of_bits
 mixture = refl
 
 -- a rule without a part
 no_part : read_pack (begun ++ (rule 3 ++ (6 ∷ []))) ≡ refused Misplaced 91
-unfolding load_pack read_pack record_verdict due_after size_of body_verdict settings_verdict tone_verdict accent_verdict rule_verdict part_verdict holds zero_or_held added above_zero probability_fine knot_fine weight_fine slot_fine knots_fine region_fine tolerances_fine range turns loop_to loop_on lt le of_bits
+unfolding load_pack read_pack record_verdict due_after size_of body_verdict settings_verdict tone_verdict accent_verdict rule_verdict part_verdict holds zero_or_held added parents_held chain_ends chains_end end_verdict index_of range_to turns_to above_zero probability_fine knot_fine weight_fine slot_fine knots_fine region_fine tolerances_fine range turns loop_to loop_on lt le of_bits
 no_part = refl
 
 -- a second part of a single rule
 second : read_pack (begun ++ (rule 2 ++ (part one ++ part one))) ≡ refused Crowded 137
-unfolding load_pack read_pack record_verdict due_after size_of body_verdict settings_verdict tone_verdict accent_verdict rule_verdict part_verdict holds zero_or_held added above_zero probability_fine knot_fine weight_fine slot_fine knots_fine region_fine tolerances_fine range turns loop_to loop_on lt le of_bits
+unfolding load_pack read_pack record_verdict due_after size_of body_verdict settings_verdict tone_verdict accent_verdict rule_verdict part_verdict holds zero_or_held added parents_held chain_ends chains_end end_verdict index_of range_to turns_to above_zero probability_fine knot_fine weight_fine slot_fine knots_fine region_fine tolerances_fine range turns loop_to loop_on lt le of_bits
 second = refl
 
 -- a single rule's part of weight 0
 light : read_pack (begun ++ (rule 2 ++ part (replicate 4 0))) ≡ refused OffScale 91
-unfolding load_pack read_pack record_verdict due_after size_of body_verdict settings_verdict tone_verdict accent_verdict rule_verdict part_verdict holds zero_or_held added above_zero probability_fine knot_fine weight_fine slot_fine knots_fine region_fine tolerances_fine range turns loop_to loop_on lt le of_bits
+unfolding load_pack read_pack record_verdict due_after size_of body_verdict settings_verdict tone_verdict accent_verdict rule_verdict part_verdict holds zero_or_held added parents_held chain_ends chains_end end_verdict index_of range_to turns_to above_zero probability_fine knot_fine weight_fine slot_fine knots_fine region_fine tolerances_fine range turns loop_to loop_on lt le of_bits
 light = refl
 
 -- ---- ranges and limits: what an input is, as a single pack; opened, it computes
 unfoldable read : List ℕ → Out PackRead
-unfolding load_pack read_pack record_verdict due_after size_of body_verdict settings_verdict tone_verdict accent_verdict rule_verdict part_verdict holds zero_or_held added above_zero probability_fine knot_fine weight_fine slot_fine knots_fine region_fine tolerances_fine range turns loop_to loop_on lt le of_bits
+unfolding load_pack read_pack record_verdict due_after size_of body_verdict settings_verdict tone_verdict accent_verdict rule_verdict part_verdict holds zero_or_held added parents_held chain_ends chains_end end_verdict index_of range_to turns_to above_zero probability_fine knot_fine weight_fine slot_fine knots_fine region_fine tolerances_fine range turns loop_to loop_on lt le of_bits
 read s = load_pack s
 
 -- 0, -0, the least above 0, the greatest that is finite, infinity, a NaN
@@ -329,10 +325,42 @@ form_four : read (begun ++ rule 4) ≡ refused OffScale 84
 unfolding read
 form_four = refl
 
--- "A parent stands earlier in the file": one that stands later
-later_parent : read (settings ++ (tone 1 1 ++ (accent 1 2 ++ accent 2 0))) ≡ refused Loose 65
+-- "A parent may now be any accent of the file": one that stands later
+later_parent : read (settings ++ (tone 1 1 ++ (accent 1 2 ++ (accent 2 0 ++ (6 ∷ [])))))
+    ≡ loaded (record { last = 3; tones = 9 ∷ []; accents = 65 ∷ 84 ∷ []; firsts = 0 ∷ 0 ∷ []; rules = []; parts = 0; total = 0 }) 104
 unfolding read
 later_parent = refl
+
+-- "The parent part of 7 moves to End": a parent that no accent has is no matter where the End is missing, nor to the record behind it
+parent_at_end : (read (settings ++ (tone 1 1 ++ (accent 1 9 ++ (6 ∷ [])))) ≡ refused Loose 84)
+    × (read (settings ++ (tone 1 1 ++ accent 1 9)) ≡ refused CutShort 84)
+    × (read (settings ++ (tone 1 1 ++ (accent 1 9 ++ (7 ∷ [])))) ≡ refused Misplaced 84)
+    × (read (settings ++ (tone 1 1 ++ (accent 1 0 ++ (accent 2 9 ++ (6 ∷ []))))) ≡ refused Loose 103)
+unfolding read
+parent_at_end = (refl, refl, refl, refl)
+
+-- "20 when some chain never ends": an accent that names itself, a ring of two, one that leads into a ring, behind one that ends; before 3
+endless : (read (settings ++ (tone 1 1 ++ (accent 1 1 ++ (6 ∷ [])))) ≡ refused Endless 84)
+    × (read (settings ++ (tone 1 1 ++ (accent 1 2 ++ (accent 2 1 ++ (6 ∷ []))))) ≡ refused Endless 103)
+    × (read (settings ++ (tone 1 1 ++ (accent 4 0 ++ (accent 1 2 ++ (accent 2 3 ++ (accent 3 2 ++ (6 ∷ []))))))) ≡ refused Endless 141)
+    × (read (settings ++ (tone 1 1 ++ (accent 1 1 ++ (6 ∷ 0 ∷ [])))) ≡ refused Endless 84)
+unfolding read
+endless = (refl, refl, refl, refl)
+
+-- "checked at End after 7": a parent that no accent has, behind a ring
+loose_first : read (settings ++ (tone 1 1 ++ (accent 1 1 ++ (accent 2 9 ++ (6 ∷ []))))) ≡ refused Loose 103
+unfolding read
+loose_first = refl
+
+-- a chain of all eight accents ends, wherever each stands; a ring of all eight does not
+abbrev chain : ℕ → List ℕ
+chain last = accent 8 7 ++ (accent 2 1 ++ (accent 5 4 ++ (accent 3 2 ++ (accent 7 6 ++ (accent 1 last ++ (accent 6 5 ++ (accent 4 3 ++ (6 ∷ []))))))))
+
+eight_long : (read (settings ++ (tone 1 1 ++ chain 0))
+    ≡ loaded (record { last = 3; tones = 9 ∷ []; accents = 65 ∷ 84 ∷ 103 ∷ 122 ∷ 141 ∷ 160 ∷ 179 ∷ 198 ∷ []; firsts = replicate 8 0; rules = []; parts = 0; total = 0 }) 218)
+    × (read (settings ++ (tone 1 1 ++ chain 8)) ≡ refused Endless 217)
+unfolding read
+eight_long = (refl, refl)
 
 -- "Knots number 1 to 10": a part of none
 no_knots : read (begun ++ (rule 3 ++ (5 ∷ (one ++ replicate 41 0)))) ≡ refused OffScale 91

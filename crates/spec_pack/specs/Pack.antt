@@ -1,16 +1,16 @@
 -- Document 01's section Pack: which bytes are a pack, and the refusal and place of those that are not. A record is held by its offset.
-use Rattle.std.specs.Prelude.{ℕ, zero, suc, ◌+◌, ◌-◌, Bool, true, false, cond, not, ◌&&◌, ◌||◌, List, [], ◌∷◌, ◌++◌, eqb, leb, ltb, length, get_or, Result, Ok, Err}
+use Rattle.std.specs.Prelude.{ℕ, zero, suc, ◌+◌, ◌-◌, Bool, true, false, cond, not, ◌&&◌, ◌||◌, List, [], ◌∷◌, ◌++◌, eqb, leb, ltb, length, get_or, Option, Some, None, Result, Ok, Err}
 use Rattle.tonekit_core.specs.declared.layout.TheConstants.{SETTINGS_KIND, SETTINGS_SIZE, SETTINGS_TEMPERATURE, SETTINGS_THRESHOLD}
 use Rattle.tonekit_core.specs.declared.layout.TheConstants.{TONE_KIND, TONE_SIZE, TONE_PRIOR, TONE_KNOT_COUNT, TONE_KNOTS, TONE_REGION}
 use Rattle.tonekit_core.specs.declared.layout.TheConstants.{ACCENT_KIND, ACCENT_SIZE, ACCENT_PARENT, ACCENT_CONTOUR}
 use Rattle.tonekit_core.specs.declared.layout.TheConstants.{RULE_KIND, RULE_SIZE, RULE_TONE, RULE_PREV, RULE_FINAL, RULE_FORM}
 use Rattle.tonekit_core.specs.declared.layout.TheConstants.{PART_KIND, PART_SIZE, PART_WEIGHT, PART_KNOT_COUNT, PART_KNOTS, END_KIND, END_SIZE}
 use Rattle.tonekit_core.specs.declared.Refusal.{Refusal}
-use Rattle.tonekit_core.specs.declared.Refusal.TheVariants.{Crowded, OffScale, Doubled, Loose}
+use Rattle.tonekit_core.specs.declared.Refusal.TheVariants.{Crowded, OffScale, Doubled, Loose, Endless}
 use Rattle.tonekit_core.specs.declared.Rejection.{Rejection}
 use Rattle.spec_arithmetic.specs.Fields.{byte_at, u32_at, f32_at}
-use Rattle.spec_arithmetic.specs.Places.{number_at}
-use Rattle.spec_arithmetic.specs.Files.{judged, Out, loaded, Reader, read, single_file, said}
+use Rattle.spec_arithmetic.specs.Places.{number_at, index_of}
+use Rattle.spec_arithmetic.specs.Files.{judged, Out, loaded, refused, Reader, read, single_file, said}
 use Rattle.spec_pack.specs.Ranges.{above_zero, probability_fine, weight_fine, knots_fine, region_fine, tolerances_fine}
 
 -- what has been read: the last kind; the offsets of tones, accents and rules, in order; for each accent how many rules stood before it;
@@ -73,15 +73,12 @@ unfoldable pub tone_verdict : List ℕ → ℕ → PackRead → Result Unit Refu
 tone_verdict s o st =
     in_turn (leb 8 (length st.tones) || ltb 10 (byte_at s (o + TONE_KNOT_COUNT))) (tone_fine s o) (not (holds s st.tones (number_at s o))) true
 
--- number, parent ("A parent stands earlier in the file"), tolerances: they stand elsewhere in a sheet
+-- number, tolerances: they stand elsewhere in a sheet
 abbrev pub accent_fine : ℕ → List ℕ → ℕ → Bool
 accent_fine contour s o = not (eqb (number_at s o) 0) && tolerances_fine s (o + contour)
 
-abbrev pub accent_held : List ℕ → ℕ → PackRead → Bool
-accent_held s o st = zero_or_held s st.accents (byte_at s (o + ACCENT_PARENT))
-
 unfoldable pub accent_verdict : List ℕ → ℕ → PackRead → Result Unit Refusal
-accent_verdict s o st = in_turn (leb 8 (length st.accents)) (accent_fine ACCENT_CONTOUR s o) (not (holds s st.accents (number_at s o))) (accent_held s o st)
+accent_verdict s o st = in_turn (leb 8 (length st.accents)) (accent_fine ACCENT_CONTOUR s o) (not (holds s st.accents (number_at s o))) true
 
 -- label, tone, prev, final ("0 any, 1 no, 2 yes"), form ("2 is single, 3 mixture")
 abbrev pub rule_fine : List ℕ → ℕ → Bool
@@ -128,12 +125,46 @@ added k o st =
     (cond (eqb k RULE_KIND) (record st { last = k; rules = st.rules ++ (o ∷ []); parts = 0 })
     (cond (eqb k PART_KIND) (record st { last = k; parts = st.parts + 1; total = st.total + 1 }) (record st { last = k }))))
 
+-- "A parent may now be any accent of the file": each of the accents at these offsets names 0, or the number of an accent of the file
+unfoldable pub parents_held : List ℕ → List ℕ → List ℕ → Bool
+parents_held s accents [] = true
+parents_held s accents (o ∷ os) = zero_or_held s accents (byte_at s (o + ACCENT_PARENT)) && parents_held s accents os
+
+-- the place of accent i's parent, or none
+abbrev pub parent_of : List ℕ → PackRead → ℕ → Option ℕ
+parent_of s st i = index_of s st.accents (byte_at s (get_or st.accents i 0 + ACCENT_PARENT))
+
+-- "Every chain must reach an accent with no parent": a walk of at most n accents, from accent i up its parents, reaches one
+abbrev pub or_ends : (ℕ → Bool) → Option ℕ → Bool
+or_ends on None = true
+or_ends on (Some j) = on j
+
+unfoldable pub chain_ends : List ℕ → PackRead → ℕ → ℕ → Bool
+chain_ends s st zero i = false
+chain_ends s st (suc n) i = or_ends (chain_ends s st n) (parent_of s st i)
+
+-- the chains of k accents, from accent i on, each within as many steps as there are accents
+unfoldable pub chains_end : List ℕ → PackRead → ℕ → ℕ → Bool
+chains_end s st zero i = true
+chains_end s st (suc k) i = chain_ends s st (length st.accents) i && chains_end s st k (i + 1)
+
+-- "The parent part of 7 moves to End", "20 when some chain never ends, checked at End after 7"
+unfoldable pub end_verdict : List ℕ → PackRead → Result Unit Refusal
+end_verdict s st =
+    cond (not (parents_held s st.accents st.accents)) (Err Loose)
+    (cond (not (chains_end s st (length st.accents) 0)) (Err Endless) (Ok tt))
+
+-- "both with End's offset as place": the End at o is all there is to a pack's end, one byte
+abbrev pub ended : ℕ → PackRead → Result Unit Refusal → Out PackRead
+ended o st (Err r) = refused r o
+ended o st (Ok u) = loaded st (o + END_SIZE)
+
 -- "each Rule with its Parts": the parts that stand from an offset on, at most n
 unfoldable pub parts_from : ℕ → List ℕ → ℕ → ℕ
 parts_from zero s o = 0
 parts_from (suc n) s o = cond (eqb (byte_at s o) PART_KIND) (suc (parts_from n s (o + PART_SIZE))) 0
 
--- how a pack is read: its End, of one byte, is all there is to its end
+-- how a pack is read
 abbrev pub pack_reader : Reader PackRead
 pack_reader = record {
   start = record { at = 0; st = record { last = 0; tones = []; accents = []; firsts = []; rules = []; parts = 0; total = 0 } };
@@ -141,7 +172,7 @@ pack_reader = record {
   size = size_of;
   added = λ s o st. added (byte_at s o) o st;
   end = END_KIND;
-  finish = λ s o st. loaded st (o + END_SIZE);
+  finish = λ s o st. ended o st (end_verdict s st);
 }
 
 -- a pack at the front of a longer input; a single pack; and a check of the pack alone
