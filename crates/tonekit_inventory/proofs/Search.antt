@@ -12,7 +12,7 @@ use Rattle.tonekit_core.proofs.Split.{or_cond}
 use Rattle.tonekit_bytes.proofs.InOrder.{order_length, order_get}
 use Rattle.tonekit_bytes.proofs.Searched.{pick, searched}
 use Rattle.spec_lookup.specs.Source.{Tone, Accent, accent_at, accent_in, tone_in, source_of_pack}
-use Rattle.tonekit_expect.proofs.Walk.{index_found}
+use Rattle.tonekit_bytes.proofs.Searched.{index_found}
 use Rattle.spec_judgement.specs.declared.Tolerance.{Tolerance}
 use Rattle.tonekit_inventory.specs.Fields.{tolerance_at}
 use Rattle.spec_judgement.specs.Gather.{graded_of}

@@ -7,7 +7,7 @@ use Rattle.tonekit_core.proofs.Split.{split}
 use Rattle.spec_arithmetic.specs.Places.{index_of}
 use Rattle.spec_lookup.specs.declared.Context.{Context}
 use Rattle.std.specs.Prelude.{Some, None}
-use Rattle.tonekit_expect.proofs.Walk.{index_found}
+use Rattle.tonekit_bytes.proofs.Searched.{index_found}
 use Rattle.spec_arithmetic.specs.Files.{Out, loaded, refused}
 use Rattle.spec_sheet.specs.Reader.{SheetRead, row_at, read_sheet}
 use Rattle.spec_sheet.specs.FromSheet.{list_numbered, prev_found, look_sheet}

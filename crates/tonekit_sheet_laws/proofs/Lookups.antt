@@ -9,7 +9,7 @@ use Rattle.tonekit_core.proofs.Split.{split}
 use Rattle.spec_lookup.specs.Source.{Carried, Source, absent_tone}
 use Rattle.spec_arithmetic.specs.Places.{number_at, index_of}
 use Rattle.tonekit_bytes.specs.Places.{index_turn}
-use Rattle.tonekit_expect.proofs.Walk.{index_found}
+use Rattle.tonekit_bytes.proofs.Searched.{index_found}
 use Rattle.spec_lookup.specs.declared.Context.{Context}
 use Rattle.spec_sheet.specs.Number.{place_in, number_in}
 use Rattle.spec_sheet.specs.Sheet.{View, absent_accent, prev_number, rows_of, lists_of}

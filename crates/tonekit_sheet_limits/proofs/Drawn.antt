@@ -15,7 +15,8 @@ use Rattle.spec_lookup.specs.Lookup.{to_rule, find_rule, rule_listing, citation,
 use Rattle.tonekit_expect.specs.Pieces.{won}
 use Rattle.spec_lookup.specs.Source.{Carried, components}
 use Rattle.tonekit_expect.proofs.Curves.{rules_in}
-use Rattle.tonekit_expect.proofs.Walk.{index_found, winner_of}
+use Rattle.tonekit_bytes.proofs.Searched.{index_found}
+use Rattle.tonekit_expect.proofs.Walk.{winner_of}
 
 -- ---- the rule that a walk ends with is one of the accent's that it names
 module _ (s : List ℕ) (st : PackRead) (c : Context) where

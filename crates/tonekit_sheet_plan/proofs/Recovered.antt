@@ -13,7 +13,8 @@ use Rattle.std.specs.Prelude.{Some, None}
 use Rattle.spec_lookup.specs.declared.Context.{Context}
 use Rattle.spec_lookup.specs.declared.Listing.{Listing}
 use Rattle.spec_lookup.specs.Lookup.{to_rule, find_rule, rule_listing, citation, listed, look_at, look_up}
-use Rattle.tonekit_expect.proofs.Walk.{index_found, winner_is}
+use Rattle.tonekit_bytes.proofs.Searched.{index_found}
+use Rattle.tonekit_expect.proofs.Walk.{winner_is}
 use Rattle.tonekit_expect.proofs.Curves.{listed_fine, rule_fine}
 use Rattle.tonekit_sheet_plan.specs.Listings.{record_of, listing_from, LookKept}
 

@@ -4,7 +4,7 @@ use Rattle.std.specs.Prelude.{Some}
 use Rattle.spec_arithmetic.specs.Fields.{byte_at}
 use Rattle.tonekit_bytes.proofs.InOrder.{order_length}
 use Rattle.spec_arithmetic.specs.Places.{index_of}
-use Rattle.tonekit_expect.proofs.Walk.{index_found}
+use Rattle.tonekit_bytes.proofs.Searched.{index_found}
 use Rattle.spec_sheet.specs.Reader.{row_at, read_sheet}
 use Rattle.spec_sheet.specs.FromSheet.{list_numbered, prev_found}
 use Rattle.tonekit_sheet_read.specs.Held.{records_of}

@@ -1,6 +1,6 @@
 -- `prev_index` meets its contract, by the ways through its code.
 use Rattle.std.proofs.Common.{sym, ◌∙◌, arith, eq-eqb, ne_eqb}
-use Rattle.tonekit_expect.proofs.Walk.{index_found}
+use Rattle.tonekit_bytes.proofs.Searched.{index_found}
 use Rattle.tonekit_bytes.proofs.Stepped.{stepped_length}
 use Rattle.tonekit_sheet_inventory.proofs.HeldSheet.prev_index.Goals as goal
 
