@@ -1,15 +1,16 @@
 -- The reader looks at no more than a pack can hold: inputs with the same first 7,000 bytes give the same answer. Assumes nothing.
-use Rattle.std.proofs.Common.{ℕ, suc, ◌+◌, ◌-◌, ◌*◌, ◌≤◌, ◌<◌, ◌≡◌, refl, ap, Bool, true, ◌&&◌, List, [], ◌∷◌, arith, length, get_or, take, length-append, eqb, eqb-true}
+use Rattle.std.proofs.Common.{ℕ, zero, suc, ◌+◌, ◌-◌, ◌*◌, ◌≤◌, ◌<◌, ◌≡◌, refl, ap, ◌∙◌, Bool, true, ◌&&◌, List, [], ◌∷◌, arith, length, get_or, take, length-append, eqb, eqb-true, ltb, ltb-true, ltb-false}
 use lib.ListN.{get_or-eq_default}
 use borrow.Author.Tests.{eqb-false}
-use Rattle.std.specs.Prelude.{Ok}
-use Rattle.tonekit_core.proofs.LoopLaws.{range_same}
+use Rattle.std.specs.Prelude.{Option, Some, None, Ok}
+use Rattle.tonekit_core.proofs.LoopLaws.{range_same, to_same}
 use Rattle.spec_arithmetic.specs.Fields.{byte_at}
 use Rattle.tonekit_bytes.proofs.Agreeing.{Agree, taken_agrees, four, float}
 use Rattle.spec_pack.specs.Ranges.{slot_fine, knots_fine, region_fine, tolerances_fine}
 use Rattle.tonekit_ranges.proofs.SlotTurn.{slot_turn}
-use Rattle.spec_arithmetic.specs.Places.{number_at}
-use Rattle.spec_pack.specs.Pack.{PackRead, size_of, holds, zero_or_held, settings_verdict, tone_verdict, accent_verdict, rule_verdict, part_verdict, body_verdict, due_after, record_verdict, added, pack_reader, read_pack, load_pack}
+use Rattle.spec_arithmetic.specs.Places.{number_at, index_of}
+use Rattle.tonekit_bytes.specs.Places.{index_turn}
+use Rattle.spec_pack.specs.Pack.{PackRead, size_of, holds, zero_or_held, settings_verdict, tone_verdict, accent_verdict, rule_verdict, part_verdict, body_verdict, due_after, record_verdict, added, parents_held, parent_of, or_ends, chain_ends, chains_end, end_verdict, ended, pack_reader, read_pack, load_pack}
 use Rattle.tonekit_core.proofs.Split.{split}
 use Rattle.tonekit_pack.proofs.Each.{each_snoc}
 use Rattle.tonekit_pack.proofs.Records.{Due, due_is, settings, tone, accent, rule, part, finish, sound, tone_room, accent_room, rule_room, part_room}
@@ -45,6 +46,48 @@ module _ (n : ℕ) (t s : List ℕ) (a : Agree n t s) where
   pub zero_or_same : (os : List ℕ) (x : ℕ) → ((i : ℕ) → i < length os → get_or os i 0 + 7 ≤ n) → zero_or_held t os x ≡ zero_or_held s os x
   unfolding zero_or_held
   zero_or_same os x h = rw (holds_same os x h)
+
+  -- a search by number finds the same
+  index_same : (os : List ℕ) (x : ℕ) → ((i : ℕ) → i < length os → get_or os i 0 + 7 ≤ n) → index_of t os x ≡ index_of s os x
+  unfolding index_of
+  index_same os x h =
+      to_same (index_turn t os x) (index_turn s os x) (λ u. None) (length os) 0 (λ j u l. rw (a.bytes (get_or os j 0 + 1) (omega (arith, h j l))))
+
+  parents_same : (accents os : List ℕ) → ((i : ℕ) → i < length accents → get_or accents i 0 + 7 ≤ n) → ((i : ℕ) → i < length os → get_or os i 0 + 7 ≤ n)
+      → parents_held t accents os ≡ parents_held s accents os
+  unfolding parents_held
+  parents_same accents [] h g = refl
+  parents_same accents (o ∷ os) h g =
+      rw (a.bytes (o + 2) (omega (arith, g 0 (omega arith))), zero_or_same accents (byte_at s (o + 2)) h, parents_same accents os h (λ i l. g (suc i) (omega arith)))
+
+  -- each accent has the same parent, so chains of parents end in both or in neither
+  module _ (st : PackRead) (h : (i : ℕ) → i < length st.accents → get_or st.accents i 0 + 7 ≤ n) (room : 7 ≤ n) where
+    near_accent : (i : ℕ) → get_or st.accents i 0 + 7 ≤ n
+    near_accent i =
+        split (ltb i (length st.accents))
+        (λ l. h i (ltb-true i (length st.accents) l))
+        (λ l. omega (arith, get_or-eq_default st.accents 0 {n = i} (ltb-false i (length st.accents) l)))
+
+    parent_same : (i : ℕ) → parent_of t st i ≡ parent_of s st i
+    parent_same i = rw (a.bytes (get_or st.accents i 0 + 2) (omega (arith, near_accent i))) (index_same st.accents (byte_at s (get_or st.accents i 0 + 2)) h)
+
+    next_same : (f g : ℕ → Bool) (o : Option ℕ) → ((j : ℕ) → f j ≡ g j) → or_ends f o ≡ or_ends g o
+    next_same f g None e = refl
+    next_same f g (Some j) e = e j
+
+    chain_same : (k i : ℕ) → chain_ends t st k i ≡ chain_ends s st k i
+    unfolding chain_ends
+    chain_same zero i = refl
+    chain_same (suc k) i = ap (or_ends (chain_ends t st k)) (parent_same i) ∙ next_same (chain_ends t st k) (chain_ends s st k) (parent_of s st i) (chain_same k)
+
+    chains_same : (k i : ℕ) → chains_end t st k i ≡ chains_end s st k i
+    unfolding chains_end
+    chains_same zero i = refl
+    chains_same (suc k) i = rw (chain_same (length st.accents) i, chains_same k (i + 1))
+
+    pub end_same : end_verdict t st ≡ end_verdict s st
+    unfolding end_verdict
+    end_same = rw (parents_same st.accents st.accents h h, chains_same (length st.accents) 0)
 
 -- a place, with what stood before it, that a pack can have
 record Low (at : ℕ) (st : PackRead) : Type 0 where
@@ -96,7 +139,7 @@ module _ (n : ℕ) (t s : List ℕ) (a : Agree n t s) (at : ℕ) (st : PackRead)
       let e = p.near.early u in
       rw (a.bytes (at + 6) (omega arith), a.bytes (at + 1) (omega arith), four n t s a (at + 2) (omega arith), knots_same n t s a (at + 7) (byte_at s (at + 6)) (omega arith), region_same n t s a (at + 47) (omega arith), holds_same n t s a st.tones (number_at s at) (seen st.tones p.tones))
   body_same (accent l u) =
-      rw (a.bytes (at + 1) (omega arith), a.bytes (at + 2) (omega arith), tolerances_same n t s a (at + 3) (omega arith), holds_same n t s a st.accents (number_at s at) (seen st.accents p.accents), zero_or_same n t s a st.accents (byte_at s (at + 2)) (seen st.accents p.accents))
+      rw (a.bytes (at + 1) (omega arith), tolerances_same n t s a (at + 3) (omega arith), holds_same n t s a st.accents (number_at s at) (seen st.accents p.accents))
   body_same (rule l u) =
       rw (a.bytes (at + 5) (omega arith), a.bytes (at + 6) (omega arith), a.bytes (at + 3) (omega arith), a.bytes (at + 4) (omega arith), zero_or_same n t s a st.tones (byte_at s (at + 3)) (seen st.tones p.tones), zero_or_same n t s a st.tones (byte_at s (at + 4)) (seen st.tones p.tones))
   body_same (part l u) =
@@ -138,7 +181,7 @@ alike n t s a l =
       kind = λ at st p. a.bytes at (omega (arith, p.near.near, p.few_tones, p.few_accents, p.few_rules, p.few_in_all));
       verdict = λ at st p. verdict_same n t s a at st p l;
       added = λ at st p. ap (λ k. added k at st) (a.bytes at (omega (arith, p.near.near, p.few_tones, p.few_accents, p.few_rules, p.few_in_all)));
-      finish = λ at st p v k. refl;
+      finish = λ at st p v k. ap (ended at st) (end_same n t s a st (λ i h. omega (arith, p.near.near, p.few_tones, p.few_accents, p.few_rules, p.few_in_all, p.accents i h)) (omega arith));
       goes = λ at st p v k. let ok = sound s at st v in low_next s at st ok.due k ok.body p;
     }
 

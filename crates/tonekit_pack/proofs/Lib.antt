@@ -6,5 +6,6 @@ pub mod Records
 pub mod Turns
 pub mod Reading
 pub mod Single
+pub mod Chains
 pub mod Loads
 pub mod Front

@@ -1,18 +1,20 @@
--- What a pack that loads has: how many of each record, every record fine, numbers once, parents earlier, parts behind their rule. Assumes nothing.
-use Rattle.std.proofs.Common.{ℕ, zero, suc, ◌+◌, ◌*◌, ◌≤◌, ◌<◌, ◌≡◌, refl, ap, ◌∙◌, ◌⊎◌, Bool, true, false, not, ◌&&◌, ◌||◌, List, [], ◌∷◌, ◌++◌, arith, length, get_or, length-append, get_or-take, length-take-le, eqb, leb, ltb, eq-eqb, ne_eqb, eqb-true, leb-true, ltb-false}
+-- What a pack that loads has: how many of each record, every record fine, numbers once, parents that are there and whose chains end, parts behind their
+-- rule. Assumes nothing.
+use Rattle.std.proofs.Common.{ℕ, zero, suc, ◌+◌, ◌*◌, ◌≤◌, ◌<◌, ◌≡◌, ◌↔◌, refl, ap, ◌∙◌, ◌⊎◌, Bool, true, false, not, ◌&&◌, ◌||◌, List, [], ◌∷◌, ◌++◌, arith, length, get_or, length-append, get_or-take, length-take-le, eqb, leb, ltb, eq-eqb, ne_eqb, eqb-true, leb-true, ltb-false}
 use borrow.Author.Tests.{eqb-false, not-true}
 use Rattle.tonekit_core.specs.declared.Refusal.TheVariants.{CutShort}
-use Rattle.std.specs.Prelude.{Ok}
+use Rattle.std.specs.Prelude.{Ok, None}
 use Rattle.spec_arithmetic.specs.Fields.{byte_at, u32_at, f32_at}
 use Rattle.spec_pack.specs.Ranges.{above_zero, probability_fine, weight_fine, knots_fine, region_fine, tolerances_fine}
-use Rattle.spec_arithmetic.specs.Places.{number_at}
-use Rattle.spec_pack.specs.Pack.{PackRead, size_of, holds, zero_or_held, single, settings_verdict, body_verdict, added, parts_from, read_pack, pack_reader}
+use Rattle.spec_arithmetic.specs.Places.{number_at, index_of}
+use Rattle.spec_pack.specs.Pack.{PackRead, size_of, holds, zero_or_held, single, settings_verdict, body_verdict, added, parents_held, parent_of, chains_end, end_verdict, parts_from, read_pack, pack_reader}
 use Rattle.tonekit_core.proofs.Split.{split, either, neither, both, not_zero}
 use Rattle.tonekit_core.proofs.Lists.{last_snoc}
 use Rattle.spec_arithmetic.specs.Files.{Out, loaded, refused}
-use Rattle.tonekit_pack.proofs.Numbers.{zero_or_before, none_before}
+use Rattle.tonekit_pack.proofs.Numbers.{zero_or_at, none_before, parent_held, zero_unfound, unfound_zero}
+use Rattle.tonekit_pack.proofs.Chains.{Ends, ends_within, all_end}
 use Rattle.tonekit_pack.proofs.Each.{Each, each_snoc}
-use Rattle.tonekit_pack.proofs.Records.{Due, settings, tone, accent, rule, part, finish, sound, passed, tone_passed, accent_passed, rule_passed, part_passed, tone_room, accent_room, rule_room, part_room}
+use Rattle.tonekit_pack.proofs.Records.{Due, settings, tone, accent, rule, part, finish, sound, passed, tone_passed, accent_passed, rule_passed, part_passed, tone_room, accent_room, rule_room, part_room, end_passed, end_passes, end_loads}
 use Rattle.tonekit_pack.specs.Going.{Near}
 use Rattle.tonekit_pack.proofs.Reading.{near_next}
 use Rattle.tonekit_bytes.proofs.Files.{run, accepted, no_turns, same_loaded, read_keeps}
@@ -30,13 +32,12 @@ pub record ToneFine (s before : List ℕ) (o : ℕ) : Type 0 where
   pub knots : knots_fine s (o + 7) (byte_at s (o + 6)) ≡ true
   pub region : region_fine s (o + 47) ≡ true
 
--- the accent at o; its parent is none, or stands before it
+-- the accent at o, after those before it
 pub record AccentFine (s before : List ℕ) (o : ℕ) : Type 0 where
   pub kind : byte_at s o ≡ 3
   pub whole : o + 19 ≤ length s
   pub number : 1 ≤ number_at s o
   pub once : holds s before (number_at s o) ≡ false
-  pub parent : zero_or_held s before (byte_at s (o + 2)) ≡ true
   pub tolerances : tolerances_fine s (o + 3) ≡ true
 
 pub record PartFine (s : List ℕ) (o : ℕ) : Type 0 where
@@ -89,7 +90,6 @@ module _ (s : List ℕ) (at : ℕ) (st : PackRead) where
         whole = w;
         number = not_zero (number_at s at) f.0;
         once = not-true (holds s st.accents (number_at s at)) p.once;
-        parent = p.there;
         tolerances = f.1;
       }
 
@@ -398,7 +398,7 @@ module _ (f : ℕ) (s : List ℕ) (at : ℕ) (st fin : PackRead) (e : ℕ) (p : 
 
 -- ---- what a pack that loads has
 
--- with the place of its End
+-- with the place of its End, at which each parent is 0 or there, and every chain of parents ends
 pub record Loads (s : List ℕ) (st : PackRead) (e : ℕ) : Type 0 where
   pub place : ℕ
   pub closing : byte_at s place ≡ 6
@@ -406,6 +406,8 @@ pub record Loads (s : List ℕ) (st : PackRead) (e : ℕ) : Type 0 where
   pub inside : e ≤ length s
   pub closed : 3 ≤ st.last
   pub kept : Kept s place st
+  pub parents : parents_held s st.accents st.accents ≡ true
+  pub chains : chains_end s st (length st.accents) 0 ≡ true
 
 closes : (last : ℕ) {k : ℕ} → k ≡ 6 → Due last k → 3 ≤ last
 closes last q (settings z) = absurd (omega arith)
@@ -421,8 +423,10 @@ loads s st e h =
     read_keeps pack_reader s st e (Kept s)
     (λ f at x p v n g. let ok = sound s at x v in keep f s at x st e p ok.due refl ok.whole ok.body n g)
     (λ at x p v k g. let ok = sound s at x v in
-    let q = same_loaded x st (at + 1) e g in
-    rw (← q.0) (record { place = at; closing = k; ends = q.1; inside = omega (arith, q.1, ok.inside); closed = closes x.last k ok.due; kept = p }))
+    let f = end_loads s x at e st g in
+    let h = end_passed s x f.0 in
+    let q = same_loaded x st (at + 1) e f.1 in
+    rw (← q.0) (record { place = at; closing = k; ends = q.1; inside = omega (arith, q.1, ok.inside); closed = closes x.last k ok.due; kept = p; parents = h.0; chains = h.1 }))
     h
     (record {
       near = record { first = λ q. refl; early = λ q. omega arith; near = omega arith };
@@ -442,7 +446,8 @@ loads s st e h =
       few_in_all = omega arith;
     })
 
--- the same, by places: at least one tone and one accent, where it ends at the latest, no number twice, each parent at a lower place
+-- the same, by places: at least one tone and one accent, where it ends at the latest, no number twice, each parent 0 or an accent's number, every chain of
+-- parents ending
 module _ (s : List ℕ) (st : PackRead) (e : ℕ) (l : Loads s st e) where
   pub some_tones : 1 ≤ length st.tones
   some_tones = l.kept.some_tone (omega arith)
@@ -459,9 +464,23 @@ module _ (s : List ℕ) (st : PackRead) (e : ℕ) (l : Loads s st e) where
   pub accents_once : (i j : ℕ) → i < j → j < length st.accents → number_at s (get_or st.accents i 0) ≡ number_at s (get_or st.accents j 0) → ⊥
   accents_once i j b h = none_before s st.accents (number_at s (get_or st.accents j 0)) j (omega arith) (l.kept.accents j h).once i b
 
-  pub parent_before : (i : ℕ) → i < length st.accents
-      → (byte_at s (get_or st.accents i 0 + 2) ≡ 0) ⊎ ((k : ℕ) × (k < i) × (number_at s (get_or st.accents k 0) ≡ byte_at s (get_or st.accents i 0 + 2)))
-  parent_before i h = zero_or_before s st.accents (byte_at s (get_or st.accents i 0 + 2)) i (omega arith) (l.kept.accents i h).parent
+  pub end_fine : end_verdict s st ≡ Ok tt
+  end_fine = end_passes s st l.parents l.chains
+
+  pub parent_there : (i : ℕ) → i < length st.accents
+      → (byte_at s (get_or st.accents i 0 + 2) ≡ 0)
+      ⊎ ((k : ℕ) × (k < length st.accents) × (number_at s (get_or st.accents k 0) ≡ byte_at s (get_or st.accents i 0 + 2)))
+  parent_there i h = zero_or_at s st.accents (byte_at s (get_or st.accents i 0 + 2)) (parent_held s st.accents st.accents l.parents i h)
+
+  -- an accent has no parent exactly if it names 0
+  pub no_parent : (i : ℕ) → i < length st.accents → (parent_of s st i ≡ None) ↔ (byte_at s (get_or st.accents i 0 + 2) ≡ 0)
+  no_parent i h = (
+    λ e. unfound_zero s st.accents (byte_at s (get_or st.accents i 0 + 2)) (parent_held s st.accents st.accents l.parents i h) e,
+    λ e. ap (index_of s st.accents) e ∙ zero_unfound s st.accents (λ j g. (l.kept.accents j g).number),
+  )
+
+  pub chain_ended : (i : ℕ) → i < length st.accents → Ends s st (length st.accents) i
+  chain_ended i h = ends_within s st h (all_end s st l.chains i h).1
 
   -- the rules that stood before an accent, in number: not falling, and no more than there are
   pub firsts_ascend : (i j : ℕ) → i < j → j < length st.accents → get_or st.firsts i 0 ≤ get_or st.firsts j 0

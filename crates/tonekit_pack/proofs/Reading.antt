@@ -3,9 +3,9 @@ use Rattle.std.proofs.Common.{ℕ, ◌+◌, ◌<◌, ◌≡◌, refl, List, arit
 use Rattle.std.specs.Prelude.{Result, Ok, Err}
 use Rattle.spec_arithmetic.specs.Fields.{byte_at}
 use Rattle.tonekit_pack.specs.declared.Pack.{Pack}
-use Rattle.spec_arithmetic.specs.Files.{Out, loaded, single_file, said}
+use Rattle.spec_arithmetic.specs.Files.{Out, single_file, said}
 use Rattle.tonekit_bytes.proofs.Files as files
-use Rattle.spec_pack.specs.Pack.{PackRead, size_of, added, record_verdict, pack_reader, read_pack, load_pack, check_pack}
+use Rattle.spec_pack.specs.Pack.{PackRead, size_of, added, record_verdict, end_verdict, ended, pack_reader, read_pack, load_pack, check_pack}
 use Rattle.tonekit_pack.specs.Held.{records_of, answered}
 use Rattle.tonekit_core.proofs.Split.{split}
 use Rattle.tonekit_pack.specs.Going.{Near, Going}
@@ -33,7 +33,7 @@ module _ (s : List ℕ) (st : Pack) (at : ℕ) (g : Going s st at) where
     pub ok : Sound s at (records_of st)
     ok = sound s at (records_of st) v
 
-    pub ends : byte_at s at ≡ 6 → loaded (records_of st) (at + 1) ≡ read_pack s
+    pub ends : byte_at s at ≡ 6 → ended at (records_of st) (end_verdict s (records_of st)) ≡ read_pack s
     unfolding read_pack
     ends e = files.ends pack_reader s at (records_of st) g.onward v e
 

@@ -1,11 +1,12 @@
--- What a record that is fine shows: its kind was due, it is whole, and each test of its body passed. Assumes nothing.
+-- What a record that is fine shows: its kind was due, it is whole, and each test of its body passed; and what an End shows of the pack. Assumes nothing.
 use Rattle.std.proofs.Common.{ℕ, ◌+◌, ◌≤◌, ◌<◌, ◌≡◌, refl, Bool, true, false, not, ◌&&◌, ◌||◌, List, arith, length, eqb, leb, ltb, eqb-true, leb-false, ltb-false}
-use Rattle.tonekit_core.specs.declared.Refusal.TheVariants.{Crowded, OffScale, Doubled, Loose}
+use Rattle.tonekit_core.specs.declared.Refusal.TheVariants.{Crowded, OffScale, Doubled, Loose, Endless}
 use Rattle.std.specs.Prelude.{Ok}
 use Rattle.spec_arithmetic.specs.Fields.{byte_at}
 use Rattle.spec_arithmetic.specs.Places.{number_at}
-use Rattle.tonekit_bytes.proofs.Files.{not_fine, fine}
-use Rattle.spec_pack.specs.Pack.{PackRead, due_after, size_of, holds, zero_or_held, in_turn, tone_fine, tone_verdict, accent_fine, accent_verdict, rule_fine, rule_held, rule_verdict, single, part_fine, part_verdict, body_verdict, record_verdict}
+use Rattle.spec_arithmetic.specs.Files.{loaded}
+use Rattle.tonekit_bytes.proofs.Files.{not_fine, by_verdict, fine, not_loaded}
+use Rattle.spec_pack.specs.Pack.{PackRead, due_after, size_of, holds, in_turn, tone_fine, tone_verdict, accent_fine, accent_verdict, rule_fine, rule_held, rule_verdict, single, part_fine, part_verdict, body_verdict, record_verdict, parents_held, chains_end, end_verdict, ended}
 use Rattle.tonekit_core.proofs.Split.{split, absurd_bool, either, neither}
 
 -- which kind is due
@@ -85,10 +86,9 @@ module _ (s : List ℕ) (at : ℕ) (st : PackRead) where
   unfolding body_verdict tone_verdict
   tone_passed h = passed (tone_crowded s at st) (tone_fine s at) (not (holds s st.tones (number_at s at))) true h
 
-  pub accent_passed : body_verdict 3 s at st ≡ Ok tt
-      → Passed (leb 8 (length st.accents)) (accent_fine 3 s at) (not (holds s st.accents (number_at s at))) (zero_or_held s st.accents (byte_at s (at + 2)))
+  pub accent_passed : body_verdict 3 s at st ≡ Ok tt → Passed (leb 8 (length st.accents)) (accent_fine 3 s at) (not (holds s st.accents (number_at s at))) true
   unfolding body_verdict accent_verdict
-  accent_passed h = passed (leb 8 (length st.accents)) (accent_fine 3 s at) (not (holds s st.accents (number_at s at))) (zero_or_held s st.accents (byte_at s (at + 2))) h
+  accent_passed h = passed (leb 8 (length st.accents)) (accent_fine 3 s at) (not (holds s st.accents (number_at s at))) true h
 
   pub rule_passed : body_verdict 4 s at st ≡ Ok tt → Passed (leb 64 (length st.rules)) (rule_fine s at) true (rule_held s at st)
   unfolding body_verdict rule_verdict
@@ -128,3 +128,19 @@ module _ (s : List ℕ) (at : ℕ) (st : PackRead) where
         lone = λ one. omega (arith, leb-false 1 st.parts (rw one at l.0));
         knots = ltb-false 10 (byte_at s (at + 5)) l.1;
       }
+
+-- what an End that ends a pack shows: both tests of the whole passed; and where both do, it ends it
+module _ (s : List ℕ) (st : PackRead) where
+  pub end_passed : end_verdict s st ≡ Ok tt → (parents_held s st.accents st.accents ≡ true) × (chains_end s st (length st.accents) 0 ≡ true)
+  unfolding end_verdict
+  end_passed h =
+      split (parents_held s st.accents st.accents)
+      (λ p. split (chains_end s st (length st.accents) 0) (λ c. (p, c)) (λ c. not_fine Endless (rw (p, c) at h)))
+      (λ p. not_fine Loose (rw p at h))
+
+  pub end_passes : parents_held s st.accents st.accents ≡ true → chains_end s st (length st.accents) 0 ≡ true → end_verdict s st ≡ Ok tt
+  unfolding end_verdict
+  end_passes p c = rw (p, c)
+
+  pub end_loads : (at e : ℕ) (fin : PackRead) → ended at st (end_verdict s st) ≡ loaded fin e → (end_verdict s st ≡ Ok tt) × (loaded st (at + 1) ≡ loaded fin e)
+  end_loads at e fin h = by_verdict (end_verdict s st) (λ v. (v, rw v at h)) (λ r v. not_loaded r at e fin (rw v at h))

@@ -8,6 +8,7 @@ use tonekit_bytes::places::Offsets;
 pub mod format;
 mod kind;
 mod load;
+mod parents;
 pub mod read;
 
 pub use kind::{Kind, size_of};

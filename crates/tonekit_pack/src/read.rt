@@ -26,7 +26,7 @@ fn holds(s: &[u8], places: &[u16], x: u8) -> bool
 
 // 0, or the number of one of the records at these offsets.
 #[tactic(auto, unfolding(spec_pack::specs::Pack::zero_or_held))]
-fn zero_or_held(s: &[u8], places: &[u16], x: u8) -> bool
+pub fn zero_or_held(s: &[u8], places: &[u16], x: u8) -> bool
     ensures { result ≡ zero_or_held s.now places.now x }
 {
     (x == 0) | holds(s, places, x)
@@ -100,24 +100,17 @@ impl Pack {
         in_turn(crowded, fine, new, true)
     }
 
-    // An accent: number, parent, tolerances.
-    // Stays: a tone has other fields at other places, and an accent of a pack alone has a parent.
+    // An accent: number, tolerances. Its parent may stand later in the file, so `end_verdict` judges it.
+    // Stays: a tone has other fields at other places.
     #[tactic(auto, unfolding(spec_pack::specs::Pack::accent_verdict))]
     fn accent_verdict(&self, s: &[u8], o: usize) -> Result<(), Refusal>
         requires { o + ACCENT_SIZE ≤ length s.now }
         ensures { result ≡ accent_verdict s.now o (records_of self.now) }
     {
         let number = byte_at(s, o, layout::OWN_NUMBER);
-        let parent = byte_at(s, o, layout::ACCENT_PARENT);
         let fine = (number != 0) & tolerances_fine(s, o + layout::ACCENT_CONTOUR);
-        let accents = self.accents.offsets();
-        let new = !holds(s, accents, number);
-        in_turn(
-            limits::ACCENTS <= self.accents.len(),
-            fine,
-            new,
-            zero_or_held(s, accents, parent),
-        )
+        let new = !holds(s, self.accents.offsets(), number);
+        in_turn(limits::ACCENTS <= self.accents.len(), fine, new, true)
     }
 
     // A rule: tone, prev, final, form.
@@ -249,6 +242,9 @@ impl Format for Pack {
     }
 
     fn finish(self, s: &[u8], o: usize) -> Result<Loaded<Pack>, Rejection> {
+        if let Err(why) = self.end_verdict(s) {
+            return Err(why.at(o));
+        }
         Ok(Loaded {
             held: self,
             end: o + layout::END_SIZE,

@@ -1,0 +1,24 @@
+-- `chains_end` meets its contract: each turn of the loop is one chain. Assumes nothing.
+use Rattle.std.proofs.Common.{arith, refl, sym, ◌∙◌, ◌+◌, ◌-◌, ◌≡◌}
+use Rattle.tonekit_bytes.proofs.InOrder.{order_length}
+use Rattle.tonekit_pack.proofs.Chains.{all_none, all_on, all_stop}
+use Rattle.tonekit_pack.proofs.Pack.chains_end.Goals as goal
+
+pub loop-i-init : goal.loop-i-init
+loop-i-init c =
+    let p = c.args.self.now.accents in
+    let all : p.count - 0 ≡ p.count = omega arith in
+    rw (all, order_length p.at p.count) refl
+
+pub returns-then-not-chain_ends : goal.returns-then-not-chain_ends
+returns-then-not-chain_ends c =
+    all_stop _ _ _ _ c.loop-i.invariant (omega (arith, c.loop-i-test.true)) (sym c.chain_ends.ensures ∙ c.if-not-chain_ends.true)
+
+pub loop-i-preserved : goal.loop-i-preserved
+loop-i-preserved c =
+    let n = c.args.self.now.accents.count in
+    let less : n - (c.loop-i.i + 1) ≡ n - c.loop-i.i - 1 = omega arith in
+    rw less (all_on _ _ _ _ c.loop-i.invariant (omega (arith, c.loop-i-test.true)) (sym c.chain_ends.ensures ∙ c.if-not-chain_ends.false))
+
+pub returns : goal.returns
+returns c = all_none _ _ _ _ c.loop-i.invariant (omega (arith, c.loop-i-test.false))
