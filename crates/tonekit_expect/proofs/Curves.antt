@@ -26,7 +26,8 @@ use Rattle.tonekit_expect.specs.Pieces.{knots_of, Listed}
 use Rattle.tonekit_core.proofs.Split.{split}
 use Rattle.tonekit_pack.proofs.Loads.{RuleFine, Loads, loads, firsts_bound}
 use Rattle.tonekit_expect.proofs.Bound.{length_knots, points_bounded}
-use Rattle.tonekit_expect.proofs.Walk.{index_found, winner_is}
+use Rattle.tonekit_bytes.proofs.Searched.{index_found}
+use Rattle.tonekit_expect.proofs.Walk.{winner_is}
 
 -- ---- slots that pass their test hold knots
 module _ (s : List ℕ) (o n : ℕ) where

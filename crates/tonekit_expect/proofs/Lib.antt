@@ -1,4 +1,3 @@
-pub mod Chain
 pub mod Bound
 pub mod InOrder
 pub mod Parts

@@ -1,41 +1,16 @@
--- The search by number, and one step of the walk up the parents.
+-- The walk up the parents: one step of it, and what it ends with.
 use Rattle.std.specs.Prelude.{Option}
-use Rattle.std.proofs.Common.{ℕ, zero, suc, ◌+◌, ◌-◌, ◌≤◌, ◌<◌, ◌≡◌, refl, sym, ◌∙◌, ap, subst, ◌&&◌, List, arith, eqb, length, get_or, eqb-true}
-use Rattle.tonekit_core.specs.Loop.{Turn, next, stop, turns, range, turns_to, range_to, loop_on, loop_to}
-use Rattle.spec_arithmetic.specs.Places.{index_of, number_at}
-use Rattle.tonekit_bytes.specs.Places.{index_turn}
-use Rattle.spec_pack.specs.Pack.{PackRead}
+use Rattle.std.proofs.Common.{ℕ, zero, suc, ◌+◌, ◌-◌, ◌≤◌, ◌<◌, ◌≡◌, refl, sym, ◌∙◌, ap, subst, ◌&&◌, List, arith, length, get_or}
+use Rattle.tonekit_core.specs.Loop.{Turn, next, stop, turns, range, loop_on, loop_to}
+use Rattle.spec_arithmetic.specs.Places.{index_of}
+use Rattle.tonekit_bytes.proofs.Searched.{index_found}
+use Rattle.spec_pack.specs.Pack.{PackRead, parent_of}
 use Rattle.tonekit_core.proofs.Split.{split}
 use Rattle.std.specs.Prelude.{Some, None}
 use Rattle.spec_lookup.specs.declared.Winner.{Winner}
 use Rattle.spec_lookup.specs.declared.Context.{Context}
 use Rattle.spec_lookup.specs.Lookup.{matches, more_than, better_of, to_rule, best_rule, or_parent, to_parent, climb_turn, find_rule, listed, look_at, look_up}
-use Rattle.tonekit_expect.specs.Pieces.{best_turn, won, parent_of}
-
--- ---- the search
-module _ (s os : List ℕ) (n : ℕ) where
-  -- record i has the number
-  pub record Numbered (i : ℕ) : Type 0 where
-    pub inside : i < length os
-    pub number : number_at s (get_or os i 0) ≡ n
-
-  hit : (j u r : ℕ) → j < length os → index_turn s os n j u ≡ stop (Some r) → Numbered r
-  hit j u r h e =
-      split (eqb (number_at s (get_or os j 0)) n)
-      (λ t. let q : j ≡ r = let e' = rw t at e in cc in subst Numbered q (record { inside = h; number = eqb-true (number_at s (get_or os j 0)) n t }))
-      (λ f. let z : ◌≡◌ {A = ℕ} 0 1 = let e' = rw f at e in cc in absurd (omega arith))
-
-  from : (k j i : ℕ) (t : Turn ℕ (Option ℕ)) → k + j ≤ length os → ((r : ℕ) → t ≡ stop (Some r) → Numbered r) → turns_to (index_turn s os n) (λ u. None) k j t ≡ Some i → Numbered i
-  unfolding turns_to
-  from zero j i (next u) h p e = let z : ◌≡◌ {A = ℕ} 0 1 = cc in absurd (omega arith)
-  from zero j i (stop f) h p e = p i (ap stop e)
-  from (suc k) j i (next u) h p e = from k (j + 1) i (index_turn s os n j u) (omega arith) (λ r q. hit j u r (omega arith) q) e
-  from (suc k) j i (stop f) h p e = p i (ap stop e)
-
-  -- what is found has the number
-  pub index_found : (i : ℕ) → index_of s os n ≡ Some i → Numbered i
-  unfolding index_of range_to
-  index_found i e = from (length os - 0) 0 i (next 0) (omega arith) (λ r q. let z : ◌≡◌ {A = ℕ} 0 1 = cc in absurd (omega arith)) e
+use Rattle.tonekit_expect.specs.Pieces.{best_turn, won}
 
 -- ---- a step
 module _ (s : List ℕ) (st : PackRead) (c : Context) (i : ℕ) where

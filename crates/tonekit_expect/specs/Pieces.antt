@@ -1,9 +1,6 @@
 -- What contracts of the lookup name beside its definitions: pieces of those, and what it is asked with.
 use Rattle.std.specs.Prelude.{ℕ, ◌+◌, ◌-◌, ◌*◌, ◌≤◌, ◌<◌, ◌≡◌, cond, List, Option, Some, eqb, min, length, get_or, Float}
-use Rattle.tonekit_core.specs.declared.layout.TheConstants.{CITATION_FORM, PART_SIZE, ACCENT_PARENT}
-use Rattle.spec_arithmetic.specs.Fields.{byte_at}
-use Rattle.spec_arithmetic.specs.Places.{index_of}
-use Rattle.spec_pack.specs.Pack.{PackRead}
+use Rattle.tonekit_core.specs.declared.layout.TheConstants.{CITATION_FORM, PART_SIZE}
 use Rattle.spec_arithmetic.specs.Whole.{whole_part}
 use Rattle.spec_lookup.specs.declared.Winner.{Winner}
 use Rattle.spec_lookup.specs.declared.Context.{Context}
@@ -14,10 +11,6 @@ use Rattle.spec_lookup.specs.Lookup.{better_of, tone_knots_at, part_knots_at}
 -- a turn of the loop over an accent's rules
 abbrev pub best_turn : List ℕ → List ℕ → Context → ℕ → Option ℕ → Option ℕ
 best_turn s rules c k best = better_of s c best (get_or rules k 0)
-
--- the place of accent i's parent
-abbrev pub parent_of : List ℕ → PackRead → ℕ → Option ℕ
-parent_of s st i = index_of s st.accents (byte_at s (get_or st.accents i 0 + ACCENT_PARENT))
 
 -- the rule at offset r, of accent i
 abbrev pub won : ℕ → ℕ → Winner

@@ -11,7 +11,7 @@ ghost use Rattle.tonekit_pack.specs.Held.{records_of};
 ghost use Rattle.spec_lookup.specs.Knots.{on_line, point_at, expanded, knots_at, Point, Knots};
 ghost use Rattle.spec_pack.specs.Pack.{parts_from};
 ghost use Rattle.spec_lookup.specs.Lookup.{final_of, meets, matches, stated, specificity, better_of, best_rule, find_rule, rule_listing, citation, listed, look_up, component_of};
-ghost use Rattle.tonekit_expect.specs.Pieces.{best_turn, WithinPack, Listed, knot_before, parent_of};
+ghost use Rattle.tonekit_expect.specs.Pieces.{best_turn, WithinPack, Listed, knot_before};
 
 pub use spec_lookup::{Component, Context, Listing, Winner};
 use tonekit_bytes::places::index_of;
@@ -136,15 +136,6 @@ fn best_rule(v: PackView<'_>, c: Context, i: usize) -> Option<usize>
     best_among(v.bytes, c, v.pack.rules.offsets(), from, to)
 }
 
-// The place of accent i's parent, or none.
-fn parent_index(v: PackView<'_>, i: usize) -> Option<usize>
-    requires { i < v.pack.accents.count }
-    ensures { result ≡ parent_of v.entry.bytes.now (records_of v.entry.pack) i }
-{
-    let o = usize::from(v.pack.accents.at[i]);
-    accent_index(v, byte_at(v.bytes, o, layout::ACCENT_PARENT))
-}
-
 // The rule that a walk from accent i up its parents ends with: the best of the first accent that has
 // one that matches; i is the place of one of the pack's accents.
 pub fn find_rule(v: PackView<'_>, c: Context, i: usize) -> Option<Winner>
@@ -156,7 +147,7 @@ pub fn find_rule(v: PackView<'_>, c: Context, i: usize) -> Option<Winner>
         if let Some(r) = best_rule(v, c, a) {
             return Some(Winner { accent: a, rule: r });
         }
-        a = parent_index(v, a)?;
+        a = v.pack.parent_index(v.bytes, a)?;
     }
     None
 }

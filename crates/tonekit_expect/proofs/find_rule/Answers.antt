@@ -3,7 +3,8 @@ use Rattle.tonekit_core.specs.Loop.{loop_stop}
 use Rattle.tonekit_core.proofs.LoopLaws.{loop_again as onward}
 use Rattle.spec_lookup.specs.Lookup.{find_rule}
 use Rattle.tonekit_bytes.proofs.InOrder.{order_length}
-use Rattle.tonekit_expect.proofs.Walk.{index_found, climb_hit, climb_top, climb_on, loop_out}
+use Rattle.tonekit_bytes.proofs.Searched.{index_found}
+use Rattle.tonekit_expect.proofs.Walk.{climb_hit, climb_top, climb_on, loop_out}
 use Rattle.tonekit_expect.proofs.find_rule.Goals as goal
 
 pub loop-init : goal.loop-init

@@ -3,7 +3,8 @@ use Rattle.std.specs.Prelude.{None}
 use Rattle.spec_lookup.specs.Lookup.{look_up}
 use Rattle.tonekit_bytes.proofs.InOrder.{order_length, order_get}
 use Rattle.tonekit_expect.proofs.InOrder.{order_all}
-use Rattle.tonekit_expect.proofs.Walk.{index_found, winner_is, look_found}
+use Rattle.tonekit_bytes.proofs.Searched.{index_found}
+use Rattle.tonekit_expect.proofs.Walk.{winner_is, look_found}
 use Rattle.tonekit_expect.proofs.look_up.Goals as goal
 use Rattle.tonekit_expect.proofs.look_up.Goals.{In_ok-i, In_ok-t, Start}
 
