@@ -1,5 +1,7 @@
 -- `chain_ends` meets its contract: each turn of the loop is a step of the walk, which stays among the accents. Assumes nothing.
-use Rattle.std.proofs.Common.{arith, refl, sym, ◌∙◌, ◌+◌, ◌-◌, ◌≡◌}
+use Rattle.std.proofs.Common.{ℕ, arith, sym, ap, ◌∙◌, ◌+◌, ◌-◌, ◌≡◌}
+use Rattle.spec_pack.specs.Pack.{chain_ends}
+use Rattle.tonekit_pack.specs.Held.{records_of}
 use Rattle.tonekit_bytes.proofs.InOrder.{order_length}
 use Rattle.tonekit_bytes.proofs.Searched.{index_found}
 use Rattle.tonekit_pack.proofs.Chains.{walk_top, walk_up, walk_out}
@@ -7,9 +9,9 @@ use Rattle.tonekit_pack.proofs.Pack.chain_ends.Goals as goal
 
 pub loop-init : goal.loop-init
 loop-init c =
-    let p = c.args.self.now.accents in
-    let all : p.count - 0 ≡ p.count = omega arith in
-    record { inside = c.requires; rest = rw (all, order_length p.at p.count) refl }
+    let a = c.args in
+    let p = a.self.now.accents in
+    record { inside = c.requires; rest = ap (λ (n : ℕ). chain_ends a.s.now (records_of a.self.now) n a.i) (omega (arith, order_length p.at p.count)) }
 
 pub parent_index-requires : goal.parent_index-requires
 parent_index-requires c = c.loop.invariant.inside

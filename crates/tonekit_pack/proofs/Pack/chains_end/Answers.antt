@@ -1,14 +1,16 @@
 -- `chains_end` meets its contract: each turn of the loop is one chain. Assumes nothing.
-use Rattle.std.proofs.Common.{arith, refl, sym, ◌∙◌, ◌+◌, ◌-◌, ◌≡◌}
+use Rattle.std.proofs.Common.{ℕ, arith, sym, ap, ◌∙◌, ◌+◌, ◌-◌, ◌≡◌}
+use Rattle.spec_pack.specs.Pack.{chains_end}
+use Rattle.tonekit_pack.specs.Held.{records_of}
 use Rattle.tonekit_bytes.proofs.InOrder.{order_length}
 use Rattle.tonekit_pack.proofs.Chains.{all_none, all_on, all_stop}
 use Rattle.tonekit_pack.proofs.Pack.chains_end.Goals as goal
 
 pub loop-i-init : goal.loop-i-init
 loop-i-init c =
-    let p = c.args.self.now.accents in
-    let all : p.count - 0 ≡ p.count = omega arith in
-    rw (all, order_length p.at p.count) refl
+    let a = c.args in
+    let p = a.self.now.accents in
+    ap (λ (k : ℕ). chains_end a.s.now (records_of a.self.now) k 0) (omega (arith, order_length p.at p.count))
 
 pub returns-then-not-chain_ends : goal.returns-then-not-chain_ends
 returns-then-not-chain_ends c =
