@@ -6,3 +6,4 @@ pub mod OwnRule
 pub mod Accents
 pub mod Tones
 pub mod BookOfRecords
+pub mod Ending

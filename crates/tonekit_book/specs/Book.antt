@@ -1,9 +1,11 @@
 -- What a pack says, with no word of where it says it: settings, tones with their citations, and accents, each with its parent and its rules. Document 01's
 -- lookup goes by numbers here.
-use Rattle.std.specs.Prelude.{ℕ, zero, suc, ◌+◌, ◌-◌, Bool, true, cond, ◌&&◌, List, [], ◌∷◌, map, eqb, ltb, length, get_or}
+use Rattle.std.specs.Prelude.{ℕ, zero, suc, ◌+◌, ◌-◌, Bool, true, false, cond, not, ◌&&◌, List, [], ◌∷◌, map, eqb, ltb, length, get_or, Result, Ok, Err}
 use Rattle.std.proofs.Math.Option.{Option, none, some}
 use Rattle.tonekit_core.specs.declared.layout.TheConstants.{ACCENT_CONTOUR, TONE_REGION}
 use Rattle.tonekit_core.specs.declared.layout.TheConstants.{TONE_KNOT_COUNT, ACCENT_PARENT, RULE_SIZE, RULE_TONE, RULE_PREV, RULE_FINAL}
+use Rattle.tonekit_core.specs.declared.Refusal.{Refusal}
+use Rattle.tonekit_core.specs.declared.Refusal.TheVariants.{Loose, Endless}
 use Rattle.tonekit_core.specs.Loop.{fold}
 use Rattle.spec_arithmetic.specs.Fields.{byte_at}
 use Rattle.spec_arithmetic.specs.Places.{number_at}
@@ -11,6 +13,7 @@ use Rattle.spec_pack.specs.Pack.{PackRead, parts_from}
 use Rattle.spec_lookup.specs.declared.Context.{Context}
 use Rattle.spec_lookup.specs.Lookup.{final_of, meets, stated, to_rule, rule_listing, citation}
 use Rattle.spec_lookup.specs.Source.{Settings, Tone, Accent, Carried, Source, components, settings_at, tone_at, accent_at}
+use Rattle.tonekit_records.specs.Records.{zero_or_among}
 
 -- what a rule asks for, and the components that it gives: its parts, under the number of the accent whose rule it is
 pub record Rule : Type 0 where
@@ -101,6 +104,37 @@ look_in b c = look_with b.accents c (book_accent_in b.accents c.accent) (book_to
 unfoldable pub source_of : Book → Source
 unfolding look_in
 source_of b = record { settings = b.settings; tones = map (λ (t : BookTone). t.tone) b.tones; accents = map (λ (a : BookAccent). a.accent) b.accents; look = look_in b }
+
+-- ---- the tests at a pack's End
+abbrev pub accent_numbers : List BookAccent → List ℕ
+accent_numbers accents = map (λ (a : BookAccent). a.accent.number) accents
+
+abbrev pub accent_parents : List BookAccent → List ℕ
+accent_parents accents = map (λ (a : BookAccent). a.parent) accents
+
+-- "A parent may now be any accent of the file": of these parents each is 0, or one of these numbers
+unfoldable pub parents_among : List ℕ → List ℕ → Bool
+parents_among numbers [] = true
+parents_among numbers (p ∷ more) = zero_or_among numbers p && parents_among numbers more
+
+-- "Every chain must reach an accent with no parent": a walk of at most n accents, from a up its parents, does
+abbrev pub or_reaches : (BookAccent → Bool) → Option BookAccent → Bool
+or_reaches on none = true
+or_reaches on (some a) = on a
+
+unfoldable pub reaches_end : List BookAccent → ℕ → BookAccent → Bool
+reaches_end accents zero a = false
+reaches_end accents (suc n) a = or_reaches (reaches_end accents n) (book_accent_in accents a.parent)
+
+-- from each of these, within as many steps as there are accents
+unfoldable pub all_reach_end : List BookAccent → List BookAccent → Bool
+all_reach_end accents [] = true
+all_reach_end accents (a ∷ more) = reaches_end accents (length accents) a && all_reach_end accents more
+
+-- what is said at the End of a pack with these accents
+unfoldable pub ending_of : List BookAccent → Result Unit Refusal
+ending_of accents =
+    cond (not (parents_among (accent_numbers accents) (accent_parents accents))) (Err Loose) (cond (not (all_reach_end accents accents)) (Err Endless) (Ok tt))
 
 -- ---- the book of a pack that was read
 -- f i, f (i + 1), .. , k of them

@@ -1,3 +1,4 @@
 pub mod OwnBytes
 pub mod Tallies
 pub mod Loading
+pub mod Comes

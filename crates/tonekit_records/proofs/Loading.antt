@@ -1,16 +1,16 @@
--- A pack loads exactly if its records read, one after the other (`loads_exactly`): from records to the reader's answer (`reads_load`), and back (`load_reads`).
--- Assumes nothing.
+-- A pack loads exactly if its records read, one after the other, and the tests at End pass (`loads_exactly`): from records to the reader's answer (`reads_end`,
+-- `reads_load`, `reads_refused`), and back (`load_reads`). Assumes nothing.
 use Rattle.std.proofs.Common.{ℕ, zero, suc, ◌+◌, ◌-◌, ◌≤◌, ◌<◌, ◌≡◌, refl, sym, ◌∙◌, ap, ap₂, ◌↔◌, true, List, [], ◌∷◌, ◌++◌, append_assoc, arith, eqb, eqb-true, length, take, drop, take-append-drop, length-append, length-drop, length-take-le, drop-cons, get_or-drop, get_or-take, drop-drop}
 use borrow.Author.Tests.{eqb-false}
 use lib.Seq.{drop-append_seam}
 use Rattle.tonekit_core.specs.declared.Refusal.{Refusal}
 use Rattle.tonekit_core.specs.declared.Refusal.TheVariants.{Misplaced, CutShort}
-use Rattle.std.specs.Prelude.{Ok}
+use Rattle.std.specs.Prelude.{Ok, Err}
 use Rattle.spec_arithmetic.specs.Fields.{byte_at}
 use Rattle.spec_arithmetic.specs.Files.{Out, loaded, refused}
-use Rattle.spec_pack.specs.Pack.{PackRead, due_after, size_of, record_verdict, added, pack_reader, read_pack}
+use Rattle.spec_pack.specs.Pack.{PackRead, due_after, size_of, record_verdict, added, end_verdict, ended, pack_reader, read_pack}
 use Rattle.tonekit_core.proofs.Split.{split}
-use Rattle.tonekit_bytes.proofs.Files.{not_fine, by_verdict, run, run_refused, run_end, run_on, not_loaded, no_turns}
+use Rattle.tonekit_bytes.proofs.Files.{not_fine, by_verdict, run, run_refused, run_end, run_on, not_loaded, same_loaded, no_turns}
 use Rattle.tonekit_pack.proofs.Records.{sound, size_pos}
 use Rattle.tonekit_pack.proofs.Turns.{limit_idle}
 use Rattle.tonekit_records.specs.Records.{Tally, no_tally, kind, body_verdict_of, record_verdict_of, tallied, ReadsOn, none, more, records_bytes, added_all}
@@ -41,13 +41,13 @@ drop_behind s at r tail e = sym (drop-drop (length r) at s) ∙ ap (drop (length
 module _ (s : List ℕ) (d : Out PackRead) (tail : List ℕ) where
   run_reads : {t u : Tally} {rs : List (List ℕ)} → ReadsOn t rs u → (f at : ℕ) (st : PackRead) → TallyOf s st t
       → drop at s ≡ records_bytes rs ++ (6 ∷ tail) → at ≤ length s → length rs < f → due_after u.last 6 ≡ true
-      → run pack_reader s d f at st ≡ loaded (added_all st at rs) (at + length (records_bytes rs) + 1)
+      → run pack_reader s d f at st ≡ ended (at + length (records_bytes rs)) (added_all st at rs) (end_verdict s (added_all st at rs))
   unfolding records_bytes added_all size_of
   run_reads {t} none f at st o e l h due =
       let g = stands_front s at (6 ∷ []) tail e l in
       let v = verdict_same s at st (6 ∷ []) t g refl o (omega arith) ∙ end_fine t due in
-      let z : at + 0 + 1 ≡ at + 1 = omega arith in
-      rw z (run_end pack_reader s d f at st (omega arith) v (byte_same s at (6 ∷ []) g at 0 (omega arith) (omega arith)))
+      let z : at ≡ at + 0 = omega arith in
+      run_end pack_reader s d f at st (omega arith) v (byte_same s at (6 ∷ []) g at 0 (omega arith) (omega arith)) ∙ ap (λ a. ended a st (end_verdict s st)) z
   run_reads {t} {u} (more {r = r} {rs = rs} w n fine x) f at st o e l h due =
       let behind = records_bytes rs ++ (6 ∷ tail) in
       let e1 : drop at s ≡ r ++ behind = e ∙ append_assoc r (records_bytes rs) (6 ∷ tail) in
@@ -59,21 +59,36 @@ module _ (s : List ℕ) (d : Out PackRead) (tail : List ℕ) where
       let goes = run_on pack_reader s d f at st (omega arith) v (λ z. n (sym k ∙ z)) in
       let q : at + size_of (byte_at s at) ≡ at + length r = ap (λ z. at + z) (ap size_of k ∙ sym w) in
       let ih = run_reads x (f - 1) (at + length r) (added (kind r) at st) (tally_next s at st r t g w o was-due n) (drop_behind s at r behind e1) g.fits (omega arith) due in
-      let z : at + length r + length (records_bytes rs) + 1 ≡ at + length (r ++ records_bytes rs) + 1 = omega (arith, length-append r (records_bytes rs)) in
-      goes ∙ ap₂ (λ a b. run pack_reader s d (f - 1) a (added b at st)) q k ∙ ih ∙ ap (loaded (added_all (added (kind r) at st) (at + length r) rs)) z
+      let fin = added_all (added (kind r) at st) (at + length r) rs in
+      let z : at + length r + length (records_bytes rs) ≡ at + length (r ++ records_bytes rs) = omega (arith, length-append r (records_bytes rs)) in
+      goes ∙ ap₂ (λ a b. run pack_reader s d (f - 1) a (added b at st)) q k ∙ ih ∙ ap (λ a. ended a fin (end_verdict s fin)) z
 
--- records that read, with End behind them, are a pack
-pub reads_load : {u : Tally} {rs : List (List ℕ)} (tail : List ℕ) → ReadsOn no_tally rs u → due_after u.last 6 ≡ true
-    → read_pack (records_bytes rs ++ (6 ∷ tail)) ≡ loaded (added_all pack_reader.start.st 0 rs) (length (records_bytes rs) + 1)
-reads_load {u} {rs} tail x due =
-    let s = records_bytes rs ++ (6 ∷ tail) in
-    let d = refused CutShort 0 in
-    let n = length s + length rs + 1 in
-    let z : 0 + length (records_bytes rs) + 1 ≡ length (records_bytes rs) + 1 = omega arith in
-    sym (limit_idle s d n (omega arith)) ∙ run_reads s d tail x n 0 pack_reader.start.st (tally_start s) refl (omega arith) (omega arith) due ∙ ap (loaded (added_all pack_reader.start.st 0 rs)) z
+-- of records that read, with End behind them, the reader's answer is what the tests at End say
+module _ {u : Tally} {rs : List (List ℕ)} (tail : List ℕ) (x : ReadsOn no_tally rs u) (due : due_after u.last 6 ≡ true) where
+  abbrev whole : List ℕ
+  whole = records_bytes rs ++ (6 ∷ tail)
+
+  abbrev all : PackRead
+  all = added_all pack_reader.start.st 0 rs
+
+  pub reads_end : read_pack whole ≡ ended (length (records_bytes rs)) all (end_verdict whole all)
+  reads_end =
+      let d = refused CutShort 0 in
+      let n = length whole + length rs + 1 in
+      let z : 0 + length (records_bytes rs) ≡ length (records_bytes rs) = omega arith in
+      sym (limit_idle whole d n (omega arith)) ∙ run_reads whole d tail x n 0 pack_reader.start.st (tally_start whole) refl (omega arith) (omega arith) due
+      ∙ ap (λ a. ended a all (end_verdict whole all)) z
+
+  -- they are a pack if those pass, and turned back at End if not
+  pub reads_load : end_verdict whole all ≡ Ok tt → read_pack whole ≡ loaded all (length (records_bytes rs) + 1)
+  reads_load h = reads_end ∙ ap (ended (length (records_bytes rs)) all) h
+
+  pub reads_refused : (q : Refusal) → end_verdict whole all ≡ Err q → read_pack whole ≡ refused q (length (records_bytes rs))
+  reads_refused q h = reads_end ∙ ap (ended (length (records_bytes rs)) all) h
 
 -- ---- and back
--- from an offset on, and from the state and the tally there, s is records that read, and End, which ends at e; then the reader has read what fin says
+-- from an offset on, and from the state and the tally there, s is records that read, and End, which ends at e; then the reader has read what fin says, and the
+-- tests at End pass
 pub record AsRecords (s : List ℕ) (at : ℕ) (st : PackRead) (t : Tally) (fin : PackRead) (e : ℕ) : Type 0 where
   pub records : List (List ℕ)
   pub tally : Tally
@@ -82,6 +97,7 @@ pub record AsRecords (s : List ℕ) (at : ℕ) (st : PackRead) (t : Tally) (fin 
   pub bytes : drop at s ≡ records_bytes records ++ (6 ∷ drop e s)
   pub end : at + length (records_bytes records) + 1 ≡ e
   pub held : added_all st at records ≡ fin
+  pub ending : end_verdict s fin ≡ Ok tt
 
 -- the bytes of the record at an offset
 module _ (s : List ℕ) (at : ℕ) (inside : at < length s) (whole : at + size_of (byte_at s at) ≤ length s) where
@@ -101,14 +117,26 @@ module _ (s : List ℕ) (at : ℕ) (inside : at < length s) (whole : at + size_o
   cut_here = sym (take-append-drop (size_of (byte_at s at)) (drop at s)) ∙ ap (λ x. here ++ x) (drop-drop (size_of (byte_at s at)) at s)
 
 -- at End, and at a record before it
-ended : (s : List ℕ) (at : ℕ) (st : PackRead) (t : Tally) (fin : PackRead) (e : ℕ) → at < length s → byte_at s at ≡ 6 → due_after t.last 6 ≡ true
-    → loaded st (at + 1) ≡ loaded fin e → AsRecords s at st t fin e
+at_end : (s : List ℕ) (at : ℕ) (st : PackRead) (t : Tally) (fin : PackRead) (e : ℕ) → at < length s → byte_at s at ≡ 6 → due_after t.last 6 ≡ true
+    → ended at st (end_verdict s st) ≡ loaded fin e → AsRecords s at st t fin e
 unfolding records_bytes added_all
-ended s at st t fin e l k due h =
-    let a : at + 1 ≡ e = cc in
+at_end s at st t fin e l k due h =
+    by_verdict (end_verdict s st)
+    (λ v. let same = same_loaded st fin (at + 1) e (sym (ap (ended at st) v) ∙ h) in
+    let a : at + 1 ≡ e = same.1 in
     let z : suc at ≡ e = omega arith in
     let b : at + 0 + 1 ≡ e = omega arith in
-    record { records = []; tally = t; reads = none; due = due; bytes = drop-cons s at 0 l ∙ ap₂ (λ x y. x ∷ drop y s) k z; end = b; held = cc }
+    record {
+      records = [];
+      tally = t;
+      reads = none;
+      due = due;
+      bytes = drop-cons s at 0 l ∙ ap₂ (λ x y. x ∷ drop y s) k z;
+      end = b;
+      held = same.0;
+      ending = ap (end_verdict s) (sym same.0) ∙ v;
+    })
+    (λ q v. not_loaded q at e fin (sym (ap (ended at st) v) ∙ h))
 
 onward : (s : List ℕ) (at : ℕ) (st : PackRead) (t : Tally) (fin : PackRead) (e : ℕ) (r : List ℕ) → length r ≡ size_of (kind r) → (kind r ≡ 6 → ⊥) → record_verdict_of r t ≡ Ok tt
     → drop at s ≡ r ++ drop (at + length r) s → AsRecords s (at + length r) (added (kind r) at st) (tallied r t) fin e → AsRecords s at st t fin e
@@ -123,6 +151,7 @@ onward s at st t fin e r w n fine c x =
       bytes = c ∙ ap (λ y. r ++ y) x.bytes ∙ sym (append_assoc r (records_bytes x.records) (6 ∷ drop e s));
       end = z;
       held = x.held;
+      ending = x.ending;
     }
 
 -- f turns from an offset on that end with a pack
@@ -143,7 +172,7 @@ load_from (suc f) s r place at st t fin e o l h =
     let d = fine_due rec t fine in
     split (eqb (byte_at s at) 6)
     (λ b. let is : byte_at s at ≡ 6 = eqb-true (byte_at s at) 6 b in
-    ended s at st t fin e ok.inside is (ap (due_after t.last) (sym (k ∙ is)) ∙ d) (sym (run_end pack_reader s (refused r place) (suc f) at st (omega arith) v is) ∙ h))
+    at_end s at st t fin e ok.inside is (ap (due_after t.last) (sym (k ∙ is)) ∙ d) (sym (run_end pack_reader s (refused r place) (suc f) at st (omega arith) v is) ∙ h))
     (λ b. let is : byte_at s at ≡ 6 → ⊥ = eqb-false (byte_at s at) 6 b in
     let no : kind rec ≡ 6 → ⊥ = λ z. is (sym k ∙ z) in
     let was-due : due_after st.last (kind rec) ≡ true = ap (λ z. due_after z (kind rec)) o.last ∙ d in
@@ -164,5 +193,5 @@ pub loads_exactly : (s : List ℕ) (st : PackRead) (e : ℕ) → (read_pack s �
 loads_exactly s st e = (
   load_reads s st e,
   λ x. let z : length (records_bytes x.records) + 1 ≡ e = omega (arith, x.end) in
-      ap read_pack x.bytes ∙ reads_load (drop e s) x.reads x.due ∙ ap₂ loaded x.held z,
+      ap read_pack x.bytes ∙ reads_load (drop e s) x.reads x.due (ap₂ end_verdict (sym x.bytes) x.held ∙ x.ending) ∙ ap₂ loaded x.held z,
 )

@@ -34,7 +34,7 @@ unfolding holds among
 holds_same s [] n = refl
 holds_same s (o ∷ os) n = ap (λ b. eqb (number_at s o) n || b) (holds_same s os n)
 
-zero_same : (s os : List ℕ) (n : ℕ) → zero_or_held s os n ≡ zero_or_among (map (number_at s) os) n
+pub zero_same : (s os : List ℕ) (n : ℕ) → zero_or_held s os n ≡ zero_or_among (map (number_at s) os) n
 unfolding zero_or_held zero_or_among
 zero_same s os n = ap (λ b. eqb n 0 || b) (holds_same s os n)
 
@@ -66,8 +66,7 @@ module _ (s : List ℕ) (at : ℕ) (st : PackRead) (r : List ℕ) (t : Tally) (h
   unfolding accent_verdict size_of
   accent_verdict_lem n =
       in_turn_lem (ap (leb 8) (count st.accents t.accents f.accents)) (accent_same s at r h n)
-      (ap not (holds_same s st.accents (number_at s at) ∙ ap₂ among f.accents (byte_same s at r h (at + 1) 1 refl (omega arith))))
-      (zero_same s st.accents (byte_at s (at + 2)) ∙ ap₂ zero_or_among f.accents (byte_same s at r h (at + 2) 2 refl (omega arith)))
+      (ap not (holds_same s st.accents (number_at s at) ∙ ap₂ among f.accents (byte_same s at r h (at + 1) 1 refl (omega arith)))) passes
 
   rule_verdict_lem : length r ≡ size_of 4 → rule_verdict s at st ≡ rule_verdict_of r t
   unfolding rule_verdict size_of

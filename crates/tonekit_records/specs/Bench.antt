@@ -2,12 +2,13 @@
 use Rattle.std.specs.Prelude.{ℕ, ◌≡◌, refl, List, [], ◌∷◌, ◌++◌, replicate, Result, Ok, Err}
 use Rattle.std.proofs.Common.{arith}
 use Rattle.std.specs.Float.Ieee.{lt, le, of_bits}
-use Rattle.tonekit_core.specs.Loop.{range, turns, loop_to, loop_on}
-use Rattle.tonekit_core.specs.declared.Refusal.TheVariants.{Misplaced, Crowded, OffScale, Doubled, Loose}
+use Rattle.tonekit_core.specs.Loop.{range, turns, range_to, turns_to, loop_to, loop_on}
+use Rattle.tonekit_core.specs.declared.Refusal.TheVariants.{Misplaced, Crowded, OffScale, Doubled, Loose, Endless}
 use Rattle.tonekit_core.specs.declared.Refusal.{Refusal}
 use Rattle.spec_pack.specs.Ranges.{above_zero, probability_fine, knot_fine, weight_fine, slot_fine, knots_fine, region_fine, tolerances_fine}
-use Rattle.spec_arithmetic.specs.Files.{loaded}
-use Rattle.spec_pack.specs.Pack.{PackRead, due_after, size_of, holds, zero_or_held, settings_verdict, tone_verdict, accent_verdict, rule_verdict, part_verdict, body_verdict, record_verdict, added, read_pack, pack_reader}
+use Rattle.spec_arithmetic.specs.Files.{loaded, refused}
+use Rattle.spec_arithmetic.specs.Places.{index_of}
+use Rattle.spec_pack.specs.Pack.{PackRead, due_after, size_of, holds, zero_or_held, settings_verdict, tone_verdict, accent_verdict, rule_verdict, part_verdict, body_verdict, record_verdict, added, parents_held, chain_ends, chains_end, end_verdict, read_pack, pack_reader}
 use Rattle.tonekit_records.specs.Records.{Tally, no_tally, among, zero_or_among, body_verdict_of, record_verdict_of, tallied, ReadsOn, none, more, records_bytes, added_all}
 
 -- ---- the records of a small pack
@@ -102,8 +103,14 @@ unfolding added_all added
 offsets = refl
 
 pack : read_pack (records_bytes records ++ (6 ∷ [])) ≡ loaded kept 184
-unfolding records_bytes read_pack record_verdict due_after size_of body_verdict settings_verdict tone_verdict accent_verdict rule_verdict part_verdict holds zero_or_held added above_zero probability_fine knot_fine weight_fine slot_fine knots_fine region_fine tolerances_fine range turns loop_to loop_on lt le of_bits
+unfolding records_bytes read_pack record_verdict due_after size_of body_verdict settings_verdict tone_verdict accent_verdict rule_verdict part_verdict holds zero_or_held added parents_held chain_ends chains_end end_verdict index_of range_to turns_to above_zero probability_fine knot_fine weight_fine slot_fine knots_fine region_fine tolerances_fine range turns loop_to loop_on lt le of_bits
 pack = refl
+
+-- with another parent its records read as well, but the tests at End do not pass
+ending : (read_pack (records_bytes (settings ∷ tone ∷ accent 7 9 ∷ rule ∷ part ∷ second_part ∷ []) ++ (6 ∷ [])) ≡ refused Loose 183)
+    × (read_pack (records_bytes (settings ∷ tone ∷ accent 7 7 ∷ rule ∷ part ∷ second_part ∷ []) ++ (6 ∷ [])) ≡ refused Endless 183)
+unfolding records_bytes read_pack record_verdict due_after size_of body_verdict settings_verdict tone_verdict accent_verdict rule_verdict part_verdict holds zero_or_held added parents_held chain_ends chains_end end_verdict index_of range_to turns_to above_zero probability_fine knot_fine weight_fine slot_fine knots_fine region_fine tolerances_fine range turns loop_to loop_on lt le of_bits
+ending = (refl, refl)
 
 -- ---- verdicts that turn on the tally
 -- what a record is after a tally; opened, it computes
@@ -121,9 +128,14 @@ child : after whole (accent 8 7) ≡ Ok tt
 unfolding after
 child = refl
 
-no_parent : after whole (accent 8 9) ≡ Err Loose
+later_parent : after whole (accent 8 9) ≡ Ok tt
 unfolding after
-no_parent = refl
+later_parent = refl
+
+-- a rule for a tone that does not stand before it
+no_tone : after with_accent (4 ∷ 1 ∷ 2 ∷ 9 ∷ 0 ∷ 2 ∷ 3 ∷ []) ≡ Err Loose
+unfolding after
+no_tone = refl
 
 -- an accent's number again
 again : after whole (accent 7 0) ≡ Err Doubled

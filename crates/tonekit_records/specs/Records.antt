@@ -1,7 +1,7 @@
 -- A pack as a list of records, each by its own bytes. The verdict on a record turns on those bytes and on a tally of the records before it, not on where
 -- it stands.
 use Rattle.std.specs.Prelude.{ℕ, ◌+◌, ◌≡◌, Bool, true, false, cond, not, ◌&&◌, ◌||◌, List, [], ◌∷◌, ◌++◌, eqb, leb, ltb, length, Result, Ok, Err}
-use Rattle.tonekit_core.specs.declared.layout.TheConstants.{SETTINGS_KIND, TONE_KIND, TONE_KNOT_COUNT, ACCENT_KIND, ACCENT_PARENT}
+use Rattle.tonekit_core.specs.declared.layout.TheConstants.{SETTINGS_KIND, TONE_KIND, TONE_KNOT_COUNT, ACCENT_KIND, ACCENT_CONTOUR}
 use Rattle.tonekit_core.specs.declared.layout.TheConstants.{RULE_KIND, RULE_TONE, RULE_PREV, RULE_FORM, PART_KIND, PART_KNOT_COUNT, END_KIND}
 use Rattle.tonekit_core.specs.declared.Refusal.TheVariants.{Misplaced}
 use Rattle.tonekit_core.specs.declared.Refusal.{Refusal}
@@ -40,8 +40,9 @@ kind r = byte_at r 0
 abbrev pub tone_verdict_of : List ℕ → Tally → Result Unit Refusal
 tone_verdict_of r t = in_turn (leb 8 (length t.tones) || ltb 10 (byte_at r TONE_KNOT_COUNT)) (tone_fine r 0) (not (among t.tones (number_at r 0))) true
 
+-- its parent is no matter here, but at End
 abbrev pub accent_verdict_of : List ℕ → Tally → Result Unit Refusal
-accent_verdict_of r t = in_turn (leb 8 (length t.accents)) (accent_fine 3 r 0) (not (among t.accents (number_at r 0))) (zero_or_among t.accents (byte_at r ACCENT_PARENT))
+accent_verdict_of r t = in_turn (leb 8 (length t.accents)) (accent_fine ACCENT_CONTOUR r 0) (not (among t.accents (number_at r 0))) true
 
 abbrev pub rule_verdict_of : List ℕ → Tally → Result Unit Refusal
 rule_verdict_of r t = in_turn (leb 64 t.rules) (rule_fine r 0) true (zero_or_among t.tones (byte_at r RULE_TONE) && zero_or_among t.tones (byte_at r RULE_PREV))
