@@ -1,12 +1,11 @@
 -- What is said at a pack's End is said of the accents of its book (`ending_same`), and so, where its records read, of theirs (`records_ending`). Assumes nothing.
-use Rattle.std.proofs.Common.{ℕ, zero, suc, ◌+◌, ◌≡◌, refl, sym, ◌∙◌, ap, ap₂, Bool, true, not, cond, ◌&&◌, List, [], ◌∷◌, ◌++◌, map, length, get_or}
-use mathlib.Core.Option.{Option}
+use Rattle.std.proofs.Common.{ℕ, zero, suc, ◌+◌, ◌≡◌, refl, sym, ◌∙◌, ap, ap₂, true, not, cond, ◌&&◌, List, [], ◌∷◌, ◌++◌, map, length}
 use Rattle.std.specs.Prelude.{Option as Found, Some, None, Ok, Err}
 use Rattle.tonekit_core.specs.declared.Refusal.TheVariants.{Loose, Endless}
 use Rattle.spec_arithmetic.specs.Fields.{byte_at}
 use Rattle.spec_arithmetic.specs.Places.{number_at}
 use Rattle.spec_pack.specs.Pack.{PackRead, due_after, parents_held, parent_of, or_ends, chain_ends, chains_end, end_verdict, pack_reader}
-use Rattle.tonekit_records.specs.Records.{Tally, no_tally, zero_or_among, ReadsOn, records_bytes, added_all}
+use Rattle.tonekit_records.specs.Records.{Tally, no_tally, ReadsOn, records_bytes, added_all}
 use Rattle.tonekit_records.proofs.Tallies.{zero_same}
 use Rattle.tonekit_book.specs.Book.{BookAccent, book_accent_in, accent_numbers, accent_parents, parents_among, or_reaches, reaches_end, all_reach_end, ending_of, tabulate, pack_accent, book_of}
 use Rattle.tonekit_book.specs.Groups.{book_of_records}

@@ -7,7 +7,7 @@ use Rattle.tonekit_core.specs.Loop.{Turn, next, stop, fold, turns, range, turns_
 use Rattle.spec_arithmetic.specs.Fields.{byte_at}
 use Rattle.spec_arithmetic.specs.Places.{index_of, number_at}
 use Rattle.tonekit_bytes.specs.Places.{index_turn}
-use Rattle.spec_pack.specs.Pack.{PackRead, parts_from}
+use Rattle.spec_pack.specs.Pack.{PackRead, parent_of, parts_from}
 use Rattle.tonekit_core.proofs.Split.{split}
 use Rattle.spec_lookup.specs.declared.Context.{Context}
 use Rattle.std.specs.Prelude.{Some, None}
@@ -76,10 +76,6 @@ stops f d (suc n) r = refl
 module _ (s : List ℕ) (st : PackRead) (c : Context) where
   abbrev accents : List BookAccent
   accents = tabulate (pack_accent s st) (length st.accents) 0
-
-  -- the place of accent i's parent
-  abbrev parent_of : List ℕ → PackRead → ℕ → Found ℕ
-  parent_of s st i = index_of s st.accents (byte_at s (get_or st.accents i 0 + 2))
 
   -- the components of the rule that the walk ends with
   abbrev its_list : Found Winner → Option (List Carried)

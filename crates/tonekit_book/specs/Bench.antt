@@ -1,21 +1,23 @@
 -- Worked examples, computed: the book of a small pack, by its bytes and by its records, and lookups in it.
-use Rattle.std.specs.Prelude.{ℕ, ◌≡◌, refl, List, [], ◌∷◌, ◌++◌, replicate, Bool, true, false}
+use Rattle.std.specs.Prelude.{ℕ, ◌≡◌, refl, List, [], ◌∷◌, ◌++◌, replicate, Bool, true, false, Ok, Err}
 use Rattle.std.proofs.Math.Option.{none, some}
 use Rattle.std.specs.Float.Ieee.{lt, le, to_bits, of_bits, of_int, add, sub, mul, div}
-use Rattle.tonekit_core.specs.Loop.{fold, range, turns, loop_to, loop_on}
+use Rattle.tonekit_core.specs.declared.Refusal.TheVariants.{Loose, Endless}
+use Rattle.tonekit_core.specs.Loop.{fold, range, turns, range_to, turns_to, loop_to, loop_on}
 use Rattle.spec_arithmetic.specs.Whole.{whole_part}
 use Rattle.spec_arithmetic.specs.Narrow.{narrowed}
 use Rattle.spec_arithmetic.specs.Position.{position}
 use Rattle.spec_pack.specs.Ranges.{above_zero, probability_fine, knot_fine, weight_fine, slot_fine, knots_fine, region_fine, tolerances_fine}
 use Rattle.spec_arithmetic.specs.Files.{loaded}
-use Rattle.spec_pack.specs.Pack.{PackRead, due_after, size_of, holds, zero_or_held, settings_verdict, tone_verdict, accent_verdict, rule_verdict, part_verdict, body_verdict, record_verdict, added, parts_from, read_pack}
+use Rattle.spec_arithmetic.specs.Places.{index_of}
+use Rattle.spec_pack.specs.Pack.{PackRead, due_after, size_of, holds, zero_or_held, settings_verdict, tone_verdict, accent_verdict, rule_verdict, part_verdict, body_verdict, record_verdict, added, parents_held, chain_ends, chains_end, end_verdict, parts_from, read_pack}
 use Rattle.spec_lookup.specs.declared.Context.{Context}
 use Rattle.spec_lookup.specs.Knots.{segment, past_knot, on_line, point_at, first_points, knots_at}
 use Rattle.spec_lookup.specs.Lookup.{meets, component_of}
 use Rattle.spec_lookup.specs.Source.{Accent, Carried, carried, components}
-use Rattle.tonekit_records.specs.Records.{records_bytes}
+use Rattle.tonekit_records.specs.Records.{among, zero_or_among, records_bytes}
 use Rattle.tonekit_records.specs.Bench.{settings, tone, accent, rule, part, second_part}
-use Rattle.tonekit_book.specs.Book.{Rule, Book, first_with, rule_matches, conditions, better_rule, best_of, climb, look_in, tabulate, book_of}
+use Rattle.tonekit_book.specs.Book.{Rule, BookAccent, Book, first_with, rule_matches, conditions, better_rule, best_of, climb, look_in, parents_among, reaches_end, all_reach_end, ending_of, tabulate, book_of}
 use Rattle.tonekit_book.specs.Groups.{grouped, tone_records, book_of_records}
 
 -- ---- a pack of one tone and two accents: the records of tonekit_records/specs/Bench, a second rule of accent 7, and accent 8, its child, with a rule
@@ -38,7 +40,7 @@ abbrev kept : PackRead
 kept = record { last = 5; tones = 9 ∷ []; accents = 65 ∷ 236 ∷ []; firsts = 0 ∷ 2 ∷ []; rules = 84 ∷ 183 ∷ 255 ∷ []; parts = 1; total = 4 }
 
 reads : read_pack pack ≡ loaded kept 309
-unfolding records_bytes read_pack record_verdict due_after size_of body_verdict settings_verdict tone_verdict accent_verdict rule_verdict part_verdict holds zero_or_held added above_zero probability_fine knot_fine weight_fine slot_fine knots_fine region_fine tolerances_fine range turns loop_to loop_on lt le of_bits
+unfolding records_bytes read_pack record_verdict due_after size_of body_verdict settings_verdict tone_verdict accent_verdict rule_verdict part_verdict holds zero_or_held added parents_held chain_ends chains_end end_verdict index_of range_to turns_to above_zero probability_fine knot_fine weight_fine slot_fine knots_fine region_fine tolerances_fine range turns loop_to loop_on lt le of_bits
 reads = refl
 
 -- ---- its book
@@ -134,3 +136,29 @@ no_tone = refl
 most_stated : best_of (context 7 4 4 true) (rule_for 0 0 [] ∷ rule_for 4 2 mixture ∷ rule_for 4 0 [] ∷ []) ≡ some (rule_for 4 2 mixture)
 unfolding context best_of better_rule rule_matches conditions meets fold
 most_stated = refl
+
+-- ---- the tests at End
+fine_at_end : ending_of book.accents ≡ Ok tt
+unfolding ending_of parents_among zero_or_among among all_reach_end reaches_end first_with
+fine_at_end = refl
+
+-- an accent that says no more than its parent's number
+abbrev child_of : ℕ → ℕ → BookAccent
+child_of parent number = record { accent = accent_numbered number; parent = parent; rules = [] }
+
+-- a chain of all accents, wherever each stands
+in_any_order : (ending_of (child_of 0 7 ∷ child_of 7 8 ∷ child_of 8 9 ∷ []) ≡ Ok tt) × (ending_of (child_of 8 9 ∷ child_of 0 7 ∷ child_of 7 8 ∷ []) ≡ Ok tt)
+unfolding ending_of parents_among zero_or_among among all_reach_end reaches_end first_with
+in_any_order = (refl, refl)
+
+-- a parent that is no accent, also behind a ring
+loose : (ending_of (child_of 9 7 ∷ []) ≡ Err Loose) × (ending_of (child_of 7 7 ∷ child_of 9 8 ∷ []) ≡ Err Loose)
+unfolding ending_of parents_among zero_or_among among all_reach_end reaches_end first_with
+loose = (refl, refl)
+
+-- its own parent; a ring of two, behind a chain that ends; a chain into a ring
+endless : (ending_of (child_of 7 7 ∷ []) ≡ Err Endless)
+    × (ending_of (child_of 0 7 ∷ child_of 9 8 ∷ child_of 8 9 ∷ []) ≡ Err Endless)
+    × (ending_of (child_of 8 7 ∷ child_of 9 8 ∷ child_of 9 9 ∷ []) ≡ Err Endless)
+unfolding ending_of parents_among zero_or_among among all_reach_end reaches_end first_with
+endless = (refl, refl, refl)

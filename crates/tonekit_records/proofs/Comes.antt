@@ -1,6 +1,6 @@
 -- Whole records with End behind them: they read and End is due, or one of them is turned back where it stands, or End is not due (`comes`). So a pack that is
 -- turned back at End, and not because End is not due, has records that read. Assumes nothing.
-use Rattle.std.proofs.Common.{ℕ, ◌+◌, ◌≤◌, ◌<◌, ◌≡◌, refl, sym, ◌∙◌, ap, ap₂, ◌⊎◌, inl, inr, ⊎_elim, true, false, List, [], ◌∷◌, ◌++◌, append_assoc, arith, length, drop, length-append}
+use Rattle.std.proofs.Common.{ℕ, ◌+◌, ◌-◌, ◌≤◌, ◌<◌, ◌≡◌, refl, sym, ◌∙◌, ap, ap₂, ◌⊎◌, inl, inr, ⊎_elim, true, false, List, [], ◌∷◌, ◌++◌, append_assoc, arith, length, drop, length-append}
 use Rattle.tonekit_core.specs.declared.Refusal.{Refusal}
 use Rattle.tonekit_core.specs.declared.Refusal.TheVariants.{Misplaced, CutShort}
 use Rattle.std.specs.Prelude.{Ok, Err}
@@ -64,7 +64,7 @@ module _ (s : List ℕ) (d : Out PackRead) (tail : List ℕ) where
 pub comes : (rs : List (List ℕ)) (tail : List ℕ) → WholeRecords rs → Comes no_tally rs 0 (read_pack (records_bytes rs ++ (6 ∷ tail)))
 comes rs tail w =
     let s = records_bytes rs ++ (6 ∷ tail) in
-    let d = refused CutShort 0 in
+    let d : Out PackRead = refused CutShort 0 in
     let n = length s + length rs + 1 in
     as_read (sym (limit_idle s d n (omega arith))) (run_comes s d tail rs w n 0 pack_reader.start.st no_tally (tally_start s) refl (omega arith) (omega arith))
   where

@@ -73,7 +73,7 @@ module _ {u : Tally} {rs : List (List ℕ)} (tail : List ℕ) (x : ReadsOn no_ta
 
   pub reads_end : read_pack whole ≡ ended (length (records_bytes rs)) all (end_verdict whole all)
   reads_end =
-      let d = refused CutShort 0 in
+      let d : Out PackRead = refused CutShort 0 in
       let n = length whole + length rs + 1 in
       let z : 0 + length (records_bytes rs) ≡ length (records_bytes rs) = omega arith in
       sym (limit_idle whole d n (omega arith)) ∙ run_reads whole d tail x n 0 pack_reader.start.st (tally_start whole) refl (omega arith) (omega arith) due
