@@ -1,0 +1,77 @@
+-- Records of a pack whose blocks stand in another order: they read if those of the one do (`reads_alike`), and End stands at the same offset (`end_alike`). Assumes
+-- nothing.
+use Rattle.std.proofs.Common.{ℕ, ◌+◌, ◌≤◌, ◌<◌, ◌≡◌, refl, sym, ◌∙◌, ap, subst, inl, inr, ⊎_elim, true, List, [], ◌∷◌, ◌++◌, arith, length, length-append}
+use Rattle.std.specs.Prelude.{All, IsPermutation, sum_by}
+use Rattle.std.proofs.lemmas.List.Elements.{All-head, All-tail}
+use Rattle.std.proofs.lemmas.List.Sums.{sum_by-cons}
+use Rattle.std.proofs.lemmas.List.Sorted.{All-permutation, sum_by-IsPermutation, length_permutation}
+use Rattle.spec_arithmetic.specs.Places.{number_at}
+use Rattle.spec_pack.specs.Pack.{due_after}
+use Rattle.tonekit_records.specs.Records.{Tally, no_tally, kind, tallied, ReadsOn, none, more, records_bytes}
+use Rattle.tonekit_any_order.specs.Layout.{Block, Layout, blocks_records, layout_records, end_offset, IsOfKind, IsBlock, IsLayout}
+use Rattle.tonekit_any_order.proofs.Blocks.{Step, step, parted, joined, first_due, FineBlocks, blocks_fine, BlocksRead, blocks_read, fine_in_order}
+
+-- ---- settings and tones count no accent, rule or part
+record CountsAs (t v : Tally) : Type 0 where
+  accents : v.accents ≡ t.accents
+  rules : v.rules ≡ t.rules
+  total : v.total ≡ t.total
+
+settings_count : (r : List ℕ) (t : Tally) → kind r ≡ 1 → CountsAs t (tallied r t)
+unfolding tallied
+settings_count r t k = rw k (record { accents = refl; rules = refl; total = refl })
+
+tone_counts : (r : List ℕ) (t : Tally) → kind r ≡ 2 → CountsAs t (tallied r t)
+unfolding tallied
+tone_counts r t k = rw k (record { accents = refl; rules = refl; total = refl })
+
+counts_then : {t u v : Tally} → CountsAs t u → CountsAs u v → CountsAs t v
+counts_then a b = record { accents = b.accents ∙ a.accents; rules = b.rules ∙ a.rules; total = b.total ∙ a.total }
+
+tones_count : (rs : List (List ℕ)) → All (IsOfKind 2) rs → {t v : Tally} → ReadsOn t rs v → CountsAs t v
+tones_count [] w none = record { accents = refl; rules = refl; total = refl }
+tones_count (r ∷ rs) w {t} (more n m fine x) = counts_then (tone_counts r t (All-head (IsOfKind 2) r rs w).begins) (tones_count rs (All-tail (IsOfKind 2) r rs w) x)
+
+-- ---- records that read, with End due behind them
+pub record Reads (rs : List (List ℕ)) : Type 0 where
+  pub tally : Tally
+  pub reads : ReadsOn no_tally rs tally
+  pub due : due_after tally.last 6 ≡ true
+
+-- ---- bytes
+append_size : (xs ys : List (List ℕ)) → length (records_bytes (xs ++ ys)) ≡ length (records_bytes xs) + length (records_bytes ys)
+unfolding records_bytes
+append_size [] ys = omega arith
+append_size (x ∷ xs) ys = omega (arith, length-append x (records_bytes (xs ++ ys)), length-append x (records_bytes xs), append_size xs ys)
+
+abbrev block_size : Block → ℕ
+block_size b = length b.accent + length (records_bytes b.rules)
+
+blocks_size : (bs : List Block) → length (records_bytes (blocks_records bs)) ≡ sum_by block_size bs
+unfolding records_bytes blocks_records
+blocks_size [] = refl
+blocks_size (b ∷ bs) = omega (arith, length-append b.accent (records_bytes (b.rules ++ blocks_records bs)), append_size b.rules (blocks_records bs), blocks_size bs, sum_by-cons block_size b bs)
+
+module _ (p : Layout) (other : List Block) (is : IsLayout p) (order : IsPermutation p.blocks other) where
+  abbrev pub turned : Layout
+  turned = record p { blocks = other }
+
+  pub turned_is : IsLayout turned
+  turned_is = record { settings = is.settings; tones = is.tones; blocks = All-permutation IsBlock p.blocks other order is.blocks }
+
+  pub reads_alike : Reads (layout_records p) → Reads (layout_records turned)
+  reads_alike x =
+      let s = step x.reads in
+      let y = parted p.tones (blocks_records p.blocks) s.rest in
+      let t = y.between in
+      let c = counts_then (settings_count p.settings no_tally is.settings.begins) (tones_count p.tones is.tones y.front) in
+      let f = blocks_fine p.blocks is.blocks y.back (omega (arith, c.rules)) (omega (arith, c.total)) (omega (arith, ap length c.accents)) x.due in
+      let d = first_due p.blocks is.blocks y.back x.due in
+      let z = blocks_read other turned_is.blocks t d.accent (⊎_elim inl (λ l. inr (omega (arith, length_permutation p.blocks other order))) d.end) (fine_in_order t p.blocks other order f) in
+      record { tally = z.tally; reads = more s.whole s.not_end s.fine (joined y.front z.reads); due = z.due }
+
+  pub end_alike : end_offset p ≡ end_offset turned
+  unfolding records_bytes
+  end_alike =
+      let same = sum_by-IsPermutation block_size p.blocks other order in
+      omega (arith, length-append p.settings (records_bytes (p.tones ++ blocks_records p.blocks)), length-append p.settings (records_bytes (p.tones ++ blocks_records other)), append_size p.tones (blocks_records p.blocks), append_size p.tones (blocks_records other), blocks_size p.blocks, blocks_size other, same)

@@ -1,0 +1,5 @@
+pub mod Differ
+pub mod Moved
+pub mod Blocks
+pub mod Alike
+pub mod BookOrder
