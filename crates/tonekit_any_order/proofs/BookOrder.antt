@@ -164,11 +164,11 @@ module _ (l m : List BookAccent) (order : IsPermutation l m) (differ : AllPairs 
   with_same c (some a) (some t) = ap (or_citation c.accent t) (climb_same c (length l) a ∙ ap (λ n. climb m c n a) many)
 
 -- the accent itself, without parent and rules
-accent_part : Option BookAccent → Option Accent
+pub accent_part : Option BookAccent → Option Accent
 accent_part none = none
 accent_part (some a) = some a.accent
 
-accent_of : (l : List BookAccent) (n : ℕ) → accent_in (map (λ (a : BookAccent). a.accent) l) n ≡ accent_part (book_accent_in l n)
+pub accent_of : (l : List BookAccent) (n : ℕ) → accent_in (map (λ (a : BookAccent). a.accent) l) n ≡ accent_part (book_accent_in l n)
 unfolding accent_in first_with accent_part
 accent_of [] n = refl
 accent_of (a ∷ l) n = split (eqb (number a) n) (λ t. rw t) (λ t. rw t (accent_of l n))

@@ -3,3 +3,4 @@ pub mod Moved
 pub mod Blocks
 pub mod Alike
 pub mod BookOrder
+pub mod Books
