@@ -1,7 +1,7 @@
--- Records of a pack whose blocks stand in another order: they read if those of the one do (`reads_alike`), and End stands at the same offset (`end_alike`). Assumes
--- nothing.
+-- The records of a pack whose blocks stand in another order: they read if those of the one do (`reads_alike`), no two accents have one number (`blocks_differ`), and
+-- End stands at the same offset (`end_alike`). Assumes nothing.
 use Rattle.std.proofs.Common.{ℕ, ◌+◌, ◌≤◌, ◌<◌, ◌≡◌, refl, sym, ◌∙◌, ap, subst, inl, inr, ⊎_elim, true, List, [], ◌∷◌, ◌++◌, arith, length, length-append}
-use Rattle.std.specs.Prelude.{All, IsPermutation, sum_by}
+use Rattle.std.specs.Prelude.{All, AllPairs, IsPermutation, sum_by}
 use Rattle.std.proofs.lemmas.List.Elements.{All-head, All-tail}
 use Rattle.std.proofs.lemmas.List.Sums.{sum_by-cons}
 use Rattle.std.proofs.lemmas.List.Sorted.{All-permutation, sum_by-IsPermutation, length_permutation}
@@ -9,7 +9,8 @@ use Rattle.spec_arithmetic.specs.Places.{number_at}
 use Rattle.spec_pack.specs.Pack.{due_after}
 use Rattle.tonekit_records.specs.Records.{Tally, no_tally, kind, tallied, ReadsOn, none, more, records_bytes}
 use Rattle.tonekit_any_order.specs.Layout.{Block, Layout, blocks_records, layout_records, end_offset, IsOfKind, IsBlock, IsLayout}
-use Rattle.tonekit_any_order.proofs.Blocks.{Step, step, parted, joined, first_due, FineBlocks, blocks_fine, BlocksRead, blocks_read, fine_in_order}
+use Rattle.tonekit_any_order.proofs.Differ.{Differ}
+use Rattle.tonekit_any_order.proofs.Blocks.{number_of, Step, step, parted, joined, first_due, FineBlocks, blocks_fine, BlocksRead, blocks_read, fine_in_order}
 
 -- ---- settings and tones count no accent, rule or part
 record CountsAs (t v : Tally) : Type 0 where
@@ -52,6 +53,20 @@ unfolding records_bytes blocks_records
 blocks_size [] = refl
 blocks_size (b ∷ bs) = omega (arith, length-append b.accent (records_bytes (b.rules ++ blocks_records bs)), append_size b.rules (blocks_records bs), blocks_size bs, sum_by-cons block_size b bs)
 
+-- ---- the blocks behind settings and tones
+module _ (p : Layout) (is : IsLayout p) (x : Reads (layout_records p)) where
+  abbrev tally_before : Tally
+  tally_before = (parted p.tones (blocks_records p.blocks) (step x.reads).rest).between
+
+  fine_here : FineBlocks tally_before p.blocks
+  fine_here =
+      let y = parted p.tones (blocks_records p.blocks) (step x.reads).rest in
+      let c = counts_then (settings_count p.settings no_tally is.settings.begins) (tones_count p.tones is.tones y.front) in
+      blocks_fine p.blocks is.blocks y.back (omega (arith, c.rules)) (omega (arith, c.total)) (omega (arith, ap length c.accents)) x.due
+
+  pub blocks_differ : AllPairs (Differ number_of) p.blocks
+  blocks_differ = fine_here.differ
+
 module _ (p : Layout) (other : List Block) (is : IsLayout p) (order : IsPermutation p.blocks other) where
   abbrev pub turned : Layout
   turned = record p { blocks = other }
@@ -64,10 +79,9 @@ module _ (p : Layout) (other : List Block) (is : IsLayout p) (order : IsPermutat
       let s = step x.reads in
       let y = parted p.tones (blocks_records p.blocks) s.rest in
       let t = y.between in
-      let c = counts_then (settings_count p.settings no_tally is.settings.begins) (tones_count p.tones is.tones y.front) in
-      let f = blocks_fine p.blocks is.blocks y.back (omega (arith, c.rules)) (omega (arith, c.total)) (omega (arith, ap length c.accents)) x.due in
       let d = first_due p.blocks is.blocks y.back x.due in
-      let z = blocks_read other turned_is.blocks t d.accent (⊎_elim inl (λ l. inr (omega (arith, length_permutation p.blocks other order))) d.end) (fine_in_order t p.blocks other order f) in
+      let f = fine_in_order t p.blocks other order (fine_here p is x) in
+      let z = blocks_read other turned_is.blocks t d.accent (⊎_elim inl (λ l. inr (omega (arith, length_permutation p.blocks other order))) d.end) f in
       record { tally = z.tally; reads = more s.whole s.not_end s.fine (joined y.front z.reads); due = z.due }
 
   pub end_alike : end_offset p ≡ end_offset turned

@@ -4,3 +4,5 @@ pub mod Blocks
 pub mod Alike
 pub mod BookOrder
 pub mod Books
+pub mod OneSheet
+pub mod AnyOrder
