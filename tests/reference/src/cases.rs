@@ -246,6 +246,39 @@ pub struct SomePack {
     pub accents: Vec<u8>,
 }
 
+/// Parents for accents so that every chain ends, wherever they stand; at times one chain of all.
+fn some_parents(r: &mut Rng, accents: &[u8]) -> Vec<u8> {
+    let mut order: Vec<usize> = (0..accents.len()).collect();
+    if !r.one_in(4) {
+        for i in (1..order.len()).rev() {
+            order.swap(i, r.below(i + 1));
+        }
+    }
+    let one = r.one_in(4);
+    let mut parents = vec![0; accents.len()];
+    for (i, &at) in order.iter().enumerate().skip(1) {
+        if one || !r.one_in(3) {
+            parents[at] = accents[order[if one { i - 1 } else { r.below(i) }]];
+        }
+    }
+    parents
+}
+
+/// A pack of one tone and of accents numbered from 1 with these parents; a rule of the last one
+/// that has no parent.
+pub fn of_parents(parents: &[u8]) -> Vec<u8> {
+    let mut out = [settings(1, 1.0, 0.25), tone(1, 1.0, &[3.0], None)].concat();
+    let root = parents.iter().rposition(|&p| p == 0);
+    for (i, &parent) in parents.iter().enumerate() {
+        out.extend(accent(i as u8 + 1, parent, [1.0; 4]));
+        if Some(i) == root {
+            out.extend([rule(9, 0, 0, 0, 2), part(1.0, &[2.0])].concat());
+        }
+    }
+    out.push(6);
+    out
+}
+
 /// A pack that loads.
 pub fn some_pack(r: &mut Rng) -> SomePack {
     let sizes = [1, 1, 2, 2, 3, 4, 8];
@@ -281,8 +314,8 @@ pub fn some_pack(r: &mut Rng) -> SomePack {
     }
     let (mut rules, mut parts) = (0, 0);
     let many_rules = r.one_in(2);
-    for (i, &a) in accents.iter().enumerate() {
-        let parent = if i > 0 && !r.one_in(3) { accents[r.below(i)] } else { 0 };
+    let parents = some_parents(r, &accents);
+    for (&a, &parent) in accents.iter().zip(&parents) {
         let tolerances = [scale(r), scale(r), scale(r), scale(r)];
         bytes.extend(accent(a, parent, tolerances));
         let own = r.below(if many_rules { 8 } else { 3 });

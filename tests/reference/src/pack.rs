@@ -1,4 +1,4 @@
-//! Document 01, "Pack" and "Lookup".
+//! Document 01, "Pack" and "Lookup", with change request 7 of document 02.
 
 use crate::bytes::*;
 use crate::list::{List, Tone};
@@ -22,7 +22,11 @@ impl Knots {
 pub struct Accent {
     pub number: u8,
     pub tolerances: [f32; 4],
-    /// Place of the parent among the accents.
+    /// Offset of the record.
+    at: usize,
+    /// The parent's number, 0 for none.
+    named: u8,
+    /// Place of the parent among the accents, known when all of them are.
     parent: Option<usize>,
     rules: Range<usize>,
 }
@@ -49,6 +53,8 @@ pub struct Pack {
     pub accents: Vec<Accent>,
     rules: Vec<Rule>,
     parts: Vec<Part>,
+    /// Whether some rule names a tone that is not held; a planted mistake keeps it for End.
+    rule_loose: bool,
 }
 
 /// Where a lookup's components come from.
@@ -99,9 +105,13 @@ impl Pack {
             accents: Vec::with_capacity(8),
             rules: Vec::new(),
             parts: Vec::new(),
+            rule_loose: false,
         };
         let mut last = 0;
         loop {
+            if pack.ends_early(&walk, last) {
+                pack.read_end(&walk)?;
+            }
             let kind = walk.kind(|kind| pack.due(last, kind))?;
             walk.room(kind, pack.crowded(kind))?;
             match kind {
@@ -110,7 +120,7 @@ impl Pack {
                 3 => pack.read_accent(&walk)?,
                 4 => pack.read_rule(&walk)?,
                 5 => pack.read_part(&walk)?,
-                _ => {}
+                _ => pack.read_end(&walk)?,
             }
             walk.step(kind);
             last = kind;
@@ -234,22 +244,140 @@ impl Pack {
         let number = bytes[at + 1];
         let tolerances: [f32; 4] = f32s_at(bytes, at + 3);
         walk.check(5, number != 0 && tolerances.iter().all(|&t| finite_above_zero(t)))?;
-        // "A parent stands earlier in the file."; zero means no parent.
-        let named = bytes[at + 2];
-        let parent = self.accents.iter().position(|a| a.number == named);
-        let earlier = named == 0
-            || parent.is_some()
-            || planted(PARENT_ITSELF) && named == number
-            || planted(PARENT_LOOSE);
         let new = self.accents.iter().all(|a| a.number != number) || planted(ACCENT_TWICE);
-        if planted(LOOSE_BEFORE_DOUBLED) {
-            walk.check(7, earlier)?;
-        }
         walk.check(6, new)?;
-        walk.check(7, earlier)?;
-        let rules = self.rules.len()..self.rules.len();
-        self.accents.push(Accent { number, tolerances, parent, rules });
+        if planted(NAMED_DOUBLED) {
+            walk.check(6, self.accents.iter().all(|a| a.named != number))?;
+        }
+        let (named, rules) = (bytes[at + 2], self.rules.len()..self.rules.len());
+        if planted(PARENT_ON_SIGHT) {
+            walk.check(7, named == 0 || self.accents.iter().any(|a| a.number == named))?;
+        }
+        self.accents.push(Accent { number, tolerances, at, named, parent: None, rules });
+        if planted(ENDLESS_ON_SIGHT) {
+            self.find_parents();
+            walk.check(20, self.endless().is_none())?;
+        }
         Ok(())
+    }
+
+    /// "A parent may now be any accent of the file." Zero means no parent.
+    fn find_parents(&mut self) {
+        for i in 0..self.accents.len() {
+            let named = self.accents[i].named;
+            self.accents[i].parent = self.accents.iter().position(|a| a.number == named);
+        }
+    }
+
+    /// The first accent with a parent that no accent is.
+    fn loose(&self) -> Option<usize> {
+        let held = |i: usize| {
+            let accent = &self.accents[i];
+            match accent.parent {
+                None => accent.named == 0 || planted(PARENT_LOOSE),
+                Some(parent) if planted(PARENT_EARLIER) => parent < i,
+                Some(parent) => parent != i || !planted(ITSELF_LOOSE),
+            }
+        };
+        let last = self.accents.len().saturating_sub(1);
+        (0..self.accents.len())
+            .filter(|&i| !(planted(FIRST_PARENT_SKIPPED) && i == 0))
+            .filter(|&i| !(planted(LAST_PARENT_SKIPPED) && i == last))
+            .find(|&i| !held(i))
+    }
+
+    /// The accents from one on up its parents, each once, and the one to which its chain comes
+    /// back if it never ends.
+    fn chain(&self, accent: usize) -> (Vec<usize>, Option<usize>) {
+        let mut chain = Vec::with_capacity(8);
+        let mut next = Some(accent);
+        while let Some(at) = next.filter(|at| !chain.contains(at)) {
+            chain.push(at);
+            next = self.accents[at].parent;
+        }
+        (chain, next)
+    }
+
+    /// The first accent whose chain never ends. "Every chain must reach an accent with no parent."
+    fn endless(&self) -> Option<usize> {
+        let count = self.accents.len();
+        let mut met: Vec<usize> = Vec::with_capacity(8);
+        let mut never = |start: usize| {
+            let (chain, back) = self.chain(start);
+            let again = chain.iter().any(|at| met.contains(at));
+            met.extend(&chain);
+            match back.and_then(|back| chain.iter().position(|&at| at == back)) {
+                None => {
+                    planted(CHAIN_OF_8) && chain.len() >= 8
+                        || planted(CHAIN_OF_ALL) && chain.len() == count && count > 1
+                        || planted(CHAIN_MARKS_KEPT) && again
+                }
+                Some(from) => match chain.len() - from {
+                    1 => !planted(PARENT_ITSELF),
+                    2 if planted(RING_OF_2) => false,
+                    8.. if planted(RING_OF_8) => false,
+                    _ => !planted(RING_LONG),
+                },
+            }
+        };
+        let starts = if planted(CHAIN_FIRST_ONLY) {
+            0..1
+        } else if planted(CHAIN_LAST_ONLY) {
+            count - 1..count
+        } else {
+            0..count
+        };
+        starts.into_iter().find(|&start| never(start))
+    }
+
+    /// "The parent part of 7 moves to End." "20 when some chain never ends, checked at End after 7,
+    /// both with End's offset as place."
+    fn read_end(&mut self, walk: &Walk) -> Result<(), Refusal> {
+        self.find_parents();
+        walk.check(7, !self.rule_loose)?;
+        let (mut loose, endless) = (self.loose(), self.endless());
+        if planted(ENDLESS_BEFORE_LOOSE) && endless.is_some() {
+            loose = None;
+        }
+        let overrun = if loose.is_some() { OVERRUN_BEFORE_LOOSE } else { OVERRUN_BEFORE_ENDLESS };
+        if planted(overrun) && walk.bytes.len() > walk.at + 1 {
+            return refuse(3, walk.at + 1);
+        }
+        if let Some(accent) = loose {
+            let place = if planted(PARENT_PLACE_ACCENT) {
+                self.accents[accent].at
+            } else if planted(PARENT_PLACE_PAST) {
+                walk.at + 1
+            } else if planted(PARENT_PLACE_INPUT) {
+                walk.bytes.len()
+            } else {
+                walk.at
+            };
+            return refuse(7, place);
+        }
+        if let Some(accent) = endless {
+            let place = if planted(ENDLESS_PLACE_ACCENT) {
+                self.accents[accent].at
+            } else if planted(ENDLESS_PLACE_PAST) {
+                walk.at + 1
+            } else if planted(ENDLESS_PLACE_ZERO) {
+                0
+            } else {
+                walk.at
+            };
+            return refuse(if planted(ENDLESS_LOOSE) { 7 } else { 20 }, place);
+        }
+        Ok(())
+    }
+
+    /// Planted mistakes: whether parents are judged before the next kind is.
+    fn ends_early(&self, walk: &Walk, last: u8) -> bool {
+        let end_due = matches!(last, 3 | 5);
+        match walk.bytes.get(walk.at) {
+            None => planted(END_MISSING) && end_due,
+            Some(6) => planted(END_NOT_DUE) && !end_due,
+            Some(&kind) => planted(END_OTHER_KIND) && end_due && !self.due(last, kind),
+        }
     }
 
     fn read_rule(&mut self, walk: &Walk) -> Result<(), Refusal> {
@@ -268,6 +396,12 @@ impl Pack {
         if planted(LOOSE_BEFORE_RANGE) {
             walk.check(7, named)?;
         }
+        let named = if planted(RULE_LOOSE_AT_END) {
+            self.rule_loose |= !named;
+            true
+        } else {
+            named
+        };
         let last_final = if planted(FINAL_3) { 3 } else { 2 };
         let forms = if planted(FORM_1) { 1..=3 } else { 2..=3 };
         let label = !planted(LABEL_ZERO) || rule.label != 0;
@@ -309,8 +443,7 @@ impl Pack {
     /// most specific one (conditions stated), the first among equals"
     fn find_rule(&self, accent: usize, tone: u8, prev: u8, fin: bool) -> Option<Origin> {
         let mut best_of_chain: Option<(u8, Origin)> = None;
-        let mut current = Some(accent);
-        while let Some(owner) = current {
+        for owner in self.asked(accent) {
             let mut best: Option<(u8, Origin)> = None;
             for rule in self.accents[owner].rules.clone() {
                 let r = &self.rules[rule];
@@ -336,15 +469,35 @@ impl Pack {
             } else if best.is_some() {
                 return best.map(|(_, origin)| origin);
             }
-            if planted(NO_PARENTS) {
-                return None;
-            }
-            if planted(ONE_PARENT) && owner != accent {
-                return None;
-            }
-            current = self.accents[owner].parent;
         }
         best_of_chain.map(|(_, origin)| origin)
+    }
+
+    /// The accents that a lookup asks, in order. "The lookup is still nearest accent first."
+    fn asked(&self, accent: usize) -> Vec<usize> {
+        let mut chain = self.chain(accent).0;
+        let to_later = |from: &dyn Fn(usize) -> usize| {
+            (1..chain.len()).find(|&i| chain[i] > from(i)).unwrap_or(chain.len())
+        };
+        let most = if planted(NO_PARENTS) {
+            1
+        } else if planted(ONE_PARENT) {
+            2
+        } else if planted(LOOKUP_EARLIER) {
+            to_later(&|i| chain[i - 1])
+        } else if planted(LOOKUP_BEFORE_GRADED) {
+            to_later(&|_| accent)
+        } else {
+            chain.len()
+        };
+        chain.truncate(most);
+        if planted(LOOKUP_IN_FILE_ORDER) {
+            chain.sort_unstable();
+        }
+        if planted(LOOKUP_FROM_ROOT) {
+            chain.reverse();
+        }
+        chain
     }
 
     /// "If none matches on the chain, the tone's citation; if context only, nothing."

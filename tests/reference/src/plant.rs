@@ -105,7 +105,6 @@ mistakes! {
     81 PARENT_ITSELF "an accent may be its own parent";
     82 PARENT_LOOSE "a parent that is not there passes";
     83 ACCENT_TWICE "an accent number repeated passes";
-    84 LOOSE_BEFORE_DOUBLED "7 before 6";
     85 LOOSE_BEFORE_RANGE "7 before 5";
     86 RULE_TONE_LOOSE "a rule's tone that is not held passes";
     87 RULE_PREV_LOOSE "a rule's prev that is not held passes";
@@ -392,4 +391,38 @@ mistakes! {
     388 EXP_N_DIVIDED "exp: n by division by LN2 instead of times LOG2E";
     389 LOG2_WITH_LOW "log2: e·lo added to (2·s)·p too";
     390 NOTHING_SPLIT "ln and exp by LN2 in one product, as before the request";
+    // Parents named before they appear (change request 7)
+    401 PARENT_ON_SIGHT "7 at its accent for a parent that does not stand earlier, as before the request";
+    402 PARENT_EARLIER "7 at End for a parent that does not stand earlier";
+    403 PARENT_PLACE_ACCENT "7 for a parent at the accent that names it";
+    404 PARENT_PLACE_PAST "7 for a parent one past End's offset";
+    405 PARENT_PLACE_INPUT "7 for a parent at the input's end";
+    406 FIRST_PARENT_SKIPPED "the first accent's parent not looked for";
+    407 LAST_PARENT_SKIPPED "the last accent's parent not looked for";
+    408 ITSELF_LOOSE "an accent that is its own parent is 7";
+    409 RING_OF_2 "a ring of two accents passes";
+    410 RING_OF_8 "a ring of eight accents passes";
+    411 RING_LONG "no ring is 20 but an accent that is its own parent";
+    412 ENDLESS_LOOSE "a chain that never ends is 7";
+    413 CHAIN_OF_8 "a chain of eight accents that ends is 20";
+    414 CHAIN_OF_ALL "a chain of all accents, two or more, that ends is 20";
+    415 CHAIN_FIRST_ONLY "only the first accent's chain looked at";
+    416 CHAIN_LAST_ONLY "only the last accent's chain looked at";
+    417 CHAIN_MARKS_KEPT "an accent met on two chains counts as met twice on one";
+    418 ENDLESS_PLACE_ACCENT "20 at the first accent whose chain never ends";
+    419 ENDLESS_PLACE_PAST "20 one past End's offset";
+    420 ENDLESS_PLACE_ZERO "20 with place 0";
+    421 ENDLESS_ON_SIGHT "20 at the accent that closes a ring";
+    422 ENDLESS_BEFORE_LOOSE "20 before a parent's 7";
+    423 OVERRUN_BEFORE_LOOSE "3 before a parent's 7";
+    424 OVERRUN_BEFORE_ENDLESS "3 before 20";
+    425 END_NOT_DUE "a parent's 7, and 20, before 1 at an End that is not due";
+    426 END_OTHER_KIND "a parent's 7, and 20, before 1 where another kind stands in End's place";
+    427 END_MISSING "a parent's 7, and 20, before 2 where End is missing";
+    428 RULE_LOOSE_AT_END "a rule's 7 at End too";
+    429 NAMED_DOUBLED "an accent that an earlier one named as parent is 6";
+    430 LOOKUP_EARLIER "the lookup stops at a parent that stands later";
+    431 LOOKUP_BEFORE_GRADED "the lookup stops at an accent later than the graded one";
+    432 LOOKUP_IN_FILE_ORDER "the lookup asks a chain's accents in file order";
+    433 LOOKUP_FROM_ROOT "the lookup asks a chain from its root";
 }

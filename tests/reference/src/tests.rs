@@ -241,7 +241,7 @@ fn pack_refusals() {
     assert_eq!(with(&[rule(0, 0, 0, 3, 2)]), refused(5, 84));
     assert_eq!(with(&[rule(0, 2, 0, 0, 2)]), refused(7, 84));
     assert_eq!(with(&[accent(1, 9, TOL)]), refused(6, 84));
-    assert_eq!(with(&[accent(2, 2, TOL)]), refused(7, 84));
+    assert_eq!(with(&[accent(2, 2, TOL)]), refused(20, 103));
     assert_eq!(with(&[rule(0, 0, 0, 0, 2)]), refused(1, 91));
     assert_eq!(with(&[rule(0, 0, 0, 0, 2), part(0.5, &[1.0])]), refused(5, 91));
     assert_eq!(with(&[rule(0, 0, 0, 0, 2), part(1.0, &[1.0]), part(9.0, &[])]), refused(4, 137));
@@ -254,6 +254,76 @@ fn pack_refusals() {
     let mut many = part(0.0, &[1.0]);
     many[5] = 11;
     assert_eq!(with(&[rule(0, 0, 0, 0, 3), many]), refused(4, 91));
+}
+
+// "Parents named before they appear"
+
+#[test]
+fn parent_refusals() {
+    let check = |parents: &[u8]| check_pack(&of_parents(parents));
+    // Settings, a tone, accents of 19 bytes, a rule and its part if some accent has no parent.
+    let end = |parents: &[u8]| {
+        (65 + 19 * parents.len() + if parents.contains(&0) { 53 } else { 0 }) as u64
+    };
+    // Any accent of the file, in chains of up to eight.
+    for good in [&[0u8][..], &[2, 0], &[0, 1], &[3, 1, 0], &[2, 0, 2], &[2, 3, 4, 5, 6, 7, 8, 0]] {
+        assert_eq!(check(good), None, "{good:?}");
+    }
+    for endless in [
+        &[1u8][..],
+        &[2, 1],
+        &[2, 3, 1],
+        &[0, 2],
+        &[2, 2],
+        &[2, 3, 2, 0],
+        &[0, 3, 4, 2],
+        &[2, 3, 4, 5, 6, 7, 8, 1],
+        &[2, 3, 4, 5, 6, 7, 8, 8],
+    ] {
+        assert_eq!(check(endless), refused(20, end(endless)), "{endless:?}");
+    }
+    // A parent that no accent has comes before a chain that never ends.
+    for loose in [&[9u8][..], &[0, 9], &[9, 0], &[9, 2], &[2, 1, 9], &[3, 0, 9]] {
+        assert_eq!(check(loose), refused(7, end(loose)), "{loose:?}");
+    }
+    // At End once its kind is read: 1 and 2 come before, 3 after.
+    for (parents, number) in [([2, 1, 0], 20), ([0, 9, 1], 7)] {
+        let (pack, at) = (of_parents(&parents), end(&parents));
+        let open = &pack[..pack.len() - 1];
+        assert_eq!(check_pack(open), refused(2, at));
+        assert_eq!(check_pack(&[open, &[2]].concat()), refused(1, at));
+        assert_eq!(check_pack(&[open, &rule(1, 0, 0, 0, 2), &[6]].concat()), refused(1, at + 7));
+        assert_eq!(check_pack(&[&pack[..], &[6]].concat()), refused(number, at));
+        // What stands earlier: a rule's tone, an accent's tolerance, an accent a second time.
+        assert_eq!(check_pack(&[open, &rule(1, 7, 0, 0, 2), &[6]].concat()), refused(7, at));
+        assert_eq!(check_pack(&[open, &accent(4, 0, [0.0; 4]), &[6]].concat()), refused(5, at));
+        assert_eq!(check_pack(&[open, &accent(1, 9, TOL), &[6]].concat()), refused(6, at));
+    }
+}
+
+#[test]
+fn accents_in_any_order() {
+    // A child before, between and behind its parents: the nearest one's rule, wherever it stands.
+    let one = accent(1, 2, TOL);
+    let two = [accent(2, 3, TOL), rule(2, 0, 0, 1, 2), part(1.0, &[2.0])].concat();
+    let three = [accent(3, 0, TOL), rule(3, 1, 0, 0, 2), part(1.0, &[4.0])].concat();
+    let head = [settings(1, 1.0, 0.25), tone(1, 1.0, &[3.0], None)].concat();
+    let query = Ask::of(steady(8, 110.0)).bytes();
+    let mut answers = Vec::new();
+    for order in [
+        [&one, &two, &three],
+        [&one, &three, &two],
+        [&two, &one, &three],
+        [&two, &three, &one],
+        [&three, &one, &two],
+        [&three, &two, &one],
+    ] {
+        let pack = [&head[..], order[0], order[1], order[2], &[6]].concat();
+        let owner = |accent, fin| look_pack(&pack, accent, 1, 0, fin).unwrap()[0].owner;
+        assert_eq!([owner(1, 0), owner(1, 1), owner(2, 1), owner(3, 0)], [2, 3, 3, 3]);
+        answers.push((write_sheet(&pack).unwrap(), judge(&pack, &query).unwrap()));
+    }
+    assert!(answers.iter().all(|a| *a == answers[0]));
 }
 
 #[test]
@@ -576,7 +646,31 @@ fn chosen() -> Vec<Case> {
     cases.push(Case::Sheet(more.clone()));
     more.pop();
     cases.push(Case::Sheet(more));
-    // 6 and 7 in one accent; a part without knots; a list that no row names.
+    // Parents: chains, rings and parents that no accent has, with End, without, and with more behind.
+    for parents in [
+        &[2u8, 0][..],
+        &[0, 1],
+        &[2, 3, 4, 5, 6, 7, 8, 0],
+        &[1],
+        &[0, 2],
+        &[2, 1],
+        &[2, 1, 0],
+        &[0, 3, 2],
+        &[2, 3, 1],
+        &[2, 3, 4, 5, 6, 7, 8, 1],
+        &[9, 0],
+        &[0, 9],
+        &[9, 2],
+        &[2, 1, 9],
+    ] {
+        let pack = of_parents(parents);
+        let open = pack[..pack.len() - 1].to_vec();
+        let cut = [&open[..], &rule(1, 0, 0, 0, 2), &[6]].concat();
+        let loose = [&open[..], &rule(1, 7, 0, 0, 2), &part(1.0, &[1.0]), &[6]].concat();
+        let more = [&pack[..], &[6, 6]].concat();
+        cases.extend([[&open[..], &[2]].concat(), open, cut, loose, more, pack].map(Case::Pack));
+    }
+    // An accent twice; a part without knots; a list that no row names.
     let small = small_pack();
     let with = |tail: &[Vec<u8>]| Case::Pack([&small[..84], &tail.concat(), &[6]].concat());
     cases.push(with(&[accent(1, 9, TOL)]));
