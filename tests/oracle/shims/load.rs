@@ -1,6 +1,7 @@
 //! Stands in for load.rs: a `LanguagePack` from the bytes of a pack that loads by document 01.
 //! Nothing is checked and nothing is changed on the way. A rule's label is written `form:label`,
-//! so that the Rust's own label of a component says which record it came from.
+//! so that the Rust's own label of a component says which record it came from. A parent is looked
+//! for when all accents are there, as it may stand later (change request 7).
 
 use tonekit_core::{AccentId, Lect, ToneId};
 
@@ -41,6 +42,7 @@ impl LanguagePack {
             accents: Vec::new(),
             calibration: Calibration::default(),
         };
+        let mut parents: Vec<AccentId> = Vec::new();
         let mut at = 0;
         loop {
             let body = at + 1;
@@ -66,10 +68,10 @@ impl LanguagePack {
                     at += 56;
                 }
                 3 => {
-                    let parent = AccentId(number(b[body + 1]));
+                    parents.push(AccentId(number(b[body + 1])));
                     pack.accents.push(Accent {
                         id: AccentId(number(b[body])),
-                        inherits: pack.accents.iter().position(|a| a.id == parent),
+                        inherits: None,
                         rules: Vec::new(),
                         tolerance: Tolerance {
                             contour: f32_at(b, body + 2),
@@ -114,8 +116,14 @@ impl LanguagePack {
                     }
                     at += 46;
                 }
-                _ => return pack,
+                _ => break,
             }
         }
+        let place = |of: &AccentId| pack.accents.iter().position(|a| a.id == *of);
+        let places: Vec<Option<usize>> = parents.iter().map(place).collect();
+        for (accent, parent) in pack.accents.iter_mut().zip(places) {
+            accent.inherits = parent;
+        }
+        pack
     }
 }
