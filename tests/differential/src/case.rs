@@ -438,6 +438,7 @@ pub fn case(seed: u64, index: u64) -> Case {
             match r.below(16) {
                 0..=3 => bytes = damage::crowded_pack(r, &p),
                 4 => bytes = damage::confused_pack(r, &p),
+                5..=7 => bytes = damage::misparented_pack(r, &p),
                 _ => damage::damage(r, &mut bytes),
             }
             if r.chance(1, 4) {

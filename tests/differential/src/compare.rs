@@ -3,6 +3,7 @@
 use crate::ask::{canonical, component, reference_answer, values, Answer};
 use crate::bytes::{f32_at, starts, u16_at, u32_at};
 use crate::case::*;
+use crate::chains;
 use crate::port;
 use crate::predict;
 use crate::rng::Rng;
@@ -16,7 +17,7 @@ fn hex(b: &[u8]) -> String {
         .join(" ")
 }
 
-fn words(c: &Call, want: &str, got: &str) -> String {
+pub fn words(c: &Call, want: &str, got: &str) -> String {
     format!(
         "{}\n  a ({}): {}\n  b ({}): {}\n  reference: {want}\n  other:     {got}",
         CALLS[usize::from(c.call)],
@@ -27,7 +28,7 @@ fn words(c: &Call, want: &str, got: &str) -> String {
     )
 }
 
-fn say(answer: &Answer) -> String {
+pub fn say(answer: &Answer) -> String {
     match answer {
         Ok(b) => hex(b),
         Err((number, place)) => format!("refused {number} at {place}"),
@@ -228,7 +229,7 @@ const GUARD: usize = 32;
 
 /// Asks the port in rooms around each boundary; every byte of the room, and of a strip before and
 /// after it, must be as document 01 says. The inputs must be what they were.
-fn with_port(
+pub fn with_port(
     t: &mut Tally,
     r: &mut Rng,
     case: u64,
@@ -366,8 +367,13 @@ fn extremes(t: &mut Tally, case: u64, c: &Call, ours: &Answer) {
     );
 }
 
-/// Counts what a record holds, to show which branches the cases reach.
+/// Counts what a record holds, to show which branches the cases reach; and what parents a pack has.
 fn look_at(t: &mut Tally, c: &Call, ours: &Answer) {
+    if c.call == CHECK_PACK {
+        for words in chains::seen(&c.a, ours) {
+            t.see(words);
+        }
+    }
     let Ok(b) = ours else { return };
     match c.call {
         JUDGE => {

@@ -6,7 +6,7 @@ use std::path::Path;
 use crate::ask::Answer;
 use crate::case::*;
 use crate::limits;
-use crate::samples::{agreed, answer_anew, load, put, told, Sample, COVER, LIMIT};
+use crate::samples::{agreed, answer_anew, load, put, told, Sample, COVER, LONGEST};
 
 /// What samples are asked to tell apart: a mistake, where it matters by a call of one number.
 pub struct Unit {
@@ -31,7 +31,8 @@ impl Unit {
 }
 
 /// The calls that must tell a mistake apart each for itself: the readers, for what they share (ranges; places and order), a step
-/// of the arithmetic alone, and for what change request 10 split a function alone and a whole record. None stands for any call.
+/// of the arithmetic alone, for what change request 10 split a function alone and a whole record, and for how a lookup goes up the
+/// parents a sheet and a record. None stands for any call.
 fn callers(number: u32) -> &'static [Option<u8>] {
     const PACK: Option<u8> = Some(CHECK_PACK);
     const QUERY: Option<u8> = Some(CHECK_QUERY);
@@ -51,6 +52,7 @@ fn callers(number: u32) -> &'static [Option<u8>] {
         14 | 387 | 388 => &[Some(EXP)],
         389 => &[Some(LOG2), RECORD],
         390 => &[Some(LN), Some(EXP), RECORD],
+        430..=433 => &[Some(WRITE_SHEET), RECORD],
         _ => &[None],
     }
 }
@@ -257,7 +259,7 @@ pub fn write(dir: &Path, words: &Path, cases: u64, seed: u64) {
             put(&mut out, s);
             count += 1;
         }
-        assert!(out.len() <= LIMIT, "{} bytes are too many", out.len());
+        assert!(out.len() <= LONGEST, "{} bytes are too many", out.len());
         std::fs::write(dir.join(name), &out).expect("a samples' file");
         println!("{name}: {count} samples, {} bytes", out.len());
     }

@@ -221,6 +221,102 @@ pub fn damage(r: &mut Rng, b: &mut Vec<u8>) {
     }
 }
 
+/// Parents that no accent has, or chains that never end: a ring of one to eight accents, with
+/// others that lead into it or not, in any order.
+pub fn entangle(r: &mut Rng, p: &mut Pack) {
+    let most = r.pick(&[1, 2, 3, 4, 8]);
+    while p.accents.len() < most {
+        let number = fresh_accent(p);
+        p.accents.push(Accent {
+            number,
+            parent: pick!(r, 0, p.accents[0].number),
+            tolerances: [1.0; 4],
+            rules: Vec::new(),
+        });
+    }
+    r.shuffle(&mut p.accents);
+    let n = p.accents.len();
+    let what = r.below(8);
+    if what < 5 {
+        let ring = pick!(r, 1, 2.min(n), n, r.range(1, n));
+        let mut order: Vec<usize> = (0..n).collect();
+        r.shuffle(&mut order);
+        for i in 0..n {
+            let to = match r.below(4) {
+                _ if i < ring => order[(i + 1) % ring],
+                0 | 1 => order[r.below(i)],
+                2 => {
+                    p.accents[order[i]].parent = 0;
+                    continue;
+                }
+                _ => continue,
+            };
+            p.accents[order[i]].parent = p.accents[to].number;
+        }
+    }
+    if what > 3 {
+        let at = pick!(r, 0, n - 1, r.below(n));
+        p.accents[at].parent = fresh_accent(p);
+    }
+}
+
+/// A number that no accent has.
+fn fresh_accent(p: &Pack) -> u8 {
+    let free = |&n: &u8| p.accents.iter().all(|a| a.number != n);
+    (1..=255).find(free).expect("a number")
+}
+
+/// What stands in End's place, or behind it: nothing, another kind, more bytes.
+fn misended(r: &mut Rng, b: &mut Vec<u8>) {
+    let end = b.len() - 1;
+    match r.below(4) {
+        0 => b.truncate(end),
+        1 => b[end] = pick!(r, 0, 1, 2, 5, 7, r.byte()),
+        _ => b.extend((0..r.range(1, 3)).map(|_| r.pick(&[6, 0, 3]))),
+    }
+}
+
+/// Such parents, with what is judged before them or after.
+pub fn misparented_pack(r: &mut Rng, pack: &Pack) -> Vec<u8> {
+    let mut p = pack.clone();
+    entangle(r, &mut p);
+    let mut b = p.bytes();
+    let end = b.len() - 1;
+    match r.below(10) {
+        0 | 1 => misended(r, &mut b),
+        2 => damage(r, &mut b),
+        // A rule without parts, so that End is not due; one about a tone that is not held; an
+        // accent a second time, with another parent that is not there.
+        3 => drop(b.splice(end..end, [4, 0, 0, 0, 0, 0, 2])),
+        4 => {
+            let tone = (1..=255).find(|&n| p.tones.iter().all(|t| t.number != n));
+            let at = r.below(p.accents.len());
+            p.accents[at].rules.insert(
+                0,
+                Rule {
+                    label: 1,
+                    tone: tone.expect("a number"),
+                    prev: 0,
+                    fin: 0,
+                    form: 2,
+                    parts: vec![Part {
+                        weight: 1.0,
+                        knots: vec![1.0],
+                    }],
+                },
+            );
+            b = p.bytes();
+        }
+        5 => {
+            let mut again = p.accents[r.below(p.accents.len())].clone();
+            (again.parent, again.rules) = (fresh_accent(&p), Vec::new());
+            drop(b.splice(end..end, again.bytes()));
+        }
+        _ => {}
+    }
+    b
+}
+
 /// An accent that is doubled and has no parent, both at once or one of them.
 pub fn confused_pack(r: &mut Rng, pack: &Pack) -> Vec<u8> {
     let mut p = pack.clone();
@@ -353,7 +449,7 @@ pub fn crowded_pack(r: &mut Rng, pack: &Pack) -> Vec<u8> {
                 let number = fresh(&|n| p.accents.iter().any(|a| a.number == n));
                 p.accents.push(Accent {
                     number,
-                    parent: r.pick(&[0, 0, number]),
+                    parent: r.pick(&[0, 0, number, p.accents[0].number]),
                     tolerances: [1.0; 4],
                     rules: Vec::new(),
                 });

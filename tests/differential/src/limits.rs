@@ -1,5 +1,5 @@
 //! Samples by hand: counts at their limits and past them, lent rooms around the needed length, refusals that meet in one call,
-//! exact scores, and single steps of the arithmetic.
+//! parents wherever they stand, exact scores, and single steps of the arithmetic.
 
 use crate::bytes::{record_length, starts};
 use crate::case::*;
@@ -271,6 +271,106 @@ fn meetings(all: &mut Asking) {
     ask(0, None, &[&|q| q.floor = f32::NAN]);
 }
 
+/// One tone, and accents numbered from 1 with these parents.
+fn family(parents: &[u8]) -> Pack {
+    let mut p = pack(1, parents.len() as u8);
+    for (accent, &parent) in p.accents.iter_mut().zip(parents) {
+        accent.parent = parent;
+    }
+    p
+}
+
+/// The bytes, with others in the place of End.
+fn ended(p: &Pack, with: &[u8]) -> Vec<u8> {
+    let b = p.bytes();
+    [&b[..b.len() - 1], with].concat()
+}
+
+/// Parents wherever they stand: chains of up to eight in several orders, of which each gives the same sheet; rings of each size
+/// that matters, with chains that lead into them and beside chains that end; parents that no accent has; and what comes before
+/// and after these are judged.
+fn parents(all: &mut Asking) {
+    // From accent 1 up to 8, whose rule is for all, but at a phrase's end that of 4 for all behind it.
+    let mut p = family(&[2, 3, 4, 5, 6, 7, 8, 0]);
+    for (at, fin) in [(7, 0), (3, 2)] {
+        let rule = Rule {
+            tone: 0,
+            prev: 0,
+            fin,
+            ..rule(at, 2, 1)
+        };
+        p.accents[at].rules.push(rule);
+    }
+    let query = query(1, 1);
+    for order in [
+        [0, 1, 2, 3, 4, 5, 6, 7],
+        [7, 6, 5, 4, 3, 2, 1, 0],
+        [2, 6, 0, 4, 7, 1, 5, 3],
+    ] {
+        let accents = order.map(|i: usize| p.accents[i].clone()).to_vec();
+        let ordered = Pack {
+            accents,
+            ..p.clone()
+        };
+        all.ask(0, WRITE_SHEET, &ordered.bytes(), &[]);
+        all.ask(0, JUDGE, &ordered.bytes(), &query.bytes());
+    }
+    for parents in [&[2, 0][..], &[0, 1], &[3, 1, 0], &[2, 0, 2]] {
+        all.ask(0, CHECK_PACK, &family(parents).bytes(), &[]);
+    }
+    for parents in [
+        &[1][..],
+        &[0, 2],
+        &[2, 2],
+        &[2, 1],
+        &[3, 1, 2],
+        &[0, 3, 2],
+        &[2, 1, 0],
+        &[2, 4, 2, 3],
+        &[2, 3, 4, 5, 6, 7, 8, 1],
+        &[8, 1, 2, 3, 4, 5, 6, 7],
+        &[2, 3, 4, 5, 6, 7, 8, 8],
+    ] {
+        all.ask(20, CHECK_PACK, &family(parents).bytes(), &[]);
+    }
+    for parents in [
+        &[9][..],
+        &[9, 0],
+        &[0, 9],
+        &[9, 2],
+        &[2, 1, 9],
+        &[9, 3, 2],
+        &[2, 3, 4, 5, 6, 7, 8, 9],
+    ] {
+        all.ask(7, CHECK_PACK, &family(parents).bytes(), &[]);
+    }
+    let (ring, loose) = (family(&[2, 1]), family(&[9, 0]));
+    let part = rule(0, 2, 1).parts[0].bytes();
+    for (number, p) in [(20, &ring), (7, &loose), (3, &family(&[2, 0]))] {
+        // Bytes behind End; no End; another kind in its place; an End that is not due.
+        all.ask(number, CHECK_PACK, &ended(p, &[6, 6, 6]), &[]);
+        all.ask(2, CHECK_PACK, &ended(p, &[]), &[]);
+        all.ask(1, CHECK_PACK, &ended(p, &[2]), &[]);
+        all.ask(1, CHECK_PACK, &ended(p, &[4, 0, 0, 0, 0, 0, 2, 6]), &[]);
+        // A rule about a tone that is not held; an accent out of range; one a second time, with a parent that is not there.
+        let unheld = [&[4, 0, 0, 3, 0, 0, 2][..], &part, &[6]].concat();
+        all.ask(7, CHECK_PACK, &ended(p, &unheld), &[]);
+        let mut third = family(&[0]).accents[0].bytes();
+        third[2] = 8;
+        all.ask(6, CHECK_PACK, &ended(p, &[&third[..], &[6]].concat()), &[]);
+        third[7..11].fill(0);
+        all.ask(5, CHECK_PACK, &ended(p, &[&third[..], &[6]].concat()), &[]);
+    }
+    // Whatever is lent, and whatever the query is.
+    for (number, p) in [(20, &ring), (7, &loose)] {
+        for room in [Some(0), None] {
+            all.lend(number, WRITE_SHEET, &p.bytes(), &[], room);
+            all.lend(number, JUDGE, &p.bytes(), &query.bytes()[..9], room);
+        }
+        all.ask(number, JUDGE, &p.bytes(), &query.bytes());
+    }
+}
+
 /// Scores that are exact but for ln and exp: the judgement that docs/DIFFERENCES.md gives, with CreakyTail and without, and the
 /// first of a seed that change request 10 moved.
 fn exact_scores(all: &mut Asking) {
@@ -343,6 +443,7 @@ pub fn all() -> Vec<Asked> {
     query_limits(&mut all);
     rooms(&mut all);
     meetings(&mut all);
+    parents(&mut all);
     exact_scores(&mut all);
     steps(&mut all);
     all.0

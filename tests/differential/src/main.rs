@@ -3,6 +3,7 @@
 mod ask;
 mod bytes;
 mod case;
+mod chains;
 mod compare;
 mod cover;
 mod coverage;
@@ -10,6 +11,7 @@ mod damage;
 mod exact;
 mod limits;
 mod moved;
+mod orders;
 mod pack;
 mod port;
 mod predict;
@@ -140,6 +142,7 @@ fn main() {
             moved::moved(number(1, 100_000), number(2, 1));
             true
         }
+        "orders" => orders::orders(number(1, 20_000), number(2, 1), number(3, 0) as u32),
         "sheets" => {
             write_sheets(number(1, 2_000), number(2, 1));
             true

@@ -130,6 +130,15 @@ impl Pack {
             .map(|r| r.parts.len())
             .sum()
     }
+
+    /// Whether the chain of an accent, by its number, comes to another; every chain ends.
+    fn comes_to(&self, mut accent: u8, other: u8) -> bool {
+        while accent != other && accent != 0 {
+            let at = self.accents.iter().find(|a| a.number == accent);
+            accent = at.expect("an accent").parent;
+        }
+        accent == other
+    }
 }
 
 /// How far a pack goes from the ordinary.
@@ -368,12 +377,47 @@ fn fullest(r: &mut Rng, style: Style) -> Pack {
     }
 }
 
+/// A pack of two to eight accents in one chain, in any order, with few rules.
+fn chained(r: &mut Rng, style: Style) -> Pack {
+    let n = r.range(1, 2);
+    let tones: Vec<Tone> = distinct(r, n)
+        .into_iter()
+        .map(|number| Tone {
+            number,
+            prior: fraction(r, style),
+            knots: knots(r, style),
+            region: None,
+        })
+        .collect();
+    let n = pick!(r, 8, 8, r.range(2, 8));
+    let numbers = distinct(r, n);
+    let mut accents: Vec<Accent> = Vec::new();
+    for (i, &number) in numbers.iter().enumerate() {
+        let rules = r.pick(&[0, 0, 0, 1, 2]);
+        accents.push(Accent {
+            number,
+            parent: if i == 0 { 0 } else { numbers[i - 1] },
+            tolerances: [0; 4].map(|_| tolerance(r, style)),
+            rules: (0..rules).map(|_| rule(r, style, &tones, 2)).collect(),
+        });
+    }
+    r.shuffle(&mut accents);
+    Pack {
+        temperature: 1.0,
+        threshold: fraction(r, style),
+        tones,
+        accents,
+    }
+}
+
 /// A pack that loads.
 pub fn pack(r: &mut Rng) -> Pack {
     let style = style(r);
     let size = r.below(100);
-    if size == 99 {
-        return fullest(r, style);
+    match size {
+        99 => return fullest(r, style),
+        56..=59 => return chained(r, style),
+        _ => {}
     }
     // Most tones, accents, rules and parts.
     let (t, a, rules, parts) = match size {
@@ -500,11 +544,12 @@ pub fn pack(r: &mut Rng) -> Pack {
     }
     if r.chance(1, 2) {
         for accent in &mut accents {
-            let n = accent.rules.len();
-            for i in (1..n).rev() {
-                accent.rules.swap(i, r.below(i + 1));
-            }
+            r.shuffle(&mut accent.rules);
         }
+    }
+    // Parents stand earlier up to here.
+    if r.chance(2, 3) {
+        r.shuffle(&mut accents);
     }
     Pack {
         temperature: if r.chance(1, 2) {
@@ -518,17 +563,17 @@ pub fn pack(r: &mut Rng) -> Pack {
     }
 }
 
-/// The same lookups in other bytes: accents in another order that keeps parents earlier, and a
-/// rule that another of its accent shadows.
+/// The accents, each with its rules, in any order.
+pub fn reordered(r: &mut Rng, pack: &Pack) -> Pack {
+    let mut other = pack.clone();
+    r.shuffle(&mut other.accents);
+    other
+}
+
+/// The same lookups in other bytes: accents in any order, and a rule that another of its accent
+/// shadows.
 pub fn twin(r: &mut Rng, pack: &Pack) -> Pack {
-    let mut left = pack.accents.clone();
-    let mut accents: Vec<Accent> = Vec::new();
-    while !left.is_empty() {
-        let ready: Vec<usize> = (0..left.len())
-            .filter(|&i| left[i].parent == 0 || accents.iter().any(|a| a.number == left[i].parent))
-            .collect();
-        accents.push(left.remove(r.pick(&ready)));
-    }
+    let mut accents = reordered(r, pack).accents;
     let (rules, parts) = (pack.rules(), pack.parts());
     let at = r.below(accents.len());
     if rules < 64 && parts < 128 && !accents[at].rules.is_empty() {
@@ -554,7 +599,14 @@ pub fn nudge(r: &mut Rng, pack: &mut Pack) {
     let at = r.below(pack.accents.len());
     let rules = pack.accents[at].rules.len();
     match r.below(9) {
-        0 => pack.accents[at].parent = 0,
+        0 => {
+            // None, or one whose chain does not come back.
+            let number = pack.accents[at].number;
+            let others = pack.accents.iter().map(|a| a.number);
+            let fit = others.filter(|&other| !pack.comes_to(other, number));
+            let fit: Vec<u8> = fit.chain([0]).collect();
+            pack.accents[at].parent = r.pick(&fit);
+        }
         1 if rules > 0 => {
             let i = r.below(rules);
             pack.accents[at].rules.remove(i);

@@ -51,6 +51,13 @@ impl Rng {
         (self.next() >> 11) as f64 / (1u64 << 53) as f64
     }
 
+    /// Any order of the items, each as likely as another.
+    pub fn shuffle<T>(&mut self, items: &mut [T]) {
+        for i in (1..items.len()).rev() {
+            items.swap(i, self.below(i + 1));
+        }
+    }
+
     pub fn between(&mut self, lo: f32, hi: f32) -> f32 {
         (f64::from(lo) + self.unit() * (f64::from(hi) - f64::from(lo))) as f32
     }

@@ -26,8 +26,10 @@ const FILES: [(&str, &[u8], usize, usize); 5] = [
 ];
 /// The files of samples chosen by limits and planted mistakes: those of whole calls and functions, and those of single steps.
 pub const COVER: [&str; 2] = ["cover.bin", "steps.bin"];
-/// The program that replays reads files of up to 300,000 bytes.
-pub const LIMIT: usize = 280_000;
+/// The longest file that the program that replays reads.
+pub const LONGEST: usize = 300_000;
+/// How far the first files were filled.
+const LIMIT: usize = 280_000;
 
 /// A call, the room it is lent, and its answer.
 pub struct Sample {

@@ -79,6 +79,11 @@ impl Tally {
                 .collect();
             println!("  {:<13} {}", CALLS[usize::from(call)], row.join("  "));
         }
+        self.print_compared();
+    }
+
+    /// What was seen, what was compared, and the differences in words.
+    pub fn print_compared(&mut self) {
         println!("\nwhat the answers held");
         for (what, n) in &self.seen {
             println!("  {n:>9}  {what}");

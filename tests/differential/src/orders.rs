@@ -1,0 +1,136 @@
+//! "A pack whose accents, each with its rules, are written in any other order gives the same sheet" (change request 7). Pairs of
+//! packs that differ in the order of their accents alone: both load, with the same sheet and the same answers to queries, or both
+//! are refused with the same number and place.
+
+use crate::ask::{reference_answer, Answer};
+use crate::case::*;
+use crate::chains;
+use crate::compare::{say, with_port, words};
+use crate::damage::entangle;
+use crate::pack::{pack, reordered, Pack};
+use crate::pick;
+use crate::query::query;
+use crate::rng::Rng;
+use crate::tally::Tally;
+use crate::THREADS;
+
+/// How many queries a pair is asked.
+const QUERIES: usize = 4;
+
+/// A pack, mostly one that loads. What is wrong with another stands before the accents, or is judged where none of them does:
+/// at End, or in its place.
+fn some_pack(r: &mut Rng) -> Pack {
+    let mut p = pack(r);
+    match r.below(20) {
+        0..=5 => entangle(r, &mut p),
+        6 => p.temperature = 0.0,
+        7 => {
+            let again = p.tones[0].clone();
+            p.tones.push(again);
+        }
+        _ => {}
+    }
+    p
+}
+
+/// What stands in End's place: mostly End, and nothing behind. No kind that is due after a rule's part alone.
+fn ending(r: &mut Rng) -> Vec<u8> {
+    match r.below(24) {
+        0 => Vec::new(),
+        1 => vec![pick!(r, 0, 1, 2, 3, 4, 7, 48)],
+        2 => vec![6, r.byte()],
+        _ => vec![6],
+    }
+}
+
+/// The same call of both packs: the answers are one, and the port gives each of them for the other.
+fn alike(t: &mut Tally, r: &mut Rng, index: u64, one: &Call, two: &Call) -> Answer {
+    const SAME: [(u8, &str); 3] = [
+        (CHECK_PACK, "two orders: check_pack"),
+        (WRITE_SHEET, "two orders: write_sheet"),
+        (JUDGE, "two orders: judge"),
+    ];
+    let name = SAME.iter().find(|s| s.0 == one.call).expect("a call").1;
+    let (a, b) = (reference_answer(one), reference_answer(two));
+    t.same(name, a == b, index, || {
+        words(one, &say(&a), &say(&b)) + "\n" + &words(two, &say(&b), &say(&a))
+    });
+    with_port(t, r, index, one, &b, None);
+    with_port(t, r, index, two, &a, None);
+    a
+}
+
+fn pair(t: &mut Tally, seed: u64, index: u64) {
+    let mut rng = Rng::new(seed ^ 0x0DE5, index);
+    let r = &mut rng;
+    let first = some_pack(r);
+    let second = reordered(r, &first);
+    let end = ending(r);
+    let [one, two] = [&first, &second].map(|p| {
+        let mut b = p.bytes();
+        b.pop();
+        b.extend(&end);
+        b
+    });
+    let call = |call: u8, a: &[u8], b: &[u8]| Call {
+        call,
+        a: a.to_vec(),
+        b: b.to_vec(),
+    };
+    let of = |c: u8, b: &[u8]| [call(c, &one, b), call(c, &two, b)];
+    let [a, b] = of(CHECK_PACK, &[]);
+    let checked = alike(t, r, index, &a, &b);
+    t.see(match checked {
+        Ok(_) => "pairs that load",
+        Err((7, _)) => "pairs refused with 7",
+        Err((20, _)) => "pairs refused with 20",
+        Err(_) => "pairs refused with another number",
+    });
+    t.see(if one == two {
+        "pairs of one order"
+    } else {
+        "pairs of two orders"
+    });
+    for c in [&a, &b] {
+        for words in chains::seen(&c.a, &checked) {
+            t.see(words);
+        }
+    }
+    let [a, b] = of(WRITE_SHEET, &[]);
+    let _ = alike(t, r, index, &a, &b);
+    for _ in 0..QUERIES {
+        let q = query(r, Some(&first)).bytes();
+        let [a, b] = of(JUDGE, &q);
+        let judged = alike(t, r, index, &a, &b);
+        t.see(if judged.is_ok() {
+            "queries answered"
+        } else {
+            "queries refused"
+        });
+    }
+}
+
+/// Whether no pair differs; with `plant` other than 0 the reference has that mistake.
+pub fn orders(pairs: u64, seed: u64, plant: u32) -> bool {
+    let mut all = Tally::default();
+    std::thread::scope(|s| {
+        let asking = |first| {
+            s.spawn(move || {
+                reference::plant(plant);
+                let mut t = Tally::default();
+                for index in (first..pairs).step_by(THREADS as usize) {
+                    pair(&mut t, seed, index);
+                }
+                t
+            })
+        };
+        let threads: Vec<_> = (0..THREADS).map(asking).collect();
+        for thread in threads {
+            all.join(thread.join().expect("a thread"));
+        }
+    });
+    println!("{pairs} pairs, seed {seed}");
+    all.print_compared();
+    println!("\n{} differ", all.differing());
+    all.differing() == 0
+}
