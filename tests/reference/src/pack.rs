@@ -31,6 +31,21 @@ pub struct Accent {
     rules: Range<usize>,
 }
 
+/// Accents on the way up from one, by their places.
+struct Chain {
+    /// Nine for a planted mistake.
+    places: [usize; 9],
+    count: usize,
+    /// The one to which it comes back, if it never ends.
+    back: Option<usize>,
+}
+
+impl Chain {
+    fn accents(&self) -> &[usize] {
+        &self.places[..self.count]
+    }
+}
+
 struct Rule {
     label: u16,
     tone: u8,
@@ -286,33 +301,34 @@ impl Pack {
             .find(|&i| !held(i))
     }
 
-    /// The accents from one on up its parents, each once, and the one to which its chain comes
-    /// back if it never ends.
-    fn chain(&self, accent: usize) -> (Vec<usize>, Option<usize>) {
-        let mut chain = Vec::with_capacity(8);
-        let mut next = Some(accent);
-        while let Some(at) = next.filter(|at| !chain.contains(at)) {
-            chain.push(at);
-            next = self.accents[at].parent;
+    /// An accent and those up its parents, each once.
+    fn chain(&self, accent: usize) -> Chain {
+        let mut chain = Chain { places: [0; 9], count: 0, back: Some(accent) };
+        while let Some(at) = chain.back.filter(|at| !chain.accents().contains(at)) {
+            chain.places[chain.count] = at;
+            chain.count += 1;
+            chain.back = self.accents[at].parent;
         }
-        (chain, next)
+        chain
     }
 
     /// The first accent whose chain never ends. "Every chain must reach an accent with no parent."
     fn endless(&self) -> Option<usize> {
         let count = self.accents.len();
-        let mut met: Vec<usize> = Vec::with_capacity(8);
+        let mut met: Vec<usize> = Vec::new();
         let mut never = |start: usize| {
-            let (chain, back) = self.chain(start);
-            let again = chain.iter().any(|at| met.contains(at));
-            met.extend(&chain);
-            match back.and_then(|back| chain.iter().position(|&at| at == back)) {
+            let chain = self.chain(start);
+            let again = chain.accents().iter().any(|at| met.contains(at));
+            if planted(CHAIN_MARKS_KEPT) {
+                met.extend(chain.accents());
+            }
+            match chain.accents().iter().position(|&at| Some(at) == chain.back) {
                 None => {
-                    planted(CHAIN_OF_8) && chain.len() >= 8
-                        || planted(CHAIN_OF_ALL) && chain.len() == count && count > 1
-                        || planted(CHAIN_MARKS_KEPT) && again
+                    planted(CHAIN_OF_8) && chain.count >= 8
+                        || planted(CHAIN_OF_ALL) && chain.count == count && count > 1
+                        || again
                 }
-                Some(from) => match chain.len() - from {
+                Some(from) => match chain.count - from {
                     1 => !planted(PARENT_ITSELF),
                     2 if planted(RING_OF_2) => false,
                     8.. if planted(RING_OF_8) => false,
@@ -443,7 +459,7 @@ impl Pack {
     /// most specific one (conditions stated), the first among equals"
     fn find_rule(&self, accent: usize, tone: u8, prev: u8, fin: bool) -> Option<Origin> {
         let mut best_of_chain: Option<(u8, Origin)> = None;
-        for owner in self.asked(accent) {
+        for &owner in self.asked(accent).accents() {
             let mut best: Option<(u8, Origin)> = None;
             for rule in self.accents[owner].rules.clone() {
                 let r = &self.rules[rule];
@@ -474,28 +490,26 @@ impl Pack {
     }
 
     /// The accents that a lookup asks, in order. "The lookup is still nearest accent first."
-    fn asked(&self, accent: usize) -> Vec<usize> {
-        let mut chain = self.chain(accent).0;
-        let to_later = |from: &dyn Fn(usize) -> usize| {
-            (1..chain.len()).find(|&i| chain[i] > from(i)).unwrap_or(chain.len())
-        };
+    fn asked(&self, accent: usize) -> Chain {
+        let mut chain = self.chain(accent);
+        let at = chain.places;
         let most = if planted(NO_PARENTS) {
-            1
+            Some(1)
         } else if planted(ONE_PARENT) {
-            2
+            Some(2)
         } else if planted(LOOKUP_EARLIER) {
-            to_later(&|i| chain[i - 1])
+            (1..chain.count).find(|&i| at[i] > at[i - 1])
         } else if planted(LOOKUP_BEFORE_GRADED) {
-            to_later(&|_| accent)
+            (1..chain.count).find(|&i| at[i] > accent)
         } else {
-            chain.len()
+            None
         };
-        chain.truncate(most);
+        chain.count = chain.count.min(most.unwrap_or(9));
         if planted(LOOKUP_IN_FILE_ORDER) {
-            chain.sort_unstable();
+            chain.places[..chain.count].sort_unstable();
         }
         if planted(LOOKUP_FROM_ROOT) {
-            chain.reverse();
+            chain.places[..chain.count].reverse();
         }
         chain
     }
