@@ -339,13 +339,15 @@ parent_at_end : (read (settings ++ (tone 1 1 ++ (accent 1 9 ++ (6 ∷ [])))) ≡
 unfolding read
 parent_at_end = (refl, refl, refl, refl)
 
--- "20 when some chain never ends": an accent that names itself, a ring of two, one that leads into a ring, behind one that ends; before 3
+-- "20 when some chain never ends": an accent that names itself, a ring of two, one that leads into a ring, behind one that ends; before 3; no matter
+-- where the End is missing
 endless : (read (settings ++ (tone 1 1 ++ (accent 1 1 ++ (6 ∷ [])))) ≡ refused Endless 84)
     × (read (settings ++ (tone 1 1 ++ (accent 1 2 ++ (accent 2 1 ++ (6 ∷ []))))) ≡ refused Endless 103)
     × (read (settings ++ (tone 1 1 ++ (accent 4 0 ++ (accent 1 2 ++ (accent 2 3 ++ (accent 3 2 ++ (6 ∷ []))))))) ≡ refused Endless 141)
     × (read (settings ++ (tone 1 1 ++ (accent 1 1 ++ (6 ∷ 0 ∷ [])))) ≡ refused Endless 84)
+    × (read (settings ++ (tone 1 1 ++ accent 1 1)) ≡ refused CutShort 84)
 unfolding read
-endless = (refl, refl, refl, refl)
+endless = (refl, refl, refl, refl, refl)
 
 -- "checked at End after 7": a parent that no accent has, behind a ring
 loose_first : read (settings ++ (tone 1 1 ++ (accent 1 1 ++ (accent 2 9 ++ (6 ∷ []))))) ≡ refused Loose 103
