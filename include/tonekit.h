@@ -8,8 +8,8 @@
  * it was; another leaves the bytes past its output.
  *
  * A call with two inputs takes the pack or sheet first. Refusals 1 to 4 can come of either input and do not say which: where
- * tonekit_check_pack (or tonekit_check_sheet) accepts the first, the query is at fault. 5 to 8 are of the pack or sheet, 10 of
- * the query.
+ * tonekit_check_pack (or tonekit_check_sheet) accepts the first, the query is at fault. 5 to 8 are of the pack or sheet, 20 of
+ * the pack, 10 of the query.
  *
  * What the caller owes; the library cannot check it:
  * - Each pointer is valid for its length, in bytes. With length 0 it may be NULL; the last argument may not. Any bytes may be
@@ -60,7 +60,8 @@ enum {
     TONEKIT_UNKNOWN_ACCENT = 12, /* the pack or sheet does not hold the query's accent */
     TONEKIT_UNKNOWN_TONE = 13,  /* the tone before, or a tone asked for, is not held */
     TONEKIT_NO_REALISATION = 14, /* some tone has no curve in this context */
-    TONEKIT_BAD_VARIANT = 15    /* a variant's weight is below 0 or not finite, or their sum is above 1 */
+    TONEKIT_BAD_VARIANT = 15,   /* a variant's weight is below 0 or not finite, or their sum is above 1 */
+    TONEKIT_ENDLESS_CHAIN = 20  /* a chain of a pack's parents never ends */
 };
 
 /* The largest inputs that load, and the outputs, in bytes. */
@@ -137,7 +138,7 @@ enum {
     TONEKIT_TONE_FROM = 48,        /* f32: its beginning, as a fraction of the voiced part */
     TONEKIT_TONE_TO = 52,          /* f32: its end */
     TONEKIT_ACCENT_NUMBER = 1,     /* u8, not 0 */
-    TONEKIT_ACCENT_PARENT = 2,     /* u8: the accent whose rules serve where none here matches, 0 none */
+    TONEKIT_ACCENT_PARENT = 2,     /* u8: the accent, anywhere in the pack, whose rules serve where none here matches; 0 none */
     TONEKIT_ACCENT_CONTOUR = 3,    /* f32: tolerance of the contour, and of its range */
     TONEKIT_ACCENT_ONSET = 7,      /* f32: of its first point */
     TONEKIT_ACCENT_OFFSET = 11,    /* f32: of its last point */

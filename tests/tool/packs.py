@@ -51,8 +51,7 @@ class Packs:
                   'flag': region[0], 'from': region[1], 'to': region[2]}
         return 2, values, bytes([2, number]) + whole(prior) + slots + tail
 
-    def accent(self, number, earlier):
-        parent = self.chance.choice([0, *earlier])
+    def accent(self, number, parent):
         four = [self.bits(GREATEST) for _ in range(4)]
         values = {'number': number, 'parent': parent, **dict(zip(('contour', 'onset', 'offset', 'turning'), four))}
         return 3, values, bytes([3, number, parent]) + b''.join(map(whole, four))
@@ -79,6 +78,11 @@ class Packs:
             yield rule
             yield from (self.part(rule[1]['form']) for _ in range(parts))
 
+    def parents(self, accents):
+        """A parent for each accent, or 0: any of those that come before it in some order, which need not be that of the file."""
+        order = self.chance.sample(accents, len(accents))
+        return {number: self.chance.choice([0, *order[:i]]) for i, number in enumerate(order)}
+
     def records(self):
         """The records of one pack."""
         settings = self.bits(GREATEST), self.bits(ONE)
@@ -86,8 +90,9 @@ class Packs:
         tones = self.chance.sample(NUMBERS, self.chance.randint(1, 8))
         yield from map(self.tone, tones)
         accents, left = self.chance.sample(NUMBERS, self.chance.randint(1, 8)), [64, 128]
-        for i, number in enumerate(accents):
-            yield self.accent(number, accents[:i])
+        parents = self.parents(accents)
+        for number in accents:
+            yield self.accent(number, parents[number])
             yield from self.rules(tones, left)
         yield 6, {}, bytes([6])
 

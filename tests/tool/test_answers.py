@@ -109,12 +109,13 @@ def test_show_of_records():
         words = done.out.decode()
         expect('records of all kinds are shown', done.status == 0, done)
         for told in ('     0  judgement', '    64  shape', '    73    contour', '   188  refused with 1, misplaced, at byte 7',
-                     'refused with 9, short buffer, 7 bytes needed', 'refused with 15, bad variant: '):
+                     'refused with 9, short buffer, 7 bytes needed', 'refused with 15, bad variant: ',
+                     'refused with 20, endless chain, at byte 7: '):
             expect(f'the words have {told!r}', told in words, words)
         for number, (word, meaning) in REFUSALS.items():
             expect(f'refusal {number} in words', f'refused with {number}, {word}' in words and meaning in words)
         read = json.loads(tonekit('show', '--json', 'records', cwd=at).out)
-        expect('records as JSON', [r['name'] for r in read['records']] == ['judgement', 'shape'] + ['refusal'] * 15, read)
+        expect('records as JSON', [r['name'] for r in read['records']] == ['judgement', 'shape'] + ['refusal'] * len(REFUSALS), read)
         put(at, 'many', RECORD * 20000)
         done = tonekit('show', 'many', cwd=at)
         expect('20,000 records are shown', done.status == 0 and done.out.count(b'  judgement\n') == 20000, str(done)[:200])

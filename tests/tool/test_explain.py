@@ -40,7 +40,7 @@ def wrong(of, data):
         return faults_of(data) and f'loads, and the table finds {faults_of(data)}'
     found = records(data)
     at = next((i for i, r in enumerate(found) if r.offset == refusal.place), None)
-    if refusal.number in (4, 5, 6, 7, 10) and not explain.FAULTS[refusal.number](found, at):
+    if refusal.number in (4, 5, 6, 7, 10, 20) and not explain.FAULTS[refusal.number](found, at):
         return f'{refusal}, and the table finds nothing in {found[at]}'
     return ''
 
@@ -57,6 +57,40 @@ def test_table_and_check_agree():
         differ += [(of, fault)] if fault else []
     expect(f'{COUNT} damaged inputs explained', not differ, differ[:2])
     expect('refusals 4 to 8 and 10, and none, were among them', {None, 4, 5, 6, 7, 8, 10} <= set(seen), seen)
+
+
+def refused_with(data):
+    """The number and the place of what check answers to a pack, and the words for it."""
+    refusal = programs.check('pack', data)
+    return (refusal.number, refusal.place, explain.told(refusal, data, 'pack')) if refusal else (0, 0, '')
+
+
+def with_parents(parents, order):
+    """A pack of accents of these numbers, in this order, and where each of them stands."""
+    packs = Packs(random.Random(9))
+    data = PACK[:289] + joined(packs.accent(number, parents[number]) for number in order) + b'\x06'
+    return data, {number: 289 + 19 * i for i, number in enumerate(order)}
+
+
+def test_parents():
+    """Of a ring of 1 to 8 accents, among others that lead into it, each accent is told, and no other; without the ring's first one
+    each that names it."""
+    chance = random.Random(8)
+    for count in range(1, 9):
+        numbers = chance.sample(range(1, 256), 8)
+        ring, order = numbers[:count], chance.sample(numbers, 8)
+        parents = {number: ring[(i + 1) % count] if i < count else numbers[i - count] for i, number in enumerate(numbers)}
+        data, at = with_parents(parents, order)
+        number, place, words = refused_with(data)
+        told = [f'{n} (at byte {at[n]}) ' + (f'has parent {parents[n]}' if count > 1 else 'is its own parent') for n in ring]
+        expect(f'a ring of {count}', (number, place) == (20, len(data) - 1) and words.count('(at byte') == count
+               and all(one in words for one in told), words)
+        left = [n for n in order if n != ring[0]]
+        data, at = with_parents(parents, left)
+        number, place, words = refused_with(data)
+        told = [f'the parent of accent {n} (at byte {at[n]}) is {ring[0]}, ' for n in left if parents[n] == ring[0]]
+        expect(f'a ring of {count} without its first', (number, place) == (7, len(data) - 1) and words.count('(at byte') == len(told)
+               and all(one in words for one in told), words)
 
 
 def spelt(name):

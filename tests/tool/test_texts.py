@@ -1,9 +1,10 @@
 """Packs as text: 2,000 generated packs to text and back, and texts that are none."""
+import itertools
 import os
 import random
 
 import harness
-from harness import PACK, PACKS, TEXT, changed, content, expect, expect_refused, folder, put, tonekit
+from harness import PACK, PACKS, SHEET, TEXT, changed, content, expect, expect_refused, folder, put, tonekit
 from packs import Packs, joined
 
 import sample
@@ -37,7 +38,7 @@ def largest():
     """A pack of every limit."""
     packs = Packs(random.Random(5))
     tones = [packs.tone(number) for number in range(1, 9)]
-    accents = [packs.accent(number, []) for number in range(1, 9)]
+    accents = [packs.accent(number, (number + 1) % 9) for number in range(1, 9)]
     rule = encode(KINDS[4], {'label': 65535, 'form': 3})
     parts = [packs.part(3) for _ in range(128)]
     body = b''.join(rule + joined(parts[2 * i:2 * i + 2]) for i in range(64))
@@ -78,6 +79,20 @@ def test_sample_is_its_text():
         expect('standard input and output', tonekit('pack', '-', '-o', '-', data=words.encode()).out == PACK)
 
 
+def test_accents_in_any_order():
+    """The sample's accents, each with its rules, in every order: each parent is found, and the sheet is the sample's."""
+    front, *accents = TEXT.partition('\nend\n')[0].split('\naccent ')
+    for order in itertools.permutations(accents):
+        words = '\naccent '.join([front, *order]) + '\nend\n'
+        named = [block[0] for block in order]
+        with folder() as at:
+            done = tonekit('pack', put(at, 'text', words), '-o', 'pack', cwd=at), tonekit('sheet', 'pack', '-o', 'sheet', cwd=at)
+            made = harness.listing(at)
+            expect(f'accents {named}', [d.status for d in done] == [0, 0] and made.get('sheet') == SHEET, done[0])
+            again = text.read_pack(text.write_pack(made.get('pack', b'')))[0]
+            expect(f'accents {named} to text and back', again == made.get('pack') == text.read_pack(words)[0])
+
+
 def test_bits_survive_by_hand():
     """Bits that no decimal gives stand in a text as such, and are for the program to judge."""
     data, _ = text.read_pack('tone 1  prior 0x7fc00001  knots -0 -inf 0xff800001')
@@ -105,7 +120,13 @@ REFUSED = [
     ('prior 0.2  ', 'prior 2  ', 'line 7: the pack is refused with 5, off scale, at byte 65 (tone 2)', 'prior is 2, not above 0'),
     ('prior 0.2  ', 'prior nan  ', 'refused with 5', 'prior is 0x7fc00000'),
     ('tone 2  prior', 'tone 1  prior', 'line 7: the pack is refused with 6, doubled', 'it stands at byte 9 already'),
-    ('parent 1', 'parent 9', 'line 27: the pack is refused with 7, loose, at byte 672 (accent 2)', 'parent is 9'),
+    ('parent 1', 'parent 9', 'line 38: the pack is refused with 7, loose, at byte 915 (the end)',
+     'the parent of accent 2 (line 27) is 9, and the accents are: 1, 2, 7'),
+    ('tone 4  prev 4 ', 'tone 4  prev 9 ', 'line 34: the pack is refused with 7, loose, at byte 816 (rule 44)',
+     'prev is 9, and the tones are: 1, 2, 3, 4, 5'),
+    ('parent 1', 'parent 7', 'line 38: the pack is refused with 20, endless chain, at byte 915 (the end)',
+     'accents 2 and 7 form a ring: 2 (line 27) has parent 7, 7 (line 33) has parent 2'),
+    ('accent 1  ', 'accent 1  parent 1  ', 'line 38: the pack is refused with 20', 'accent 1 (line 12) is its own parent'),
     ('weight 0.75', 'weight -0', 'line 16: the pack is refused with 5', 'at byte 368 (part 0 of rule 31)', 'weight is -0'),
     ('final yes  form mixture', 'final yes', 'line 16: the pack is refused with 5', 'weight is 0.75, not 1 in a single rule'),
     ('\nend\n', '\n', 'at the end of the text: the pack is refused with 2, cut short, at byte 915'),

@@ -101,7 +101,8 @@ def pack(args):
     refusal = programs.check('pack', data)
     if refusal:
         line = f'line {at_line[refusal.place]}' if refusal.place in at_line else 'at the end of the text'
-        raise Refused(args.file, f'{line}: the pack is {told(refusal, data, "pack")}', refusal)
+        words = told(refusal, data, 'pack', lambda record: f'line {at_line[record.offset]}')
+        raise Refused(args.file, f'{line}: the pack is {words}', refusal)
     written_back(args.file, data, text.write_pack(data))
     files.write(args.output, data)
     return 0

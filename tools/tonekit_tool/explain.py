@@ -5,8 +5,12 @@ from .layouts import FIRST, records, used
 from .show import title, value_words
 
 
-def told(refusal, data, of):
-    """The refusal in words, with the record at its place."""
+def at_byte(record):
+    return f'at byte {record.offset}'
+
+
+def told(refusal, data, of, where=at_byte):
+    """The refusal in words, with the record at its place; `where` says of another record where it stands."""
     found = records(data)
     at = next((i for i, record in enumerate(found) if record.offset == refusal.place), None)
     plainly = {1: misplaced, 2: cut_short, 3: overrun}.get(refusal.number)
@@ -15,7 +19,8 @@ def told(refusal, data, of):
         return refusal.words() + (f'; {more}' if more else '')
     if at is None or refusal.number not in FAULTS or found[at].values is None:
         return refusal.words()
-    faults = FAULTS[refusal.number](found, at)
+    others = [where] if refusal.number in (7, 20) else []
+    faults = FAULTS[refusal.number](found, at, *others)
     return refusal.words(title(found, at)) + (f'; by the table of layouts, {"; ".join(faults)}' if faults else '')
 
 
@@ -106,18 +111,48 @@ def held(found, name):
     return [r.values['number'] for r in found if r.kind and r.kind.name == name and r.values]
 
 
-def loose(found, at):
-    """Which fields name something that is not there."""
+def accents_in(found):
+    return [r for r in found if r.kind and r.kind.name == 'accent' and r.values]
+
+
+def loose(found, at, where=at_byte):
+    """Which fields name something that is not there: those of the record; at a pack's end those of its accents, the parents."""
+    at_end = found[at].kind.name == 'end'
     faults = []
-    for field in found[at].kind.fields:
-        number = found[at].values[field.name]
-        there = held(found[:at], 'accent') if field.refers == 'earlier accent' else held(found, field.refers)
-        if field.refers and number and number not in there:
-            faults.append(f'{field.word} is {number}, and the {field.refers}s are: {", ".join(map(str, there)) or "none"}')
+    for record in accents_in(found) if at_end else [found[at]]:
+        for field in record.kind.fields:
+            number, there = record.values[field.name], held(found, field.refers)
+            if field.refers and number and number not in there:
+                name = f'the {field.word} of accent {record.values["number"]} ({where(record)})' if at_end else field.word
+                faults.append(f'{name} is {number}, and the {field.refers}s are: {", ".join(map(str, there)) or "none"}')
     return faults
 
 
-FAULTS = {4: crowded, 5: off_scale, 6: doubled, 7: loose, 8: lambda found, at: [], 10: off_scale}
+def rings(parents):
+    """The chains of parents that come round, each once, by the numbers of its accents; of each accent its parent is given."""
+    found = []
+    for first in parents:
+        chain = [first]
+        while parents[chain[-1]] in parents and parents[chain[-1]] not in chain:
+            chain.append(parents[chain[-1]])
+        if parents[chain[-1]] == first and not any(first in ring for ring in found):
+            found.append(chain)
+    return found
+
+
+def endless(found, at, where=at_byte):
+    """Which accents lead back to themselves."""
+    accents = {record.values['number']: record for record in accents_in(found)}
+    faults = []
+    for ring in rings({number: record.values['parent'] for number, record in accents.items()}):
+        *many, last = ring
+        steps = [f'{number} ({where(accents[number])}) has parent {accents[number].values["parent"]}' for number in ring]
+        faults.append(f'accents {", ".join(map(str, many))} and {last} form a ring: {", ".join(steps)}' if many else
+                      f'accent {last} ({where(accents[last])}) is its own parent')
+    return faults
+
+
+FAULTS = {4: crowded, 5: off_scale, 6: doubled, 7: loose, 8: lambda found, at: [], 10: off_scale, 20: endless}
 
 
 def in_context(refusal, query, held_data):

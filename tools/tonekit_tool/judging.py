@@ -7,7 +7,7 @@ from .explain import in_context
 from .files import ENOUGH, Failed
 from .inputs import each, loaded, refuse, say, status_of
 from .layouts import records
-from .refusals import Refused
+from .refusals import PLACELESS, Refused
 
 
 class Progress:
@@ -94,12 +94,12 @@ def prepare(args, inputs):
 
 
 def record_of(name, query, answer, held=b''):
-    """The record of a query, or its refusal in words. What it was judged by loads, so up to 10 the query is at fault alone: its
-    own check must say the same."""
+    """The record of a query, or its refusal in words. What it was judged by loads, so where there is a place the query is at fault
+    alone: its own check must say the same."""
     record, refusal = answer
     if record:
         return record
-    if refusal.number > 10:
+    if refusal.number in PLACELESS:
         raise Refused(name, f'{refusal.words()}; {in_context(refusal, query, held)}', refusal)
     if programs.check('query', query) != refusal:
         raise Failed(f'{name}: the programs do not agree on it; one says: {refusal.words()}')

@@ -128,7 +128,7 @@ PACK = (
         *knots(6, ANY), *region(47)), most=8, rules=(REGION_ORDER,)),
     Kind(3, 'accent', 'pack', 19, (
         Field(1, 'u8', 'number', 'number', NUMBER),
-        Field(2, 'u8', 'parent', 'parent', names=NO_PARENT, default=0, refers='earlier accent'),
+        Field(2, 'u8', 'parent', 'parent', names=NO_PARENT, default=0, refers='accent'),
         *tolerances(3)), most=8),
     Kind(4, 'rule', 'pack', 7, (
         Field(1, 'u16', 'label', 'label'),

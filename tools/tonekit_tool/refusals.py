@@ -19,8 +19,9 @@ REFUSALS = {
     13: ('unknown tone', 'the tone before, or a tone asked for, is not held'),
     14: ('no realisation', 'some tone has no curve in this context'),
     15: ('bad variant', 'a weight is below 0 or not finite, or the weights sum to more than 1'),
+    20: ('endless chain', 'a chain of parents never ends'),
 }
-# From here on a refusal is of what the inputs say together, and has no place.
+# These are of what the inputs say together, and have no place.
 PLACELESS = range(11, 16)
 
 
