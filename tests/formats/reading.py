@@ -93,6 +93,8 @@ class Reader:
             record = self.data[self.at:self.at + layout.size]
             self.judge(layout, record)
             self.add(record)
+        if self.name == 'Pack':
+            self.judge_parents()
         if self.name == 'Sheet':
             self.judge_order()
         if self.at < len(self.data):
@@ -132,14 +134,24 @@ class Reader:
         return self.since >= (1 if self.formats.get(self.last(RULE), 'form') == 2 else self.formats.limit('RULE_PARTS'))
 
     def loose(self, field, value):
-        """Whether the field names a tone or an accent that is not there; a sheet's lists are judged at its end."""
+        """Whether the field names a tone or an accent that is not there; parents and a sheet's lists are judged at the end."""
         if '0 or a tone' in field.rules:
             return value not in [0, *self.tones()]
-        if '0 or an accent before it' in field.rules:
-            return value not in [0, *self.accents()]
         if 'not held' in field.otherwise:
             return value not in (self.tones() if field.name == 'tone' else self.accents())
         return False
+
+    def judge_parents(self):
+        """What a pack's end decides: 7 for a parent that is not there, then 20 for a chain of parents that does not end."""
+        end, naming = self.records[-1][0], self.formats.layouts[ACCENT].field('parent')
+        parents = {self.formats.get(record, 'number'): naming.values(record)[0] for record in self.of(ACCENT)}
+        if '0 or an accent' in naming.rules and any(parent not in [0, *parents] for parent in parents.values()):
+            raise Refused(last_number(naming), end)
+        for accent in parents:
+            for _ in parents:
+                accent = parents.get(accent, 0)
+            if accent:
+                raise Refused(20, end)
 
     def row(self, record):
         """Accent, tone and prev of a row, and its two lists."""

@@ -102,10 +102,10 @@ class Field:
 
 def allowed(rule, raw, value, form):
     """Whether a number keeps to one rule of a range."""
-    whole = re.fullmatch(r'([\d,]+)(?: (or|to) ([\d,]+))?', rule)
+    whole = re.fullmatch(r'([\d,]+)(?: to ([\d,]+))?(?: or ([\d,]+))?', rule)
     if whole:
-        low, high = number(whole[1]), number(whole[3] or whole[1])
-        return value in (low, high) if whole[2] == 'or' else low <= value <= high
+        low, high, other = (number(text or whole[1]) for text in whole.groups())
+        return low <= value <= high or value == other
     size = re.fullmatch(r'size at most ([\d,]+)', rule)
     if size:
         return abs(value) <= number(size[1])
@@ -123,7 +123,7 @@ def allowed(rule, raw, value, form):
         '1 unless the form is 3': form == 3 or value == 1,
         '0 in form 1': form != 1 or raw == 0,
         '0 or a tone': True,
-        '0 or an accent before it': True,
+        '0 or an accent': True,
         '0 or a list': True,
     }
     if rule not in simple:
