@@ -9,7 +9,7 @@ use Rattle.spec_arithmetic.specs.Narrow.{narrowed}
 use Rattle.spec_arithmetic.specs.Places.{index_of}
 use Rattle.spec_pack.specs.Ranges.{above_zero, probability_fine, knot_fine, weight_fine, slot_fine, knots_fine, region_fine, tolerances_fine}
 use Rattle.spec_arithmetic.specs.Files.{loaded}
-use Rattle.spec_pack.specs.Pack.{parts_from, PackRead, due_after, size_of, holds, zero_or_held, settings_verdict, tone_verdict, accent_verdict, rule_verdict, part_verdict, body_verdict, record_verdict, added, read_pack}
+use Rattle.spec_pack.specs.Pack.{parts_from, PackRead, due_after, size_of, holds, zero_or_held, settings_verdict, tone_verdict, accent_verdict, rule_verdict, part_verdict, body_verdict, record_verdict, added, parents_held, chain_ends, chains_end, end_verdict, read_pack}
 use Rattle.spec_lookup.specs.declared.Context.{Context}
 use Rattle.spec_lookup.specs.declared.Listing.{Listing}
 use Rattle.spec_arithmetic.specs.Position.{position}
@@ -71,7 +71,7 @@ abbrev read : PackRead
 read = record { last = 5; tones = 9 ∷ 65 ∷ []; accents = 121 ∷ 246 ∷ []; firsts = 0 ∷ 2 ∷ []; rules = 140 ∷ 193 ∷ 265 ∷ 364 ∷ []; parts = 1; total = 5 }
 
 reads : read_pack pack ≡ loaded read 418
-unfolding read_pack loop_to loop_on record_verdict body_verdict settings_verdict tone_verdict accent_verdict rule_verdict part_verdict due_after size_of holds zero_or_held added above_zero probability_fine knot_fine weight_fine slot_fine knots_fine region_fine tolerances_fine range turns of_bits le lt
+unfolding read_pack loop_to loop_on record_verdict body_verdict settings_verdict tone_verdict accent_verdict rule_verdict part_verdict due_after size_of holds zero_or_held added parents_held chain_ends chains_end end_verdict index_of range_to turns_to above_zero probability_fine knot_fine weight_fine slot_fine knots_fine region_fine tolerances_fine range turns of_bits le lt
 reads = refl
 
 context : ℕ → ℕ → ℕ → Bool → Context
@@ -104,6 +104,24 @@ inherited = refl
 contextual : look_up pack read (context 3 2 2 false) ≡ None
 unfolding context look_up find_rule climb_turn best_rule better_of matches meets specificity index_of range_to turns_to loop_to loop_on range turns parts_from
 contextual = refl
+
+-- "A parent may now be any accent of the file": accent 3 before accent 5, whose rule it takes, under 5
+abbrev child_first : List ℕ
+child_first =
+    (1 ∷ one) ++ (one
+    ++ ((2 ∷ 1 ∷ one) ++ (knots ++ (no_region
+    ++ ((3 ∷ 3 ∷ 5 ∷ one) ++ (one ++ (one ++ (one
+    ++ ((3 ∷ 5 ∷ 0 ∷ one) ++ (one ++ (one ++ (one
+    ++ ((4 ∷ 7 ∷ 0 ∷ 1 ∷ 0 ∷ 2 ∷ 2 ∷ []) ++ (part
+    ++ (6 ∷ [])))))))))))))))
+
+abbrev read_first : PackRead
+read_first = record { last = 5; tones = 9 ∷ []; accents = 65 ∷ 84 ∷ []; firsts = 0 ∷ 0 ∷ []; rules = 103 ∷ []; parts = 1; total = 1 }
+
+parent_behind : (read_pack child_first ≡ loaded read_first 157)
+    × (look_up child_first read_first (context 3 1 0 true) ≡ Some (record { name = record { owner = 5; form = 2; label = 7 }; at = 110; count = 1 }))
+unfolding context read_pack record_verdict body_verdict settings_verdict tone_verdict accent_verdict rule_verdict part_verdict due_after size_of holds zero_or_held added parents_held chain_ends chains_end end_verdict above_zero probability_fine knot_fine weight_fine slot_fine knots_fine region_fine tolerances_fine of_bits le lt look_up find_rule climb_turn best_rule better_of matches meets specificity index_of range_to turns_to loop_to loop_on range turns parts_from
+parent_behind = (refl, refl)
 
 -- an accent and a tone that are not held
 no_accent : look_up pack read (context 4 1 0 false) ≡ None

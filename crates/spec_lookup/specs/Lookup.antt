@@ -1,12 +1,12 @@
 -- Document 01's section Lookup, on a pack that was read: which curves a context takes. Names follow `expect.rs`.
 use Rattle.std.specs.Prelude.{ℕ, ◌+◌, ◌*◌, Bool, true, cond, ◌&&◌, ◌||◌, List, Option, Some, None, eqb, ltb, length, get_or, Float}
 use Rattle.tonekit_core.specs.Loop.{Turn, next, stop, range, loop_to}
-use Rattle.tonekit_core.specs.declared.layout.TheConstants.{CITATION_FORM, MIXTURE_FORM, ACCENT_PARENT, RULE_SIZE, RULE_LABEL, RULE_TONE, RULE_PREV, RULE_FINAL, RULE_FORM}
+use Rattle.tonekit_core.specs.declared.layout.TheConstants.{CITATION_FORM, MIXTURE_FORM, RULE_SIZE, RULE_LABEL, RULE_TONE, RULE_PREV, RULE_FINAL, RULE_FORM}
 use Rattle.tonekit_core.specs.declared.layout.TheConstants.{TONE_KNOT_COUNT, TONE_KNOTS, PART_SIZE, PART_WEIGHT, PART_KNOT_COUNT, PART_KNOTS}
 use Rattle.spec_arithmetic.specs.Fields.{byte_at, u16_at, f32_at}
 use Rattle.spec_arithmetic.specs.Places.{number_at, index_of}
 use Rattle.spec_arithmetic.specs.Constants.{one32}
-use Rattle.spec_pack.specs.Pack.{PackRead, parts_from}
+use Rattle.spec_pack.specs.Pack.{PackRead, parent_of, parts_from}
 use Rattle.spec_lookup.specs.Knots.{knots_at, expanded}
 use Rattle.spec_lookup.specs.declared.Winner.{Winner}
 use Rattle.spec_lookup.specs.declared.Context.{Context}
@@ -54,7 +54,7 @@ to_parent (Some j) = next j
 
 abbrev pub or_parent : List ℕ → PackRead → ℕ → Option ℕ → Turn ℕ (Option Winner)
 or_parent s st i (Some r) = stop (Some (record { accent = i; rule = r }))
-or_parent s st i None = to_parent (index_of s st.accents (byte_at s (get_or st.accents i 0 + ACCENT_PARENT)))
+or_parent s st i None = to_parent (parent_of s st i)
 
 unfoldable pub climb_turn : List ℕ → PackRead → Context → ℕ → Turn ℕ (Option Winner)
 climb_turn s st c i = or_parent s st i (best_rule s st c i)
