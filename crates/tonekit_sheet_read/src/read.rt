@@ -165,7 +165,7 @@ impl SheetView<'_> {
     }
 
     // An accent: number, tolerances. Its order waits for the end.
-    // Stays: beside tonekit_pack's, which tests a parent too; one for both would take the places of all fields as arguments.
+    // Stays: beside tonekit_pack's; one for both would take the tolerances' place, and how accents are held, as arguments.
     #[tactic(auto, using(tonekit_bytes::proofs::Stepped::stepped_length), unfolding(spec_sheet::specs::Reader::accent_verdict))]
     fn accent_verdict(&self, o: usize) -> Result<(), Refusal>
         requires { o + SHEET_ACCENT_SIZE ≤ length self.now.bytes.now }
