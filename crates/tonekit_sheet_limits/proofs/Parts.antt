@@ -7,7 +7,7 @@ use Rattle.spec_arithmetic.specs.Fields.{byte_at}
 use Rattle.spec_arithmetic.specs.Files.{loaded}
 use Rattle.spec_pack.specs.Pack.{PackRead, size_of, body_verdict, added, parts_from, pack_reader, read_pack}
 use Rattle.tonekit_core.proofs.Split.{split}
-use Rattle.tonekit_pack.proofs.Records.{Due, settings, tone, accent, rule, part, finish, part_room, sound}
+use Rattle.tonekit_pack.proofs.Records.{Due, settings, tone, accent, rule, part, finish, part_room, sound, end_loads}
 use Rattle.tonekit_pack.proofs.Loads.{loads, parts_miss}
 use Rattle.tonekit_expect.proofs.Parts.{parts_hit}
 use Rattle.tonekit_bytes.proofs.Files.{read_keeps, same_loaded}
@@ -59,7 +59,7 @@ unfolding read_pack sum_to
 parts_counted s st e h =
     read_keeps pack_reader s st e (Counted s)
     (λ f at x c v n g. let ok = sound s at x v in count s at x ok.due refl ok.body n c)
-    (λ at x c v k g. rw (← (same_loaded x st (at + 1) e g).0) (all_counted s at x (λ q. omega arith) c))
+    (λ at x c v k g. rw (← (same_loaded x st (at + 1) e (end_loads s x at e st g).1).0) (all_counted s at x (λ q. omega arith) c))
     h (record { open_rule = λ q. absurd (omega arith); closed = λ q. refl })
 
 pub few_parts : (s : List ℕ) (st : PackRead) (e : ℕ) → read_pack s ≡ loaded st e → parts_in s st.rules ≤ 128
