@@ -1,16 +1,15 @@
--- The records of a pack whose blocks stand in another order: they read if those of the one do (`reads_alike`), no two accents have one number (`blocks_differ`), and
--- End stands at the same offset (`end_alike`). Assumes nothing.
-use Rattle.std.proofs.Common.{ℕ, ◌+◌, ◌≤◌, ◌<◌, ◌≡◌, refl, sym, ◌∙◌, ap, subst, inl, inr, ⊎_elim, true, List, [], ◌∷◌, ◌++◌, arith, length, length-append}
+-- The records of a pack whose blocks stand in another order: they read if those of the one do (`reads_alike`), no two accents have one number
+-- (`blocks_differ`), and End stands at the same offset (`end_alike`). Assumes nothing.
+use Rattle.std.proofs.Common.{ℕ, ◌+◌, ◌≡◌, refl, ◌∙◌, ap, inl, inr, ⊎_elim, true, List, [], ◌∷◌, ◌++◌, arith, length, length-append}
 use Rattle.std.specs.Prelude.{All, AllPairs, IsPermutation, sum_by}
 use Rattle.std.proofs.lemmas.List.Elements.{All-head, All-tail}
 use Rattle.std.proofs.lemmas.List.Sums.{sum_by-cons}
 use Rattle.std.proofs.lemmas.List.Sorted.{All-permutation, sum_by-IsPermutation, length_permutation}
-use Rattle.spec_arithmetic.specs.Places.{number_at}
 use Rattle.spec_pack.specs.Pack.{due_after}
 use Rattle.tonekit_records.specs.Records.{Tally, no_tally, kind, tallied, ReadsOn, none, more, records_bytes}
 use Rattle.tonekit_any_order.specs.Layout.{Block, Layout, blocks_records, layout_records, end_offset, IsOfKind, IsBlock, IsLayout}
 use Rattle.tonekit_any_order.proofs.Differ.{Differ}
-use Rattle.tonekit_any_order.proofs.Blocks.{number_of, Step, step, parted, joined, first_due, FineBlocks, blocks_fine, BlocksRead, blocks_read, fine_in_order}
+use Rattle.tonekit_any_order.proofs.Blocks.{number_of, step, parted, joined, first_due, FineBlocks, blocks_fine, blocks_read, fine_in_order}
 
 -- ---- settings and tones count no accent, rule or part
 record CountsAs (t v : Tally) : Type 0 where
@@ -51,7 +50,9 @@ block_size b = length b.accent + length (records_bytes b.rules)
 blocks_size : (bs : List Block) → length (records_bytes (blocks_records bs)) ≡ sum_by block_size bs
 unfolding records_bytes blocks_records
 blocks_size [] = refl
-blocks_size (b ∷ bs) = omega (arith, length-append b.accent (records_bytes (b.rules ++ blocks_records bs)), append_size b.rules (blocks_records bs), blocks_size bs, sum_by-cons block_size b bs)
+blocks_size (b ∷ bs) =
+    let front = length-append b.accent (records_bytes (b.rules ++ blocks_records bs)) in
+    omega (arith, front, append_size b.rules (blocks_records bs), blocks_size bs, sum_by-cons block_size b bs)
 
 -- ---- the blocks behind settings and tones
 module _ (p : Layout) (is : IsLayout p) (x : Reads (layout_records p)) where
@@ -88,4 +89,6 @@ module _ (p : Layout) (other : List Block) (is : IsLayout p) (order : IsPermutat
   unfolding records_bytes
   end_alike =
       let same = sum_by-IsPermutation block_size p.blocks other order in
-      omega (arith, length-append p.settings (records_bytes (p.tones ++ blocks_records p.blocks)), length-append p.settings (records_bytes (p.tones ++ blocks_records other)), append_size p.tones (blocks_records p.blocks), append_size p.tones (blocks_records other), blocks_size p.blocks, blocks_size other, same)
+      let one = length-append p.settings (records_bytes (p.tones ++ blocks_records p.blocks)) in
+      let two = length-append p.settings (records_bytes (p.tones ++ blocks_records other)) in
+      omega (arith, one, two, append_size p.tones (blocks_records p.blocks), append_size p.tones (blocks_records other), blocks_size p.blocks, blocks_size other, same)

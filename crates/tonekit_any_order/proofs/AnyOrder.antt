@@ -1,37 +1,37 @@
--- "A pack whose accents, each with its rules, are written in any other order gives the same sheet; and if one loads, so does the other" (`loads_alike`, `same_sheet`,
--- `same_lookups`); what is turned back at End with 7 or 20 is turned back so in any order (`refused_alike`), and so what is made of them is the same
--- (`same_outcome`). Assumes nothing.
-use Rattle.std.proofs.Common.{ℕ, ◌+◌, ◌≤◌, ◌<◌, ◌≡◌, refl, sym, ◌∙◌, ap, subst, ◌⊎◌, inl, inr, ⊎_elim, true, false, cond, List, [], ◌∷◌, ◌++◌, map, arith, ltb, le-ltb, length, length-append}
+-- "A pack whose accents, each with its rules, are written in any other order gives the same sheet" (`same_sheet`, `same_lookups`), and if one loads, so does the
+-- other (`loads_alike`). What is turned back at End with 7 or 20 is turned back so in any order (`refused_alike`), and so what is made of them is the same
+-- (`same_outcome`, `same_answer`). Assumes nothing.
+use Rattle.std.proofs.Common.{ℕ, ◌+◌, ◌≤◌, ◌≡◌, refl, sym, ◌∙◌, ap, subst, ⊎_elim, List, [], ◌∷◌, ◌++◌, map, arith, ltb, le-ltb, length, length-append}
 use Rattle.std.specs.Prelude.{Result, Ok, Err, All, AllPairs, IsPermutation}
 use Rattle.std.proofs.lemmas.List.Elements.{All-head, All-tail}
-use Rattle.std.proofs.lemmas.List.Sorted.{IsPermutation-map}
+use Rattle.std.proofs.lemmas.List.Sorted.{IsPermutation-map, IsPermutation-sym}
 use Rattle.tonekit_core.specs.declared.Refusal.{Refusal}
 use Rattle.tonekit_core.specs.declared.Refusal.TheVariants.{Misplaced, Overrun, Loose, Endless}
-use Rattle.tonekit_core.specs.Calls.{written}
+use Rattle.tonekit_core.specs.Calls.{written, answer_in, buffer_after}
 use Rattle.tonekit_core.proofs.Split.{split}
 use Rattle.spec_arithmetic.specs.Files.{Out, loaded, refused, single_file}
 use Rattle.spec_pack.specs.Pack.{PackRead, size_of, end_verdict, ended, pack_reader, read_pack, load_pack}
 use Rattle.spec_lookup.specs.declared.Context.{Context}
-use Rattle.spec_lookup.specs.Source.{settings_at, source_of_pack}
+use Rattle.spec_lookup.specs.Source.{source_of_pack}
 use Rattle.spec_sheet.specs.Sheet.{sheet}
-use Rattle.spec_sheet.specs.Outcome.{sheet_of, sheet_outcome}
+use Rattle.spec_sheet.specs.Outcome.{sheet_outcome}
 use Rattle.tonekit_bytes.proofs.Files.{by_verdict, not_loaded, same_loaded}
 use Rattle.tonekit_pack.proofs.Single.{loads_alone}
 use Rattle.tonekit_records.specs.Records.{no_tally, kind, records_bytes, added_all}
 use Rattle.tonekit_records.proofs.Loading.{reads_end}
 use Rattle.tonekit_records.proofs.Comes.{WholeRecords, Comes, reads, stops, comes}
-use Rattle.tonekit_book.specs.Book.{BookAccent, Book, look_in, source_of, ending_of, book_of}
-use Rattle.tonekit_book.specs.Groups.{tone_of_record, book_of_records}
+use Rattle.tonekit_book.specs.Book.{Book, look_in, source_of, ending_of, book_of}
+use Rattle.tonekit_book.specs.Groups.{book_of_records}
 use Rattle.tonekit_book.proofs.PackSource.{look_same}
 use Rattle.tonekit_book.proofs.SameBook.{pack_sheet}
 use Rattle.tonekit_book.proofs.BookOfRecords.{book_of_records_lem}
 use Rattle.tonekit_book.proofs.Ending.{records_ending}
 use Rattle.tonekit_any_order.specs.Layout.{Block, Layout, blocks_records, layout_records, end_offset, layout_bytes, IsOfKind, IsRuleOrPart, IsBlock, IsLayout, InOtherOrder}
-use Rattle.tonekit_any_order.specs.AnyOrder.{LoadsAlike, SameSheet, SameLookups, OfParents, RefusedAlike, ComesToEnd, loads, turned_back, SameOutcome}
+use Rattle.tonekit_any_order.specs.AnyOrder.{OtherWay, LoadsAlike, SameSheet, SameLookups, OfParents, RefusedAlike, ComesToEnd, loads, turned_back, SameOutcome, SameAnswer}
 use Rattle.tonekit_any_order.proofs.Differ.{Differ, differ_map}
 use Rattle.tonekit_any_order.proofs.Alike.{Reads, blocks_differ, turned, turned_is, reads_alike, end_alike}
 use Rattle.tonekit_any_order.proofs.BookOrder.{number, same_ending, same_looks}
-use Rattle.tonekit_any_order.proofs.Books.{accent_of_block, layout_book}
+use Rattle.tonekit_any_order.proofs.Books.{accent_of_block, book_of_layout, layout_book}
 use Rattle.tonekit_any_order.proofs.OneSheet.{one_sheet}
 
 -- ---- the records of a pack as it is written are whole, and none of them is End
@@ -130,29 +130,28 @@ module _ (p : Layout) (other : List Block) (is : IsLayout p) (order : IsPermutat
   both_end v e =
       let there : end_offset q ≡ end_offset p = sym (end_alike p other is order) in (
         answer p is x ∙ ap (ended (end_offset p) (all p is)) e,
-        answer q is-q y ∙ ap (λ (n : ℕ). ended n (all q is-q) (end_verdict (bytes q is-q) (all q is-q))) there ∙ ap (ended (end_offset p) (all q is-q)) (sym verdict_same ∙ e),
+        answer q is-q y ∙ ap (λ (n : ℕ). ended n (all q is-q) (end_verdict (bytes q is-q) (all q is-q))) there
+            ∙ ap (ended (end_offset p) (all q is-q)) (sym verdict_same ∙ e),
       )
 
   -- books, where both load
   module _ (a b : PackRead) (d e : ℕ) (h : read_pack (bytes p is) ≡ loaded a d) (k : read_pack (bytes q is-q) ≡ loaded b e) where
-    one_book : book_of (bytes p is) a ≡ record { settings = settings_at p.settings 0; tones = map tone_of_record p.tones; accents = map accent_of_block p.blocks }
+    one_book : book_of (bytes p is) a ≡ book_of_layout p
     one_book = its_book p is x a d h ∙ layout_book p is
 
-    other_book : book_of (bytes q is-q) b ≡ record { settings = settings_at p.settings 0; tones = map tone_of_record p.tones; accents = map accent_of_block other }
+    other_book : book_of (bytes q is-q) b ≡ book_of_layout q
     other_book = its_book q is-q y b e k ∙ layout_book q is-q
 
     books_sheet : sheet (source_of_pack (bytes p is) a) ≡ sheet (source_of_pack (bytes q is-q) b)
     books_sheet =
         pack_sheet (bytes p is) a ∙ ap (λ (z : Book). sheet (source_of z)) one_book
-        ∙ one_sheet (record { settings = settings_at p.settings 0; tones = map tone_of_record p.tones; accents = map accent_of_block p.blocks })
-        (record { settings = settings_at p.settings 0; tones = map tone_of_record p.tones; accents = map accent_of_block other }) refl refl accents_order accents_differ
+        ∙ one_sheet (book_of_layout p) (book_of_layout q) refl refl accents_order accents_differ
         ∙ sym (pack_sheet (bytes q is-q) b ∙ ap (λ (z : Book). sheet (source_of z)) other_book)
 
     books_look : (c : Context) → (source_of_pack (bytes p is) a).look c ≡ (source_of_pack (bytes q is-q) b).look c
     books_look c =
         look_same (bytes p is) a c ∙ ap (λ (z : Book). look_in z c) one_book
-        ∙ same_looks (record { settings = settings_at p.settings 0; tones = map tone_of_record p.tones; accents = map accent_of_block p.blocks })
-        (record { settings = settings_at p.settings 0; tones = map tone_of_record p.tones; accents = map accent_of_block other }) refl refl accents_order accents_differ c
+        ∙ same_looks (book_of_layout p) (book_of_layout q) refl refl accents_order accents_differ c
         ∙ sym (look_same (bytes q is-q) b c ∙ ap (λ (z : Book). look_in z c) other_book)
 
 -- ---- over the bytes
@@ -173,9 +172,11 @@ module _ (s t : List ℕ) (x : InOtherOrder s t) where
       let end = both_end p x.other x.is_layout x.order r in
       let other = turned p x.other x.is_layout x.order in
       let is-other = turned_is p x.other x.is_layout x.order in
+      let one-reads = ap read_pack x.one_is in
+      let other-reads = ap read_pack x.other_is in
       by_verdict (end_verdict (bytes p x.is_layout) (all p x.is_layout))
-      (λ v. both_load (all p x.is_layout) (all other is-other) (end_offset p + 1) (ap read_pack x.one_is ∙ (end (Ok tt) v).0) (ap read_pack x.other_is ∙ (end (Ok tt) v).1))
-      (λ w v. both_refused w (end_offset p) (ap read_pack x.one_is ∙ (end (Err w) v).0) (ap read_pack x.other_is ∙ (end (Err w) v).1))
+      (λ v. both_load (all p x.is_layout) (all other is-other) (end_offset p + 1) (one-reads ∙ (end (Ok tt) v).0) (other-reads ∙ (end (Ok tt) v).1))
+      (λ w v. both_refused w (end_offset p) (one-reads ∙ (end (Err w) v).0) (other-reads ∙ (end (Err w) v).1))
 
   as_long : length s ≡ length t
   as_long =
@@ -188,6 +189,16 @@ module _ (s t : List ℕ) (x : InOtherOrder s t) where
         length-append (records_bytes (layout_records other)) (6 ∷ p.behind),
         end_alike p x.other x.is_layout x.order,
       )
+
+pub other_way : OtherWay
+other_way s t x = record {
+  layout = record x.layout { blocks = x.other };
+  other = x.layout.blocks;
+  is_layout = turned_is x.layout x.other x.is_layout x.order;
+  order = IsPermutation-sym x.layout.blocks x.other x.order;
+  one_is = x.other_is;
+  other_is = x.one_is;
+}
 
 -- if one loads, so does the other
 one_loads : (s t : List ℕ) (st : PackRead) (e : ℕ) → read_pack s ≡ loaded st e → Both s t → (fin : PackRead) × (read_pack t ≡ loaded fin e)
@@ -251,7 +262,8 @@ refused_alone_alike s t x r of h =
     ap (single_file t) (refused_alike s t x r of (alone_refused s (read_pack s) r (end_offset x.layout) (not_overrun r of) h))
 
 -- what is made of them
-out_same : (s t : List ℕ) → length s ≡ length t → ((a b : PackRead) (d e : ℕ) → read_pack s ≡ loaded a d → read_pack t ≡ loaded b e → sheet (source_of_pack s a) ≡ sheet (source_of_pack t b))
+out_same : (s t : List ℕ) → length s ≡ length t
+    → ((a b : PackRead) (d e : ℕ) → read_pack s ≡ loaded a d → read_pack t ≡ loaded b e → sheet (source_of_pack s a) ≡ sheet (source_of_pack t b))
     → Both s t → sheet_outcome s ≡ sheet_outcome t
 unfolding sheet_outcome load_pack
 out_same s t l f (both_load a b e h k) =
@@ -261,3 +273,6 @@ out_same s t l f (both_refused r place h k) = rw (h, k)
 
 pub same_outcome : SameOutcome
 same_outcome s t x c = out_same s t (as_long s t x) (same_sheet s t x) (both s t x c)
+
+pub same_answer : SameAnswer
+same_answer s t x c held = let e = same_outcome s t x c in (ap (answer_in (length held)) e, ap (buffer_after held) e)

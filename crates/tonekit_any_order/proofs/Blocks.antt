@@ -1,8 +1,8 @@
 -- Accents with their rules read one after the other exactly if each reads by itself, their numbers are new and differ, and there is room for all of them
 -- (`blocks_fine`, `blocks_read`). None of that turns on their order (`fine_in_order`). Assumes nothing.
-use Rattle.std.proofs.Common.{ℕ, suc, ◌+◌, ◌≤◌, ◌<◌, ◌≡◌, refl, sym, ◌∙◌, ap, subst, ◌⊎◌, inl, inr, ⊎_elim, true, false, ◌||◌, List, [], ◌∷◌, ◌++◌, arith, eqb, eqb-true, eq-eqb, ne_eqb, length, get_or, length-append}
+use Rattle.std.proofs.Common.{ℕ, suc, ◌+◌, ◌≤◌, ◌<◌, ◌≡◌, refl, sym, ◌∙◌, ap, subst, ◌⊎◌, inl, inr, ⊎_elim, true, false, ◌||◌, List, [], ◌∷◌, ◌++◌, arith, eqb, eqb-true, length, get_or, length-append}
 use Rattle.std.specs.Prelude.{Ok, All, AllPairs, IsPermutation, sum_by}
-use Rattle.std.proofs.lemmas.List.Elements.{All-nil, All-cons, All-head, All-tail, All-weaker}
+use Rattle.std.proofs.lemmas.List.Elements.{All-nil, All-cons, All-head, All-tail}
 use Rattle.std.proofs.lemmas.List.Kept.{AllPairs-cons}
 use Rattle.std.proofs.lemmas.List.Sums.{sum_by-cons}
 use Rattle.std.proofs.lemmas.List.Sorted.{All-permutation, sum_by-IsPermutation, length_permutation}
@@ -177,7 +177,8 @@ blocks_read (b ∷ bs) w t d e f =
     let is = All-head IsBlock b bs w in
     let k = is.accent.begins in
     let own = All-head (FineBlock t.tones) b bs f.each in
-    let fine = accent_gets b.accent t k d (record { room = omega (arith, f.few); ranges = own.ranges; new = All-head (λ a. among t.accents (number_of a) ≡ false) b bs f.new }) in
+    let new = All-head (λ a. among t.accents (number_of a) ≡ false) b bs f.new in
+    let fine = accent_gets b.accent t k d (record { room = omega (arith, f.few); ranges = own.ranges; new = new }) in
     let ru = sum_by-cons rules_in b bs in
     let pa = sum_by-cons parts_in b bs in
     let m = moved b.rules is.rules (from_bare b.accent t) own.reads (omega (arith, f.rules, ru)) (omega (arith, f.parts, pa)) in

@@ -8,9 +8,9 @@ use Rattle.std.proofs.lemmas.List.Sorted.{All-permutation, Contains-permutation,
 use Rattle.tonekit_core.specs.declared.Refusal.TheVariants.{Loose, Endless}
 use Rattle.tonekit_core.proofs.Split.{split, both, absurd_bool}
 use Rattle.spec_lookup.specs.declared.Context.{Context}
-use Rattle.spec_lookup.specs.Source.{Accent, Carried, accent_in}
+use Rattle.spec_lookup.specs.Source.{Accent, accent_in}
 use Rattle.tonekit_records.specs.Records.{among, zero_or_among}
-use Rattle.tonekit_book.specs.Book.{BookAccent, BookTone, Book, first_with, book_accent_in, book_tone_in, best_of, given_or, from_parent, climb, or_citation, look_with, look_in, source_of, accent_numbers, accent_parents, parents_among, or_reaches, reaches_end, all_reach_end, ending_of}
+use Rattle.tonekit_book.specs.Book.{BookAccent, BookTone, Book, first_with, book_accent_in, book_tone_in, best_of, given_or, from_parent, climb, or_citation, look_with, look_in, accent_numbers, accent_parents, parents_among, or_reaches, reaches_end, all_reach_end, ending_of}
 use Rattle.tonekit_any_order.proofs.Differ.{Differ, differ_in_order, differ_rest}
 
 abbrev pub number : BookAccent → ℕ
@@ -149,14 +149,16 @@ module _ (l m : List BookAccent) (order : IsPermutation l m) (differ : AllPairs 
   same_ending = λ i. cond (not (parents_same i)) (Err Loose) (cond (not (chains_same i)) (Err Endless) (Ok tt))
 
   -- ---- lookups
-  parent_same : (c : Context) (n : ℕ) → ((a : BookAccent) → climb l c n a ≡ climb m c n a) → (o : Option BookAccent) → from_parent (climb l c n) o ≡ from_parent (climb m c n) o
+  parent_same : (c : Context) (n : ℕ) → ((a : BookAccent) → climb l c n a ≡ climb m c n a) → (o : Option BookAccent)
+      → from_parent (climb l c n) o ≡ from_parent (climb m c n) o
   parent_same c n h none = refl
   parent_same c n h (some a) = h a
 
   climb_same : (c : Context) (n : ℕ) (a : BookAccent) → climb l c n a ≡ climb m c n a
   unfolding climb
   climb_same c zero a = refl
-  climb_same c (suc n) a = ap (given_or (best_of c a.rules)) (parent_same c n (climb_same c n) (book_accent_in l a.parent) ∙ ap (from_parent (climb m c n)) (same_found a.parent))
+  climb_same c (suc n) a =
+      ap (given_or (best_of c a.rules)) (parent_same c n (climb_same c n) (book_accent_in l a.parent) ∙ ap (from_parent (climb m c n)) (same_found a.parent))
 
   with_same : (c : Context) (a : Option BookAccent) (t : Option BookTone) → look_with l c a t ≡ look_with m c a t
   with_same c none t = refl
@@ -174,7 +176,8 @@ accent_of [] n = refl
 accent_of (a ∷ l) n = split (eqb (number a) n) (λ t. rw t) (λ t. rw t (accent_of l n))
 
 -- ---- two books that differ in the order of their accents alone
-module _ (a b : Book) (settings : a.settings ≡ b.settings) (tones : a.tones ≡ b.tones) (order : IsPermutation a.accents b.accents) (differ : AllPairs (Differ number) a.accents) where
+module _ (a b : Book) (settings : a.settings ≡ b.settings) (tones : a.tones ≡ b.tones) (order : IsPermutation a.accents b.accents)
+    (differ : AllPairs (Differ number) a.accents) where
   pub same_looks : (c : Context) → look_in a c ≡ look_in b c
   unfolding look_in
   same_looks c =

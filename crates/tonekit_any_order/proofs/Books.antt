@@ -1,5 +1,5 @@
 -- The book of a pack as it is written: its settings, its tones, and an accent for each block (`layout_book`). Assumes nothing.
-use Rattle.std.proofs.Common.{ℕ, ◌≡◌, refl, ◌∙◌, ap, ap₂, cond, ⊎_elim, List, [], ◌∷◌, ◌++◌, map, append-nil, eqb}
+use Rattle.std.proofs.Common.{ℕ, ◌≡◌, refl, ◌∙◌, ap, ⊎_elim, List, [], ◌∷◌, ◌++◌, map, append-nil}
 use Rattle.std.specs.Prelude.{All}
 use Rattle.std.proofs.lemmas.List.Elements.{All-head, All-tail}
 use Rattle.spec_lookup.specs.Source.{settings_at}
@@ -70,6 +70,9 @@ unfolding tone_records
 settings_tones r ys k = rw k
 
 -- ---- together
+abbrev pub book_of_layout : Layout → Book
+book_of_layout p = record { settings = settings_at p.settings 0; tones = map tone_of_record p.tones; accents = map accent_of_block p.blocks }
+
 module _ (p : Layout) (is : IsLayout p) where
   abbrev front : List (List ℕ)
   front = p.tones ++ blocks_records p.blocks
@@ -77,14 +80,15 @@ module _ (p : Layout) (is : IsLayout p) where
   accents_are : map accent_of_group (grouped (layout_records p)).accents ≡ map accent_of_block p.blocks
   accents_are =
       ap (map accent_of_group)
-      (settings_grouped p.settings front is.settings.begins ∙ tones_grouped p.tones (blocks_records p.blocks) is.tones ∙ ap (λ (g : Groups). g.accents) (blocks_grouped p.blocks is.blocks))
+      (settings_grouped p.settings front is.settings.begins ∙ tones_grouped p.tones (blocks_records p.blocks) is.tones
+      ∙ ap (λ (g : Groups). g.accents) (blocks_grouped p.blocks is.blocks))
       ∙ map_groups p.blocks
 
   tones_are : tone_records (layout_records p) ≡ p.tones
   tones_are =
-      settings_tones p.settings front is.settings.begins ∙ all_tones p.tones (blocks_records p.blocks) is.tones ∙ ap (λ l. p.tones ++ l) (blocks_tones p.blocks is.blocks)
-      ∙ append-nil p.tones
+      settings_tones p.settings front is.settings.begins ∙ all_tones p.tones (blocks_records p.blocks) is.tones
+      ∙ ap (λ l. p.tones ++ l) (blocks_tones p.blocks is.blocks) ∙ append-nil p.tones
 
-  pub layout_book : book_of_records (layout_records p) ≡ record { settings = settings_at p.settings 0; tones = map tone_of_record p.tones; accents = map accent_of_block p.blocks }
+  pub layout_book : book_of_records (layout_records p) ≡ book_of_layout p
   unfolding book_of_records
   layout_book = λ i. record { settings = settings_at p.settings 0; tones = map tone_of_record (tones_are i); accents = accents_are i }

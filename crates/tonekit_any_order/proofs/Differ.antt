@@ -1,5 +1,5 @@
 -- Lists in which no two have one number: in another order they still do, and so does a list made of them. Assumes nothing.
-use Rattle.std.proofs.Common.{ℕ, zero, suc, ◌<◌, ◌≡◌, sym, ◌∙◌, Bool, false, List, [], ◌∷◌, map, arith, eqb, eqb-true, eq-eqb, ne_eqb, length}
+use Rattle.std.proofs.Common.{ℕ, suc, ◌≡◌, sym, ◌∙◌, false, List, [], ◌∷◌, map, arith, eqb, eqb-true, eq-eqb, ne_eqb}
 use borrow.Author.Tests.{eqb-false}
 use Rattle.std.specs.Prelude.{AllPairs, IsPermutation}
 use Rattle.std.proofs.lemmas.List.Elements.{All-map}

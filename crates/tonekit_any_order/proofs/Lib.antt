@@ -6,3 +6,4 @@ pub mod BookOrder
 pub mod Books
 pub mod OneSheet
 pub mod AnyOrder
+pub mod Every

@@ -1,5 +1,5 @@
--- An accent's rules with their parts read after one tally as they do after another that holds the same tones and leaves them room (`moved`); what reading them adds
--- (`counted`). Assumes nothing.
+-- An accent's rules with their parts read after one tally as they do after another that holds the same tones and leaves them room (`moved`); what reading
+-- them adds (`counted`). Assumes nothing.
 use Rattle.std.proofs.Common.{ℕ, suc, ◌+◌, ◌≤◌, ◌<◌, ◌≡◌, refl, sym, ◌∙◌, ap, subst, ⊎_elim, Bool, true, false, cond, ◌&&◌, ◌||◌, List, [], ◌∷◌, ◌++◌, arith, eqb, leb, ltb, eqb-true, leb-false, length}
 use borrow.Author.Tests.{lt-leb, not-true}
 use Rattle.std.proofs.lemmas.List.Elements.{All-head, All-tail}
@@ -177,7 +177,8 @@ part_late : (l : ℕ) → due_after l 5 ≡ true → 4 ≤ l
 unfolding due_after
 part_late l d = either (eqb l 4) (eqb l 5) d (λ t. omega (arith, eqb-true l 4 t)) (λ t. omega (arith, eqb-true l 5 t))
 
-pub moved : (rs : List (List ℕ)) → All IsRuleOrPart rs → {t s v : Tally} → Beside t s → ReadsOn t rs v → s.rules + how_many 4 rs ≤ 64 → s.total + how_many 5 rs ≤ 128 → Moved s v rs
+pub moved : (rs : List (List ℕ)) → All IsRuleOrPart rs → {t s v : Tally} → Beside t s → ReadsOn t rs v
+    → s.rules + how_many 4 rs ≤ 64 → s.total + how_many 5 rs ≤ 128 → Moved s v rs
 unfolding how_many
 moved [] b {t} {s} x none p q = record { tally = s; reads = none; beside = x }
 moved (r ∷ rs) b {t} {s} {v} x (more w n fine y) p q =

@@ -1,5 +1,5 @@
 -- Two books that differ in the order of their accents alone have one sheet (`one_sheet`). Assumes nothing.
-use Rattle.std.proofs.Common.{◌≡◌, sym, ◌∙◌, ap, List, map}
+use Rattle.std.proofs.Common.{◌≡◌, sym, ◌∙◌, ap, map}
 use Rattle.std.specs.Prelude.{AllPairs, IsPermutation}
 use Rattle.spec_sheet.specs.Agree.{Agree}
 use Rattle.spec_sheet.specs.Sheet.{sheet}
@@ -8,7 +8,8 @@ use Rattle.tonekit_book.specs.Book.{BookTone, Book, source_of}
 use Rattle.tonekit_any_order.proofs.Differ.{Differ}
 use Rattle.tonekit_any_order.proofs.BookOrder.{number, same_found, same_looks, accent_part, accent_of}
 
-module _ (a b : Book) (settings : a.settings ≡ b.settings) (tones : a.tones ≡ b.tones) (order : IsPermutation a.accents b.accents) (differ : AllPairs (Differ number) a.accents) where
+module _ (a b : Book) (settings : a.settings ≡ b.settings) (tones : a.tones ≡ b.tones) (order : IsPermutation a.accents b.accents)
+    (differ : AllPairs (Differ number) a.accents) where
   agree : Agree (source_of a) (source_of b)
   unfolding source_of
   agree = record {

@@ -1,9 +1,10 @@
 -- "A pack whose accents, each with its rules, are written in any other order gives the same sheet": what is proved of such packs, over their bytes.
-use Rattle.std.specs.Prelude.{ℕ, ◌≡◌, ◌⊎◌, List}
+use Rattle.std.specs.Prelude.{ℕ, ◌≡◌, ◌⊎◌, List, length}
+use Rattle.tonekit_core.specs.Calls.{answer_in, buffer_after}
 use Rattle.tonekit_core.specs.declared.Refusal.{Refusal}
 use Rattle.tonekit_core.specs.declared.Refusal.TheVariants.{Loose, Endless}
 use Rattle.spec_arithmetic.specs.Files.{Out, loaded, refused}
-use Rattle.spec_pack.specs.Pack.{PackRead, read_pack, load_pack}
+use Rattle.spec_pack.specs.Pack.{PackRead, read_pack}
 use Rattle.spec_lookup.specs.declared.Context.{Context}
 use Rattle.spec_lookup.specs.Source.{source_of_pack}
 use Rattle.spec_sheet.specs.Sheet.{sheet}
@@ -13,6 +14,10 @@ use Rattle.tonekit_any_order.specs.Layout.{Layout, IsLayout, layout_bytes, end_o
 -- every pack that loads is written so: it has its settings, tones, accents with their rules, and End
 abbrev pub EveryPack : Type 0
 EveryPack = (s : List ℕ) (st : PackRead) (e : ℕ) → read_pack s ≡ loaded st e → (p : Layout) × IsLayout p × (s ≡ layout_bytes p)
+
+-- of two such packs each is the other in another order, so all that follows goes both ways
+abbrev pub OtherWay : Type 0
+OtherWay = (s t : List ℕ) → InOtherOrder s t → InOtherOrder t s
 
 -- if one loads, so does the other; as it stands in a longer input, and as a whole input
 abbrev pub LoadsAlike : (List ℕ → Out PackRead) → Type 0
@@ -45,3 +50,9 @@ pub data ComesToEnd (p : Layout) (o : Out PackRead) : Type 0 where
 
 abbrev pub SameOutcome : Type 0
 SameOutcome = (s t : List ℕ) (x : InOtherOrder s t) → ComesToEnd x.layout (read_pack s) → sheet_outcome s ≡ sheet_outcome t
+
+-- and whatever buffer the call that writes a sheet is lent, it answers the same and leaves the same in it
+abbrev pub SameAnswer : Type 0
+SameAnswer =
+    (s t : List ℕ) (x : InOtherOrder s t) → ComesToEnd x.layout (read_pack s) → (held : List ℕ)
+    → (answer_in (length held) (sheet_outcome s) ≡ answer_in (length held) (sheet_outcome t)) × (buffer_after held (sheet_outcome s) ≡ buffer_after held (sheet_outcome t))

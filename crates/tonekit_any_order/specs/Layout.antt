@@ -47,8 +47,8 @@ pub record IsLayout (p : Layout) : Type 0 where
   pub tones : All (IsOfKind TONE_KIND) p.tones
   pub blocks : All IsBlock p.blocks
 
--- "A pack whose accents, each with its rules, are written in any other order": the bytes t are those of s but for that order. IsPermutation is the word by which
--- a sort says that it only moves
+-- "A pack whose accents, each with its rules, are written in any other order": the bytes t are those of s but for that order. IsPermutation is the word by
+-- which a sort says that it only moves
 pub record InOtherOrder (s t : List ℕ) : Type 0 where
   pub layout : Layout
   pub other : List Block

@@ -1,2 +1,3 @@
 pub mod Layout
 pub mod AnyOrder
+pub mod Bench

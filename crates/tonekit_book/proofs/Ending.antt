@@ -1,4 +1,5 @@
--- What is said at a pack's End is said of the accents of its book (`ending_same`), and so, where its records read, of theirs (`records_ending`). Assumes nothing.
+-- What is said at a pack's End is said of the accents of its book (`ending_same`), and so, where its records read, of theirs (`records_ending`).
+-- Assumes nothing.
 use Rattle.std.proofs.Common.{ℕ, zero, suc, ◌+◌, ◌≡◌, refl, sym, ◌∙◌, ap, ap₂, true, not, cond, ◌&&◌, List, [], ◌∷◌, ◌++◌, map, length}
 use Rattle.std.specs.Prelude.{Option as Found, Some, None, Ok, Err}
 use Rattle.tonekit_core.specs.declared.Refusal.TheVariants.{Loose, Endless}

@@ -58,7 +58,8 @@ module _ (s : List ℕ) (d : Out PackRead) (tail : List ℕ) where
       let goes = run_on pack_reader s d f at st (omega arith) (v ∙ fine) (λ z. w.1 (sym k ∙ z)) in
       let q : at + size_of (byte_at s at) ≡ at + length r = ap (λ z. at + z) (ap size_of k ∙ sym w.0) in
       let on = goes ∙ ap₂ (λ a b. run pack_reader s d (f - 1) a (added b at st)) q k in
-      one_more w.0 w.1 fine on (run_comes rs w.2 (f - 1) (at + length r) (added (kind r) at st) (tallied r t) (tally_next s at st r t g w.0 o was-due w.1) (drop_behind s at r behind e1) g.fits (omega arith)))
+      let next = tally_next s at st r t g w.0 o was-due w.1 in
+      one_more w.0 w.1 fine on (run_comes rs w.2 (f - 1) (at + length r) (added (kind r) at st) (tallied r t) next (drop_behind s at r behind e1) g.fits (omega arith)))
       (λ q bad. stops q at (run_refused pack_reader s d f at st (omega arith) q (v ∙ bad)) (inr (omega (arith, length-append r (records_bytes rs)))))
 
 pub comes : (rs : List (List ℕ)) (tail : List ℕ) → WholeRecords rs → Comes no_tally rs 0 (read_pack (records_bytes rs ++ (6 ∷ tail)))
