@@ -3,7 +3,7 @@ use Rattle.std.specs.Prelude.{ℕ, ◌≡◌, refl, List, [], ◌∷◌, ◌++�
 use Rattle.std.specs.Float.Ieee.{lt, le, of_bits}
 use Rattle.tonekit_core.specs.Loop.{range, turns, range_to, turns_to, loop_to, loop_on}
 use Rattle.spec_arithmetic.specs.Places.{index_of}
-use Rattle.tonekit_core.specs.declared.Refusal.TheVariants.{Misplaced, CutShort, Overrun, Crowded, OffScale, Doubled, Loose, Endless}
+use Rattle.tonekit_core.specs.declared.Refusal.TheVariants.{Misplaced, CutShort, Overrun, Crowded, OffScale, Doubled, Loose, EndlessChain}
 use Rattle.spec_pack.specs.Ranges.{above_zero, probability_fine, knot_fine, weight_fine, slot_fine, knots_fine, region_fine, tolerances_fine}
 use Rattle.spec_arithmetic.specs.Files.{Out, loaded, refused}
 use Rattle.spec_pack.specs.Pack.{PackRead, due_after, size_of, holds, zero_or_held, settings_verdict, tone_verdict, accent_verdict, rule_verdict, part_verdict, body_verdict, record_verdict, added, parents_held, chain_ends, chains_end, end_verdict, read_pack, load_pack, check_pack}
@@ -341,10 +341,10 @@ parent_at_end = (refl, refl, refl, refl)
 
 -- "20 when some chain never ends": an accent that names itself, a ring of two, one that leads into a ring, behind one that ends; before 3; no matter
 -- where the End is missing
-endless : (read (settings ++ (tone 1 1 ++ (accent 1 1 ++ (6 ∷ [])))) ≡ refused Endless 84)
-    × (read (settings ++ (tone 1 1 ++ (accent 1 2 ++ (accent 2 1 ++ (6 ∷ []))))) ≡ refused Endless 103)
-    × (read (settings ++ (tone 1 1 ++ (accent 4 0 ++ (accent 1 2 ++ (accent 2 3 ++ (accent 3 2 ++ (6 ∷ []))))))) ≡ refused Endless 141)
-    × (read (settings ++ (tone 1 1 ++ (accent 1 1 ++ (6 ∷ 0 ∷ [])))) ≡ refused Endless 84)
+endless : (read (settings ++ (tone 1 1 ++ (accent 1 1 ++ (6 ∷ [])))) ≡ refused EndlessChain 84)
+    × (read (settings ++ (tone 1 1 ++ (accent 1 2 ++ (accent 2 1 ++ (6 ∷ []))))) ≡ refused EndlessChain 103)
+    × (read (settings ++ (tone 1 1 ++ (accent 4 0 ++ (accent 1 2 ++ (accent 2 3 ++ (accent 3 2 ++ (6 ∷ []))))))) ≡ refused EndlessChain 141)
+    × (read (settings ++ (tone 1 1 ++ (accent 1 1 ++ (6 ∷ 0 ∷ [])))) ≡ refused EndlessChain 84)
     × (read (settings ++ (tone 1 1 ++ accent 1 1)) ≡ refused CutShort 84)
 unfolding read
 endless = (refl, refl, refl, refl, refl)
@@ -360,7 +360,7 @@ chain last = accent 8 7 ++ (accent 2 1 ++ (accent 5 4 ++ (accent 3 2 ++ (accent 
 
 eight_long : (read (settings ++ (tone 1 1 ++ chain 0))
     ≡ loaded (record { last = 3; tones = 9 ∷ []; accents = 65 ∷ 84 ∷ 103 ∷ 122 ∷ 141 ∷ 160 ∷ 179 ∷ 198 ∷ []; firsts = replicate 8 0; rules = []; parts = 0; total = 0 }) 218)
-    × (read (settings ++ (tone 1 1 ++ chain 8)) ≡ refused Endless 217)
+    × (read (settings ++ (tone 1 1 ++ chain 8)) ≡ refused EndlessChain 217)
 unfolding read
 eight_long = (refl, refl)
 

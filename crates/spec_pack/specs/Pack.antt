@@ -6,7 +6,7 @@ use Rattle.tonekit_core.specs.declared.layout.TheConstants.{ACCENT_KIND, ACCENT_
 use Rattle.tonekit_core.specs.declared.layout.TheConstants.{RULE_KIND, RULE_SIZE, RULE_TONE, RULE_PREV, RULE_FINAL, RULE_FORM}
 use Rattle.tonekit_core.specs.declared.layout.TheConstants.{PART_KIND, PART_SIZE, PART_WEIGHT, PART_KNOT_COUNT, PART_KNOTS, END_KIND, END_SIZE}
 use Rattle.tonekit_core.specs.declared.Refusal.{Refusal}
-use Rattle.tonekit_core.specs.declared.Refusal.TheVariants.{Crowded, OffScale, Doubled, Loose, Endless}
+use Rattle.tonekit_core.specs.declared.Refusal.TheVariants.{Crowded, OffScale, Doubled, Loose, EndlessChain}
 use Rattle.tonekit_core.specs.declared.Rejection.{Rejection}
 use Rattle.spec_arithmetic.specs.Fields.{byte_at, u32_at, f32_at}
 use Rattle.spec_arithmetic.specs.Places.{number_at, index_of}
@@ -152,7 +152,7 @@ chains_end s st (suc k) i = chain_ends s st (length st.accents) i && chains_end 
 unfoldable pub end_verdict : List ℕ → PackRead → Result Unit Refusal
 end_verdict s st =
     cond (not (parents_held s st.accents st.accents)) (Err Loose)
-    (cond (not (chains_end s st (length st.accents) 0)) (Err Endless) (Ok tt))
+    (cond (not (chains_end s st (length st.accents) 0)) (Err EndlessChain) (Ok tt))
 
 -- "both with End's offset as place": the End at o is all there is to a pack's end, one byte
 abbrev pub ended : ℕ → PackRead → Result Unit Refusal → Out PackRead

@@ -6,7 +6,7 @@ use Rattle.std.specs.Prelude.{Result, Ok, Err, All, AllPairs, IsPermutation}
 use Rattle.std.proofs.lemmas.List.Elements.{All-head, All-tail}
 use Rattle.std.proofs.lemmas.List.Sorted.{IsPermutation-map, IsPermutation-sym}
 use Rattle.tonekit_core.specs.declared.Refusal.{Refusal}
-use Rattle.tonekit_core.specs.declared.Refusal.TheVariants.{Misplaced, Overrun, Loose, Endless}
+use Rattle.tonekit_core.specs.declared.Refusal.TheVariants.{Misplaced, Overrun, Loose, EndlessChain}
 use Rattle.tonekit_core.specs.Calls.{written, answer_in, buffer_after}
 use Rattle.tonekit_core.proofs.Split.{split}
 use Rattle.spec_arithmetic.specs.Files.{Out, loaded, refused, single_file}
@@ -74,7 +74,7 @@ module _ (p : Layout) (is : IsLayout p) where
 
   -- if the reading comes to End, its records read
   not_parents : (r : Refusal) → OfParents r → r ≡ Misplaced → ⊥
-  not_parents r of e = ⊎_elim (λ l. let no : Misplaced ≡ Loose = sym e ∙ l in absurd cc) (λ l. let no : Misplaced ≡ Endless = sym e ∙ l in absurd cc) of
+  not_parents r of e = ⊎_elim (λ l. let no : Misplaced ≡ Loose = sym e ∙ l in absurd cc) (λ l. let no : Misplaced ≡ EndlessChain = sym e ∙ l in absurd cc) of
 
   they_read : {o : Out PackRead} → Comes no_tally (layout_records p) 0 o → ComesToEnd p o → Reads (layout_records p)
   they_read (reads {u} x due) c = record { tally = u; reads = x; due = due }
@@ -254,7 +254,7 @@ alone_refused s (loaded st e) r at n h =
 alone_refused s (refused w place) r at n h = h
 
 not_overrun : (r : Refusal) → OfParents r → r ≡ Overrun → ⊥
-not_overrun r of e = ⊎_elim (λ l. let no : Overrun ≡ Loose = sym e ∙ l in absurd cc) (λ l. let no : Overrun ≡ Endless = sym e ∙ l in absurd cc) of
+not_overrun r of e = ⊎_elim (λ l. let no : Overrun ≡ Loose = sym e ∙ l in absurd cc) (λ l. let no : Overrun ≡ EndlessChain = sym e ∙ l in absurd cc) of
 
 pub refused_alone_alike : RefusedAlike load_pack
 unfolding load_pack

@@ -5,7 +5,7 @@ use mathlib.Core.Option.{Option, none, some}
 use Rattle.std.specs.Prelude.{All, AllPairs, Contains, IsPermutation, Ok, Err}
 use Rattle.std.proofs.lemmas.List.Elements.{All-nil, All-cons, All-head, All-tail}
 use Rattle.std.proofs.lemmas.List.Sorted.{All-permutation, Contains-permutation, length_permutation, IsPermutation-map, IsPermutation-sym}
-use Rattle.tonekit_core.specs.declared.Refusal.TheVariants.{Loose, Endless}
+use Rattle.tonekit_core.specs.declared.Refusal.TheVariants.{Loose, EndlessChain}
 use Rattle.tonekit_core.proofs.Split.{split, both, absurd_bool}
 use Rattle.spec_lookup.specs.declared.Context.{Context}
 use Rattle.spec_lookup.specs.Source.{Accent, accent_in}
@@ -146,7 +146,7 @@ module _ (l m : List BookAccent) (order : IsPermutation l m) (differ : AllPairs 
 
   pub same_ending : ending_of l ≡ ending_of m
   unfolding ending_of
-  same_ending = λ i. cond (not (parents_same i)) (Err Loose) (cond (not (chains_same i)) (Err Endless) (Ok tt))
+  same_ending = λ i. cond (not (parents_same i)) (Err Loose) (cond (not (chains_same i)) (Err EndlessChain) (Ok tt))
 
   -- ---- lookups
   parent_same : (c : Context) (n : ℕ) → ((a : BookAccent) → climb l c n a ≡ climb m c n a) → (o : Option BookAccent)

@@ -2,7 +2,7 @@
 use Rattle.std.specs.Prelude.{ℕ, ◌≡◌, ◌⊎◌, List, length}
 use Rattle.tonekit_core.specs.Calls.{answer_in, buffer_after}
 use Rattle.tonekit_core.specs.declared.Refusal.{Refusal}
-use Rattle.tonekit_core.specs.declared.Refusal.TheVariants.{Loose, Endless}
+use Rattle.tonekit_core.specs.declared.Refusal.TheVariants.{Loose, EndlessChain}
 use Rattle.spec_arithmetic.specs.Files.{Out, loaded, refused}
 use Rattle.spec_pack.specs.Pack.{PackRead, read_pack}
 use Rattle.spec_lookup.specs.declared.Context.{Context}
@@ -36,7 +36,7 @@ SameLookups =
 
 -- the two refusals that the tests at End give, of parents and of chains
 abbrev pub OfParents : Refusal → Type 0
-OfParents r = (r ≡ Loose) ⊎ (r ≡ Endless)
+OfParents r = (r ≡ Loose) ⊎ (r ≡ EndlessChain)
 
 -- a pack that is turned back with one of them at its End is turned back with it there in any order
 abbrev pub RefusedAlike : (List ℕ → Out PackRead) → Type 0

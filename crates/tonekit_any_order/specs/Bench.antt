@@ -5,7 +5,7 @@ use Rattle.std.proofs.Common.{inl, inr, arith}
 use Rattle.std.proofs.lemmas.List.Elements.{All-nil, All-cons}
 use Rattle.std.specs.Float.Ieee.{lt, le, of_bits}
 use Rattle.tonekit_core.specs.Loop.{range, turns, range_to, turns_to, loop_to, loop_on}
-use Rattle.tonekit_core.specs.declared.Refusal.TheVariants.{Misplaced, Loose, Endless}
+use Rattle.tonekit_core.specs.declared.Refusal.TheVariants.{Misplaced, Loose, EndlessChain}
 use Rattle.spec_arithmetic.specs.Files.{Out, loaded, refused}
 use Rattle.spec_arithmetic.specs.Places.{index_of}
 use Rattle.spec_pack.specs.Ranges.{above_zero, probability_fine, knot_fine, weight_fine, slot_fine, knots_fine, region_fine, tolerances_fine}
@@ -102,7 +102,7 @@ both_loose : (read (eight 9 ∷ seven 0 ∷ []) ≡ refused Loose 255) × (read 
 unfolding read
 both_loose = (refl, refl)
 
-both_endless : (read (eight 7 ∷ seven 8 ∷ []) ≡ refused Endless 255) × (read (seven 8 ∷ eight 7 ∷ []) ≡ refused Endless 255)
+both_endless : (read (eight 7 ∷ seven 8 ∷ []) ≡ refused EndlessChain 255) × (read (seven 8 ∷ eight 7 ∷ []) ≡ refused EndlessChain 255)
 unfolding read
 both_endless = (refl, refl)
 

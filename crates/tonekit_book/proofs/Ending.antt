@@ -2,7 +2,7 @@
 -- Assumes nothing.
 use Rattle.std.proofs.Common.{ℕ, zero, suc, ◌+◌, ◌≡◌, refl, sym, ◌∙◌, ap, ap₂, true, not, cond, ◌&&◌, List, [], ◌∷◌, ◌++◌, map, length}
 use Rattle.std.specs.Prelude.{Option as Found, Some, None, Ok, Err}
-use Rattle.tonekit_core.specs.declared.Refusal.TheVariants.{Loose, Endless}
+use Rattle.tonekit_core.specs.declared.Refusal.TheVariants.{Loose, EndlessChain}
 use Rattle.spec_arithmetic.specs.Fields.{byte_at}
 use Rattle.spec_arithmetic.specs.Places.{number_at}
 use Rattle.spec_pack.specs.Pack.{PackRead, due_after, parents_held, parent_of, or_ends, chain_ends, chains_end, end_verdict, pack_reader}
@@ -60,7 +60,7 @@ module _ (s : List ℕ) (st : PackRead) where
   -- ---- both tests
   pub ending_same : end_verdict s st ≡ ending_of (book_of s st).accents
   unfolding end_verdict ending_of book_of
-  ending_same = λ i. cond (not (parents_same i)) (Err Loose) (cond (not (chains_from (length st.accents) 0 i)) (Err Endless) (Ok tt))
+  ending_same = λ i. cond (not (parents_same i)) (Err Loose) (cond (not (chains_from (length st.accents) 0 i)) (Err EndlessChain) (Ok tt))
 
 pub records_ending : {u : Tally} {rs : List (List ℕ)} (tail : List ℕ) → ReadsOn no_tally rs u → due_after u.last 6 ≡ true
     → end_verdict (records_bytes rs ++ (6 ∷ tail)) (added_all pack_reader.start.st 0 rs) ≡ ending_of (book_of_records rs).accents

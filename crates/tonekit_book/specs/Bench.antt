@@ -2,7 +2,7 @@
 use Rattle.std.specs.Prelude.{ℕ, ◌≡◌, refl, List, [], ◌∷◌, ◌++◌, replicate, Bool, true, false, Ok, Err}
 use Rattle.std.proofs.Math.Option.{none, some}
 use Rattle.std.specs.Float.Ieee.{lt, le, to_bits, of_bits, of_int, add, sub, mul, div}
-use Rattle.tonekit_core.specs.declared.Refusal.TheVariants.{Loose, Endless}
+use Rattle.tonekit_core.specs.declared.Refusal.TheVariants.{Loose, EndlessChain}
 use Rattle.tonekit_core.specs.Loop.{fold, range, turns, range_to, turns_to, loop_to, loop_on}
 use Rattle.spec_arithmetic.specs.Whole.{whole_part}
 use Rattle.spec_arithmetic.specs.Narrow.{narrowed}
@@ -157,8 +157,8 @@ unfolding ending_of parents_among zero_or_among among all_reach_end reaches_end 
 loose = (refl, refl)
 
 -- its own parent; a ring of two, behind a chain that ends; a chain into a ring
-endless : (ending_of (child_of 7 7 ∷ []) ≡ Err Endless)
-    × (ending_of (child_of 0 7 ∷ child_of 9 8 ∷ child_of 8 9 ∷ []) ≡ Err Endless)
-    × (ending_of (child_of 8 7 ∷ child_of 9 8 ∷ child_of 9 9 ∷ []) ≡ Err Endless)
+endless : (ending_of (child_of 7 7 ∷ []) ≡ Err EndlessChain)
+    × (ending_of (child_of 0 7 ∷ child_of 9 8 ∷ child_of 8 9 ∷ []) ≡ Err EndlessChain)
+    × (ending_of (child_of 8 7 ∷ child_of 9 8 ∷ child_of 9 9 ∷ []) ≡ Err EndlessChain)
 unfolding ending_of parents_among zero_or_among among all_reach_end reaches_end first_with
 endless = (refl, refl, refl)

@@ -5,7 +5,7 @@ use Rattle.std.proofs.Math.Option.{Option, none, some}
 use Rattle.tonekit_core.specs.declared.layout.TheConstants.{ACCENT_CONTOUR, TONE_REGION}
 use Rattle.tonekit_core.specs.declared.layout.TheConstants.{TONE_KNOT_COUNT, ACCENT_PARENT, RULE_SIZE, RULE_TONE, RULE_PREV, RULE_FINAL}
 use Rattle.tonekit_core.specs.declared.Refusal.{Refusal}
-use Rattle.tonekit_core.specs.declared.Refusal.TheVariants.{Loose, Endless}
+use Rattle.tonekit_core.specs.declared.Refusal.TheVariants.{Loose, EndlessChain}
 use Rattle.tonekit_core.specs.Loop.{fold}
 use Rattle.spec_arithmetic.specs.Fields.{byte_at}
 use Rattle.spec_arithmetic.specs.Places.{number_at}
@@ -134,7 +134,7 @@ all_reach_end accents (a ∷ more) = reaches_end accents (length accents) a && a
 -- what is said at the End of a pack with these accents
 unfoldable pub ending_of : List BookAccent → Result Unit Refusal
 ending_of accents =
-    cond (not (parents_among (accent_numbers accents) (accent_parents accents))) (Err Loose) (cond (not (all_reach_end accents accents)) (Err Endless) (Ok tt))
+    cond (not (parents_among (accent_numbers accents) (accent_parents accents))) (Err Loose) (cond (not (all_reach_end accents accents)) (Err EndlessChain) (Ok tt))
 
 -- ---- the book of a pack that was read
 -- f i, f (i + 1), .. , k of them

@@ -1,7 +1,7 @@
 -- The numbers that document 01 gives its words: refusals ("Turned back"), issue bits ("Query"), deltas and measured ("Judgement").
 use Rattle.std.specs.Prelude.{ℕ, ◌+◌, ◌/◌, ◌%◌, Bool, cond, eqb}
 use Rattle.tonekit_core.specs.declared.Refusal.{Refusal}
-use Rattle.tonekit_core.specs.declared.Refusal.TheVariants.{Misplaced, CutShort, Overrun, Crowded, OffScale, Doubled, Loose, Unordered, ShortBuffer, BadQuery, Unvoiced, UnknownAccent, UnknownTone, NoRealisation, BadVariant, Endless}
+use Rattle.tonekit_core.specs.declared.Refusal.TheVariants.{Misplaced, CutShort, Overrun, Crowded, OffScale, Doubled, Loose, Unordered, ShortBuffer, BadQuery, Unvoiced, UnknownAccent, UnknownTone, NoRealisation, BadVariant, EndlessChain}
 use Rattle.tonekit_core.specs.declared.MeasureIssue.{MeasureIssue}
 use Rattle.tonekit_core.specs.declared.MeasureIssue.TheVariants as issue
 use Rattle.tonekit_core.specs.declared.DeltaKind.{DeltaKind}
@@ -26,7 +26,7 @@ refusal_number UnknownAccent = 12
 refusal_number UnknownTone = 13
 refusal_number NoRealisation = 14
 refusal_number BadVariant = 15
-refusal_number Endless = 20
+refusal_number EndlessChain = 20
 
 -- "Issue bits follow `MeasureIssue` from bit 0"
 abbrev pub issue_bit : MeasureIssue → ℕ

@@ -25,7 +25,7 @@ pub enum Refusal {
     UnknownTone = 13,
     NoRealisation = 14,
     BadVariant = 15,
-    Endless = 20,
+    EndlessChain = 20,
 }
 
 // Why an input or a query is turned back, and where.

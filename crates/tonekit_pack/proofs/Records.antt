@@ -1,6 +1,6 @@
 -- What a record that is fine shows: its kind was due, it is whole, and each test of its body passed; and what an End shows of the pack. Assumes nothing.
 use Rattle.std.proofs.Common.{ℕ, ◌+◌, ◌≤◌, ◌<◌, ◌≡◌, refl, Bool, true, false, not, ◌&&◌, ◌||◌, List, arith, length, eqb, leb, ltb, eqb-true, leb-false, ltb-false}
-use Rattle.tonekit_core.specs.declared.Refusal.TheVariants.{Crowded, OffScale, Doubled, Loose, Endless}
+use Rattle.tonekit_core.specs.declared.Refusal.TheVariants.{Crowded, OffScale, Doubled, Loose, EndlessChain}
 use Rattle.std.specs.Prelude.{Ok}
 use Rattle.spec_arithmetic.specs.Fields.{byte_at}
 use Rattle.spec_arithmetic.specs.Places.{number_at}
@@ -135,7 +135,7 @@ module _ (s : List ℕ) (st : PackRead) where
   unfolding end_verdict
   end_passed h =
       split (parents_held s st.accents st.accents)
-      (λ p. split (chains_end s st (length st.accents) 0) (λ c. (p, c)) (λ c. not_fine Endless (rw (p, c) at h)))
+      (λ p. split (chains_end s st (length st.accents) 0) (λ c. (p, c)) (λ c. not_fine EndlessChain (rw (p, c) at h)))
       (λ p. not_fine Loose (rw p at h))
 
   pub end_passes : parents_held s st.accents st.accents ≡ true → chains_end s st (length st.accents) 0 ≡ true → end_verdict s st ≡ Ok tt

@@ -69,7 +69,7 @@ impl Pack {
             return Err(Refusal::Loose);
         }
         if !self.chains_end(s) {
-            return Err(Refusal::Endless);
+            return Err(Refusal::EndlessChain);
         }
         Ok(())
     }

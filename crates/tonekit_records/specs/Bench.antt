@@ -3,7 +3,7 @@ use Rattle.std.specs.Prelude.{ℕ, ◌≡◌, refl, List, [], ◌∷◌, ◌++�
 use Rattle.std.proofs.Common.{arith}
 use Rattle.std.specs.Float.Ieee.{lt, le, of_bits}
 use Rattle.tonekit_core.specs.Loop.{range, turns, range_to, turns_to, loop_to, loop_on}
-use Rattle.tonekit_core.specs.declared.Refusal.TheVariants.{Misplaced, Crowded, OffScale, Doubled, Loose, Endless}
+use Rattle.tonekit_core.specs.declared.Refusal.TheVariants.{Misplaced, Crowded, OffScale, Doubled, Loose, EndlessChain}
 use Rattle.tonekit_core.specs.declared.Refusal.{Refusal}
 use Rattle.spec_pack.specs.Ranges.{above_zero, probability_fine, knot_fine, weight_fine, slot_fine, knots_fine, region_fine, tolerances_fine}
 use Rattle.spec_arithmetic.specs.Files.{loaded, refused}
@@ -108,7 +108,7 @@ pack = refl
 
 -- with another parent its records read as well, but the tests at End do not pass
 ending : (read_pack (records_bytes (settings ∷ tone ∷ accent 7 9 ∷ rule ∷ part ∷ second_part ∷ []) ++ (6 ∷ [])) ≡ refused Loose 183)
-    × (read_pack (records_bytes (settings ∷ tone ∷ accent 7 7 ∷ rule ∷ part ∷ second_part ∷ []) ++ (6 ∷ [])) ≡ refused Endless 183)
+    × (read_pack (records_bytes (settings ∷ tone ∷ accent 7 7 ∷ rule ∷ part ∷ second_part ∷ []) ++ (6 ∷ [])) ≡ refused EndlessChain 183)
 unfolding records_bytes read_pack record_verdict due_after size_of body_verdict settings_verdict tone_verdict accent_verdict rule_verdict part_verdict holds zero_or_held added parents_held chain_ends chains_end end_verdict index_of range_to turns_to above_zero probability_fine knot_fine weight_fine slot_fine knots_fine region_fine tolerances_fine range turns loop_to loop_on lt le of_bits
 ending = (refl, refl)
 

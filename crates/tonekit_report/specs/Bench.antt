@@ -2,7 +2,7 @@
 use Rattle.std.specs.Prelude.{ℕ, ◌≡◌, refl, List, [], ◌∷◌, length}
 use Rattle.tonekit_core.specs.Calls.{written, refused}
 use Rattle.tonekit_core.specs.declared.layout.TheConstants.{REFUSAL_SIZE}
-use Rattle.tonekit_core.specs.declared.Refusal.TheVariants.{CutShort, Unordered, Endless}
+use Rattle.tonekit_core.specs.declared.Refusal.TheVariants.{CutShort, Unordered, EndlessChain}
 use Rattle.tonekit_report.specs.Report.{refusal_bytes, Told}
 
 abbrev record52 : List ℕ
@@ -12,7 +12,7 @@ fields52 : (refusal_bytes Unordered 0x0504_0302 ≡ record52) × (length record5
 fields52 = (refl, refl)
 
 -- 20, though it stands behind 15
-endless52 : refusal_bytes Endless 84 ≡ 52 ∷ 20 ∷ 84 ∷ 0 ∷ 0 ∷ 0 ∷ []
+endless52 : refusal_bytes EndlessChain 84 ≡ 52 ∷ 20 ∷ 84 ∷ 0 ∷ 0 ∷ 0 ∷ []
 endless52 = refl
 
 -- what a program is lent
