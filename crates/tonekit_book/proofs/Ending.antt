@@ -11,7 +11,7 @@ use Rattle.tonekit_records.proofs.Tallies.{zero_same}
 use Rattle.tonekit_book.specs.Book.{BookAccent, book_accent_in, accent_numbers, accent_parents, parents_among, or_reaches, reaches_end, all_reach_end, ending_of, tabulate, pack_accent, book_of}
 use Rattle.tonekit_book.specs.Groups.{book_of_records}
 use Rattle.tonekit_book.proofs.Tabulate.{tabulate_length, map_tabulate, tabulate_all}
-use Rattle.tonekit_book.proofs.PackSource.{at_found, index_same}
+use Rattle.tonekit_book.proofs.PackSource.{at_found, parent_same}
 use Rattle.tonekit_book.proofs.BookOfRecords.{book_of_records_lem}
 
 module _ (s : List ℕ) (st : PackRead) where
@@ -37,9 +37,6 @@ module _ (s : List ℕ) (st : PackRead) where
   parents_same = held_among st.accents ∙ ap₂ parents_among numbers_same parents_are
 
   -- ---- chains
-  parent_same : (i : ℕ) → at_found (pack_accent s st) (parent_of s st i) ≡ book_accent_in accents (pack_accent s st i).parent
-  parent_same i = index_same (λ (a : BookAccent). a.accent.number) s st.accents (pack_accent s st i).parent (pack_accent s st) (λ i. refl)
-
   one_up : (n : ℕ) → ((j : ℕ) → chain_ends s st n j ≡ reaches_end accents n (pack_accent s st j)) → (p : Found ℕ)
       → or_ends (chain_ends s st n) p ≡ or_reaches (reaches_end accents n) (at_found (pack_accent s st) p)
   one_up n h None = refl
@@ -48,7 +45,7 @@ module _ (s : List ℕ) (st : PackRead) where
   pub chain_same : (n i : ℕ) → chain_ends s st n i ≡ reaches_end accents n (pack_accent s st i)
   unfolding chain_ends reaches_end
   chain_same zero i = refl
-  chain_same (suc n) i = one_up n (chain_same n) (parent_of s st i) ∙ ap (or_reaches (reaches_end accents n)) (parent_same i)
+  chain_same (suc n) i = one_up n (chain_same n) (parent_of s st i) ∙ ap (or_reaches (reaches_end accents n)) (parent_same s st i)
 
   chains_from : (k i : ℕ) → chains_end s st k i ≡ all_reach_end accents (tabulate (pack_accent s st) k i)
   unfolding chains_end all_reach_end tabulate

@@ -73,6 +73,10 @@ unfolding loop_on
 stops f d zero r = refl
 stops f d (suc n) r = refl
 
+pub parent_same : (s : List ℕ) (st : PackRead) (i : ℕ)
+    → at_found (pack_accent s st) (parent_of s st i) ≡ book_accent_in (tabulate (pack_accent s st) (length st.accents) 0) (pack_accent s st i).parent
+parent_same s st i = index_same (λ (a : BookAccent). a.accent.number) s st.accents (pack_accent s st i).parent (pack_accent s st) (λ i. refl)
+
 module _ (s : List ℕ) (st : PackRead) (c : Context) where
   abbrev accents : List BookAccent
   accents = tabulate (pack_accent s st) (length st.accents) 0
@@ -81,9 +85,6 @@ module _ (s : List ℕ) (st : PackRead) (c : Context) where
   abbrev its_list : Found Winner → Option (List Carried)
   its_list (Some w) = some (components s (rule_listing s (number_at s (get_or st.accents w.accent 0)) w.rule) (parts_from 4 s (w.rule + 7)))
   its_list None = none
-
-  parent_same : (i : ℕ) → at_found (pack_accent s st) (parent_of s st i) ≡ book_accent_in accents (pack_accent s st i).parent
-  parent_same i = index_same (λ (a : BookAccent). a.accent.number) s st.accents (pack_accent s st i).parent (pack_accent s st) (λ i. refl)
 
   -- n accents at most, from accent i on
   abbrev walk : ℕ → ℕ → Found Winner
@@ -102,7 +103,7 @@ module _ (s : List ℕ) (st : PackRead) (c : Context) where
   walk_same zero i = refl
   walk_same (suc n) i =
       step n i (walk_same n) (best_rule s st c i) refl (parent_of s st i) refl
-      ∙ ap₂ (λ r a. given_or r (from_parent (climb accents c n) a)) (best_same s st c i (number_at s (get_or st.accents i 0))) (parent_same i)
+      ∙ ap₂ (λ r a. given_or r (from_parent (climb accents c n) a)) (best_same s st c i (number_at s (get_or st.accents i 0))) (parent_same s st i)
 
 -- ---- the lookup
 module _ (s : List ℕ) (st : PackRead) (c : Context) where
