@@ -224,7 +224,7 @@ pub fn damage(r: &mut Rng, b: &mut Vec<u8>) {
 /// Parents that no accent has, or chains that never end: a ring of one to eight accents, with
 /// others that lead into it or not, in any order.
 pub fn entangle(r: &mut Rng, p: &mut Pack) {
-    let most = r.pick(&[1, 2, 3, 4, 8]);
+    let most = pick!(r, 1, 2, 3, r.range(4, 8));
     while p.accents.len() < most {
         let number = fresh_accent(p);
         p.accents.push(Accent {

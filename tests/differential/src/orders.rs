@@ -64,7 +64,11 @@ fn pair(t: &mut Tally, seed: u64, index: u64) {
     let mut rng = Rng::new(seed ^ 0x0DE5, index);
     let r = &mut rng;
     let first = some_pack(r);
-    let second = reordered(r, &first);
+    // Another order wherever there is one.
+    let mut second = reordered(r, &first);
+    while first.accents.len() > 1 && second.bytes() == first.bytes() {
+        second = reordered(r, &first);
+    }
     let end = ending(r);
     let [one, two] = [&first, &second].map(|p| {
         let mut b = p.bytes();

@@ -96,7 +96,8 @@ pub fn lend(result: &Result<Vec<u8>, Refusal>, out: &mut [u8]) -> Result<u64, Re
     let bytes = match result {
         Ok(bytes) => bytes,
         Err(refusal) => {
-            if planted(ROOM_BEFORE_UNVOICED) && refusal.number >= 11 && out.len() < 64 {
+            let unvoiced = (11..=15).contains(&refusal.number);
+            if planted(ROOM_BEFORE_UNVOICED) && unvoiced && out.len() < 64 {
                 return Err(Refusal { number: 9, place: 64 });
             }
             if planted(REFUSED_CLEARS) {

@@ -682,6 +682,10 @@ fn chosen() -> Vec<Case> {
     let mut ask = Ask::of(steady(8, 110.0));
     ask.variants = vec![(1, 0.5), (1, 0.5 + 10.0 * f32::EPSILON)];
     cases.push(Case::Judge(small_pack(), ask.bytes()));
+    // The first issue bit that is none.
+    let mut ask = Ask::of(steady(8, 110.0));
+    ask.issues = 1 << 10;
+    cases.push(Case::Query(ask.bytes()));
     cases.extend((0..2000).map(|_| near_zero(&mut r)));
     cases.extend((0..2000).map(|_| through_zero(&mut r)));
     cases.push(Case::Pack(full));
