@@ -7,7 +7,7 @@ use Rattle.spec_arithmetic.specs.Fields.{byte_at}
 use Rattle.spec_arithmetic.specs.Places.{number_at, index_of}
 use Rattle.tonekit_bytes.proofs.Searched.{pick, searched}
 use Rattle.spec_pack.specs.Pack.{holds, zero_or_held, parents_held}
-use Rattle.tonekit_core.proofs.Split.{absurd_bool, either, neither, both, or_cond}
+use Rattle.tonekit_core.proofs.Split.{split, absurd_bool, either, neither, both, or_cond}
 
 found : (os : List ℕ) (f : Option ℕ) → pick (λ o. true) false os f ≡ is_some f
 found os (Some i) = refl
@@ -67,6 +67,20 @@ pub unfound_zero : (s os : List ℕ) (x : ℕ) → zero_or_held s os x ≡ true 
 unfolding zero_or_held
 unfound_zero s os x h e =
     either (eqb x 0) (holds s os x) h (λ q. eqb-true x 0 q) (λ q. absurd_bool (sym (holds_found s os x ∙ ap is_some e) ∙ q))
+
+-- 0 is "0 or held", and of another number what the search for it finds says whether it is
+pub zero_there : (s os : List ℕ) (x : ℕ) → x ≡ 0 → zero_or_held s os x ≡ true
+unfolding zero_or_held
+zero_there s os x e = rw e
+
+module _ (s os : List ℕ) (x : ℕ) (f : Option ℕ) (found : f ≡ index_of s os x) where
+  pub found_there : is_some f ≡ true → zero_or_held s os x ≡ true
+  unfolding zero_or_held
+  found_there h = rw (holds_found s os x ∙ ap is_some (sym found) ∙ h) (split (eqb x 0) (λ t. rw t) (λ t. rw t))
+
+  pub not_there : is_some f ≡ false → (x ≡ 0 → ⊥) → zero_or_held s os x ≡ false
+  unfolding zero_or_held
+  not_there h z = rw (holds_found s os x ∙ ap is_some (sym found) ∙ h) (split (eqb x 0) (λ t. absurd (z (eqb-true x 0 t))) (λ t. rw t))
 
 -- the loop over the parents: from accent i on, those that are left give what all give
 module _ (s accents os : List ℕ) {i : ℕ} {z : Bool} (left : parents_held s accents (drop i os) ≡ z) where

@@ -1,11 +1,11 @@
 -- What the reader's struct and answer stand for.
-use Rattle.std.specs.Prelude.{Result}
+use Rattle.std.specs.Prelude.{ℕ, ◌<◌, ◌≡◌, List, get_or, Option, None, Result}
 use Rattle.tonekit_core.specs.declared.Rejection.{Rejection}
 use Rattle.tonekit_pack.specs.declared.Pack.{Pack}
 use Rattle.tonekit_pack.specs.declared.Loaded.{Loaded}
 use Rattle.tonekit_bytes.specs.Places.{in_order}
 use Rattle.tonekit_pack.specs.Kinds.{last_of}
-use Rattle.spec_pack.specs.Pack.{PackRead}
+use Rattle.spec_pack.specs.Pack.{PackRead, parent_of}
 use Rattle.tonekit_pack.specs.Format.{answer}
 use Rattle.spec_arithmetic.specs.Files.{Out}
 
@@ -24,3 +24,7 @@ records_of p = record {
 -- what the reader answers
 abbrev pub answered : Result (Loaded Pack) Rejection → Out PackRead
 answered = answer records_of
+
+-- of each accent of a pack the place of its parent, or none
+abbrev pub PlacesOfParents : List ℕ → Pack → List (Option ℕ) → Type 0
+PlacesOfParents s p up = (i : ℕ) → i < p.accents.count → get_or up i None ≡ parent_of s (records_of p) i

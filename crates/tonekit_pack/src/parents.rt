@@ -1,26 +1,12 @@
-// The parents of a pack's accents: the place of one, and what is said of them all once the End is read.
+// The parents of a pack's accents: the place of each, and what is said of them all once the End is read.
 ghost use Rattle.std.specs.Prelude.{◌≡◌, ◌<◌, length};
 ghost use Rattle.spec_pack.specs.Pack.{parents_held, parent_of, chain_ends, chains_end, end_verdict};
-ghost use Rattle.tonekit_pack.specs.Held.{records_of};
+ghost use Rattle.tonekit_pack.specs.Held.{records_of, PlacesOfParents};
 
 use crate::Pack;
-use crate::read::zero_or_held;
 use tonekit_bytes::byte_at;
 use tonekit_bytes::places::index_of;
 use tonekit_core::{Refusal, layout};
-
-// Whether each of the accents at these offsets names 0, or the number of one of them.
-fn parents_held(s: &[u8], accents: &[u16]) -> bool
-    ensures { result ≡ parents_held s.now accents.now accents.now }
-{
-    for o in accents {
-        let parent = byte_at(s, usize::from(*o), layout::ACCENT_PARENT);
-        if !zero_or_held(s, accents, parent) {
-            return false;
-        }
-    }
-    true
-}
 
 impl Pack {
     // The place of accent i's parent, or none.
@@ -33,14 +19,39 @@ impl Pack {
         index_of(s, self.accents.offsets(), parent)
     }
 
+    // That of each accent's.
+    fn parents(&self, s: &[u8]) -> [Option<usize>; 8]
+        ensures { PlacesOfParents s.now self.now result }
+    {
+        let mut up = [None; 8];
+        for i in 0..self.accents.count {
+            up[i] = self.parent_index(s, i);
+        }
+        up
+    }
+
+    // Whether each accent names 0, or the number of one of them: then its parent has a place.
+    fn parents_held(&self, s: &[u8], up: &[Option<usize>; 8]) -> bool
+        requires { PlacesOfParents s.now self.now up.now }
+        ensures { result ≡ parents_held s.now (records_of self.now).accents (records_of self.now).accents }
+    {
+        for i in 0..self.accents.count {
+            let o = usize::from(self.accents.at[i]);
+            if up[i].is_none() && byte_at(s, o, layout::ACCENT_PARENT) != 0 {
+                return false;
+            }
+        }
+        true
+    }
+
     // Whether the chain from accent i up its parents ends: if it does, it has no more accents than there are.
-    fn chain_ends(&self, s: &[u8], i: usize) -> bool
-        requires { i < self.now.accents.count }
+    fn chain_ends(&self, s: &[u8], up: &[Option<usize>; 8], i: usize) -> bool
+        requires { (i < self.now.accents.count) × PlacesOfParents s.now self.now up.now }
         ensures { result ≡ chain_ends s.now (records_of self.now) (length (records_of self.now).accents) i }
     {
         let mut a = i;
         for _ in 0..self.accents.count {
-            let Some(parent) = self.parent_index(s, a) else {
+            let Some(parent) = up[a] else {
                 return true;
             };
             a = parent;
@@ -49,11 +60,12 @@ impl Pack {
     }
 
     // Whether all of them do.
-    fn chains_end(&self, s: &[u8]) -> bool
+    fn chains_end(&self, s: &[u8], up: &[Option<usize>; 8]) -> bool
+        requires { PlacesOfParents s.now self.now up.now }
         ensures { result ≡ chains_end s.now (records_of self.now) (length (records_of self.now).accents) 0 }
     {
-        for i in 0..self.accents.count {
-            if !self.chain_ends(s, i) {
+        for start in 0..self.accents.count {
+            if !self.chain_ends(s, up, start) {
                 return false;
             }
         }
@@ -65,10 +77,11 @@ impl Pack {
     pub fn end_verdict(&self, s: &[u8]) -> Result<(), Refusal>
         ensures { result ≡ end_verdict s.now (records_of self.now) }
     {
-        if !parents_held(s, self.accents.offsets()) {
+        let up = self.parents(s);
+        if !self.parents_held(s, &up) {
             return Err(Refusal::Loose);
         }
-        if !self.chains_end(s) {
+        if !self.chains_end(s, &up) {
             return Err(Refusal::EndlessChain);
         }
         Ok(())

@@ -26,7 +26,7 @@ fn holds(s: &[u8], places: &[u16], x: u8) -> bool
 
 // 0, or the number of one of the records at these offsets.
 #[tactic(auto, unfolding(spec_pack::specs::Pack::zero_or_held))]
-pub fn zero_or_held(s: &[u8], places: &[u16], x: u8) -> bool
+fn zero_or_held(s: &[u8], places: &[u16], x: u8) -> bool
     ensures { result ≡ zero_or_held s.now places.now x }
 {
     (x == 0) | holds(s, places, x)

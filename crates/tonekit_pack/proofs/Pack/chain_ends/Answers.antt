@@ -11,19 +11,16 @@ pub loop-init : goal.loop-init
 loop-init c =
     let a = c.args in
     let p = a.self.now.accents in
-    record { inside = c.requires; rest = ap (λ (n : ℕ). chain_ends a.s.now (records_of a.self.now) n a.i) (omega (arith, order_length p.at p.count)) }
-
-pub parent_index-requires : goal.parent_index-requires
-parent_index-requires c = c.loop.invariant.inside
+    record { inside = c.requires.0; rest = ap (λ (n : ℕ). chain_ends a.s.now (records_of a.self.now) n a.i) (omega (arith, order_length p.at p.count)) }
 
 pub returns-in_default : goal.returns-in_default
 returns-in_default c =
-    walk_top _ _ _ _ c.loop.invariant.rest (omega (arith, c.loop-test.true)) (sym c.parent_index.ensures ∙ c.in_default.is)
+    walk_top _ _ _ _ c.loop.invariant.rest (omega (arith, c.loop-test.true)) (sym (c.requires.1 c.loop.a c.loop.invariant.inside) ∙ c.in_default.is)
 
 pub loop-preserved : goal.loop-preserved
 loop-preserved c =
     let p = c.args.self.now.accents in
-    let e = sym c.parent_index.ensures ∙ c.in-Some.is in
+    let e = sym (c.requires.1 c.loop.a c.loop.invariant.inside) ∙ c.in-Some.is in
     let found = (index_found _ _ _ _ e).inside in
     let less : p.count - (c.loop.counter + 1) ≡ p.count - c.loop.counter - 1 = omega arith in
     record {

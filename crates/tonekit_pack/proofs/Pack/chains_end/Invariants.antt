@@ -4,6 +4,6 @@ use Rattle.spec_pack.specs.Pack.{chains_end}
 use Rattle.tonekit_pack.specs.Held.{records_of}
 use Rattle.tonekit_pack.proofs.Pack.chains_end.Given as goal
 
-abbrev pub invariant-loop-i : goal.invariant-loop-i
-invariant-loop-i l =
-    chains_end l.s (records_of l.self) (l.self.accents.count - l.i) l.i ≡ chains_end l.s (records_of l.self) (length (records_of l.self).accents) 0
+abbrev pub invariant-loop-start : goal.invariant-loop-start
+invariant-loop-start l =
+    chains_end l.s (records_of l.self) (l.self.accents.count - l.start) l.start ≡ chains_end l.s (records_of l.self) (length (records_of l.self).accents) 0
