@@ -286,11 +286,8 @@ fn ended(p: &Pack, with: &[u8]) -> Vec<u8> {
     [&b[..b.len() - 1], with].concat()
 }
 
-/// Parents wherever they stand: chains of up to eight in several orders, of which each gives the same sheet; rings of each size
-/// that matters, with chains that lead into them and beside chains that end; parents that no accent has; and what comes before
-/// and after these are judged.
-fn parents(all: &mut Asking) {
-    // From accent 1 up to 8, whose rule is for all, but at a phrase's end that of 4 for all behind it.
+/// From accent 1 up to 8, whose rule is for all, but at a phrase's end that of 4 for all behind it.
+pub fn chain_of_eight() -> Pack {
     let mut p = family(&[2, 3, 4, 5, 6, 7, 8, 0]);
     for (at, fin) in [(7, 0), (3, 2)] {
         let rule = Rule {
@@ -301,6 +298,14 @@ fn parents(all: &mut Asking) {
         };
         p.accents[at].rules.push(rule);
     }
+    p
+}
+
+/// Parents wherever they stand: chains of up to eight in several orders, of which each gives the same sheet; rings of each size
+/// that matters, with chains that lead into them and beside chains that end; parents that no accent has; and what comes before
+/// and after these are judged.
+fn parents(all: &mut Asking) {
+    let p = chain_of_eight();
     let query = query(1, 1);
     for order in [
         [0, 1, 2, 3, 4, 5, 6, 7],

@@ -1,12 +1,13 @@
 //! "A pack whose accents, each with its rules, are written in any other order gives the same sheet" (change request 7). Pairs of
 //! packs that differ in the order of their accents alone: both load, with the same sheet and the same answers to queries, or both
-//! are refused with the same number and place.
+//! are refused with the same number and place. Then a chain of eight accents, and a ring of them, in every order of the file.
 
 use crate::ask::{reference_answer, Answer};
 use crate::case::*;
 use crate::chains;
 use crate::compare::{say, with_port, words};
 use crate::damage::entangle;
+use crate::limits::chain_of_eight;
 use crate::pack::{pack, reordered, Pack};
 use crate::pick;
 use crate::query::query;
@@ -114,6 +115,75 @@ fn pair(t: &mut Tally, seed: u64, index: u64) {
     }
 }
 
+/// In how many orders eight accents may stand.
+const ORDERS: usize = 40_320;
+
+/// In one order of so many the port writes the sheet too.
+const SHEETS: usize = 16;
+
+/// The accents in the order that stands at a place among all.
+fn in_order(pack: &Pack, mut place: usize) -> Pack {
+    let mut left = pack.accents.clone();
+    let mut accents = Vec::new();
+    while !left.is_empty() {
+        accents.push(left.remove(place % left.len()));
+        place /= left.len() + 1;
+    }
+    Pack {
+        accents,
+        ..pack.clone()
+    }
+}
+
+/// A chain of eight loads in each order, with the sheet that it has in the first; closed to a ring it is 20 at End.
+fn every_order(t: &mut Tally, seed: u64, first: usize) {
+    let chain = chain_of_eight();
+    let mut ring = chain.clone();
+    ring.accents[7].parent = 1;
+    let call = |call: u8, pack: &Pack| Call {
+        call,
+        a: pack.bytes(),
+        b: Vec::new(),
+    };
+    let sheet = reference_answer(&call(WRITE_SHEET, &chain));
+    let end = ring.bytes().len() - 1;
+    for place in (first..ORDERS).step_by(THREADS as usize) {
+        let index = place as u64;
+        let r = &mut Rng::new(seed ^ 0x0DE6, index);
+        let (chain, ring) = (in_order(&chain, place), in_order(&ring, place));
+        let asks = [
+            (
+                "every order of eight: a chain loads",
+                CHECK_PACK,
+                &chain,
+                Ok(Vec::new()),
+            ),
+            (
+                "every order of eight: one sheet",
+                WRITE_SHEET,
+                &chain,
+                sheet.clone(),
+            ),
+            (
+                "every order of eight: a ring is 20 at End",
+                CHECK_PACK,
+                &ring,
+                Err((20, end as u64)),
+            ),
+        ];
+        for (words_of, number, pack, want) in asks {
+            let c = call(number, pack);
+            let got = reference_answer(&c);
+            t.same(words_of, got == want, index, || {
+                words(&c, &say(&want), &say(&got))
+            });
+            if number == CHECK_PACK || place % SHEETS == 0 {
+                with_port(t, r, index, &c, &want, None);
+            }
+        }
+    }
+}
+
 /// Whether no pair differs; with `plant` other than 0 the reference has that mistake.
 pub fn orders(pairs: u64, seed: u64, plant: u32) -> bool {
     let mut all = Tally::default();
@@ -125,6 +195,7 @@ pub fn orders(pairs: u64, seed: u64, plant: u32) -> bool {
                 for index in (first..pairs).step_by(THREADS as usize) {
                     pair(&mut t, seed, index);
                 }
+                every_order(&mut t, seed, first as usize);
                 t
             })
         };
@@ -133,7 +204,7 @@ pub fn orders(pairs: u64, seed: u64, plant: u32) -> bool {
             all.join(thread.join().expect("a thread"));
         }
     });
-    println!("{pairs} pairs, seed {seed}");
+    println!("{pairs} pairs, seed {seed}; a chain of eight and a ring of eight in {ORDERS} orders");
     all.print_compared();
     println!("\n{} differ", all.differing());
     all.differing() == 0
