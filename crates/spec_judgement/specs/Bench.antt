@@ -16,8 +16,8 @@ use Rattle.spec_query.specs.declared.Query.{Query}
 use Rattle.spec_judgement.specs.declared.Tolerance.{Tolerance}
 use Rattle.spec_judgement.specs.declared.ToneListing.{ToneListing}
 use Rattle.spec_query.specs.Query.{variant_fine, variants_fine, record_verdict, frame_verdict, fields_of, read_query, load_query}
-use Rattle.spec_pack.specs.Ranges.{above_zero, probability_fine, knot_fine, weight_fine, slot_fine, knots_fine, region_fine, tolerances_fine}
-use Rattle.spec_pack.specs.Pack.{due_after, size_of, holds, zero_or_held, settings_verdict, tone_verdict, accent_verdict, rule_verdict, part_verdict, body_verdict, added, parents_held, chain_ends, chains_end, end_verdict, read_pack, load_pack}
+use Rattle.spec_pack.specs.Ranges.{above_zero, probability_fine, knot_fine, weight_fine, slot_fine, knots_fine, region_fine, tail_fine, tails_fine, tolerances_fine}
+use Rattle.spec_pack.specs.Pack.{due_after, size_of, holds, zero_or_held, settings_verdict, tone_verdict, tail_verdict, accent_verdict, rule_verdict, part_verdict, body_verdict, added, parents_held, chain_ends, chains_end, end_verdict, read_pack, load_pack}
 use Rattle.spec_pack.specs.Pack as reader
 use Rattle.spec_shape.specs.Chao.{hz_to_st, width_of, st_to_chao}
 use Rattle.spec_shape.specs.Window.{half_width, reach, curve_at, step_of, mean_over, rounded, frames_at}
@@ -31,8 +31,11 @@ use Rattle.tonekit_core.specs.Words.{with_issue}
 use Rattle.spec_arithmetic.specs.Root.{root_of, root_units, nearest_root, isqrt}
 use Rattle.spec_arithmetic.specs.Exp.{exp_of, exp_by, rest, exp_series, exp_horner, floor_of}
 use Rattle.spec_judgement.specs.Score.{widen_for, scoring_of, clamp_log, add_to, value_of, excused, point_weight, squares_of, end_term, ends_of, distance_of, log_of, mixed, mix_turn, calibrate}
+use Rattle.spec_arithmetic.specs.Constants.{zero32}
+use Rattle.spec_judgement.specs.Tail.{tail_loglik, target_tail_loglik, with_tail}
 use Rattle.spec_judgement.specs.Deltas.{kept, offer, offer_end, offer_turn, end_deltas, deltas_of}
-use Rattle.spec_judgement.specs.Judge.{Inventory, tone_mixing, loglik_at, logliks, ranked, ranking_of, heard_of, weighed, part_mixing, target_mixing, llr_of, plain_of, distance_from, advice_of, nearest_at, with_best, judged_of, usable, not_measured, judgement_of}
+use Rattle.spec_judgement.specs.Inventory.{Inventory}
+use Rattle.spec_judgement.specs.Judge.{tone_mixing, loglik_at, logliks, ranked, ranking_of, heard_of, weighed, part_mixing, target_mixing, llr_of, plain_of, distance_from, advice_of, nearest_at, with_best, judged_of, usable, not_measured, judgement_of}
 use Rattle.spec_judgement.specs.Record.{nearest_bytes, score_bytes, one_bytes, delta_bytes, judgement_bytes}
 use Rattle.spec_judgement.specs.Target as target
 use Rattle.spec_judgement.specs.Target.{targets_of, target_of, place_of, variant_weights_good, main_weight, with_target}
@@ -74,7 +77,7 @@ unmeasured = fixed 8 (0 ∷ 0 ∷ 0xc0 ∷ 0x7f ∷ []) (0 ∷ 0 ∷ 0x40 ∷ 0x
 
 pub floor_nan : judge_outcome pack unmeasured
     ≡ written ((0x31 ∷ 0x01 ∷ 0x01 ∷ 0x00 ∷ 0x24 ∷ 0x74 ∷ 0xc9 ∷ []) ++ (replicate 54 0 ++ (0x02 ∷ 0x40 ∷ 0x00 ∷ [])))
-unfolding judge_outcome judgement judge_gathered query_verdict tones_verdict accent_in tone_in load_pack read_pack loop_to loop_on reader.record_verdict body_verdict settings_verdict tone_verdict accent_verdict rule_verdict part_verdict due_after size_of holds zero_or_held added parents_held chain_ends chains_end end_verdict above_zero probability_fine knot_fine weight_fine slot_fine knots_fine region_fine tolerances_fine range turns of_bits le lt load_query read_query record_verdict frame_verdict fields_of variant_fine variants_fine range_to turns_to frame_at extent_of gathered listings source_of_pack look_up find_rule climb_turn best_rule index_of components carried component_of knots_at first_points point_at slotted put_in with_tone main_weight targets_of target_of place_of with_target greater judgement_bytes nearest_bytes judgement_of usable shape_of not_measured list_of drawn holes_filled hz_to_st width_of st_to_chao log2_of half_width reach curve_at step_of mean_over rounded position whole_part round_up while while_if narrowed score_bytes one_bytes delta_bytes f32s_bytes round neg to_bits add sub mul div eq is_nan of_int lesser log_by parts_of centred series log_horner frames_at target.variants_good variant_weights_good
+unfolding judge_outcome judgement judge_gathered query_verdict tones_verdict accent_in tone_in load_pack read_pack loop_to loop_on reader.record_verdict body_verdict settings_verdict tone_verdict tail_verdict accent_verdict rule_verdict part_verdict due_after size_of holds zero_or_held added parents_held chain_ends chains_end end_verdict above_zero probability_fine knot_fine weight_fine slot_fine knots_fine region_fine tail_fine tails_fine tolerances_fine range turns of_bits le lt load_query read_query record_verdict frame_verdict fields_of variant_fine variants_fine range_to turns_to frame_at extent_of gathered listings source_of_pack look_up find_rule climb_turn best_rule index_of components carried component_of knots_at first_points point_at slotted put_in with_tone main_weight targets_of target_of place_of with_target greater judgement_bytes nearest_bytes judgement_of usable shape_of not_measured list_of drawn holes_filled hz_to_st width_of st_to_chao log2_of half_width reach curve_at step_of mean_over rounded position whole_part round_up while while_if narrowed score_bytes one_bytes delta_bytes f32s_bytes round neg to_bits add sub mul div eq is_nan of_int lesser log_by parts_of centred series log_horner frames_at target.variants_good variant_weights_good
 floor_nan = refl
 
 -- three such frames in the register 0 to 24 lie on the citation: a log-likelihood of 3 ln 2, distance 0, the citation of accent 1, tone 1 heard, no
@@ -84,7 +87,7 @@ level = fixed 3 (replicate 4 0) (0 ∷ 0 ∷ 0xc0 ∷ 0x41 ∷ []) ++ (frames ++
 
 pub on_citation : judge_outcome pack level
     ≡ written ((0x31 ∷ 0x01 ∷ 0x01 ∷ 0x92 ∷ 0x15 ∷ 0x05 ∷ 0x40 ∷ []) ++ (replicate 32 0 ++ ((1 ∷ 0 ∷ 0 ∷ 0 ∷ 0 ∷ 1 ∷ 1 ∷ 0 ∷ 0 ∷ 0 ∷ 1 ∷ []) ++ (replicate 11 0 ++ (0x01 ∷ 0x08 ∷ 0x00 ∷ [])))))
-unfolding judge_outcome judgement judge_gathered query_verdict tones_verdict accent_in tone_in load_pack read_pack loop_to loop_on reader.record_verdict body_verdict settings_verdict tone_verdict accent_verdict rule_verdict part_verdict due_after size_of holds zero_or_held added parents_held chain_ends chains_end end_verdict above_zero probability_fine knot_fine weight_fine slot_fine knots_fine region_fine tolerances_fine range turns of_bits le lt load_query read_query record_verdict frame_verdict fields_of variant_fine variants_fine range_to turns_to frame_at extent_of gathered listings source_of_pack look_up find_rule climb_turn best_rule index_of components carried component_of knots_at first_points point_at slotted put_in with_tone main_weight targets_of target_of place_of with_target greater judgement_bytes nearest_bytes judgement_of usable shape_of list_of drawn holes_filled hz_to_st width_of st_to_chao log2_of half_width reach curve_at step_of mean_over rounded position whole_part round_up while while_if narrowed score_bytes one_bytes delta_bytes f32s_bytes round neg to_bits add sub mul div eq is_nan of_int lesser united with_issue scoring_of widen_for clamp_log add_to value_of excused point_weight squares_of end_term ends_of distance_of log_of mixed mix_turn calibrate kept offer offer_end offer_turn end_deltas deltas_of root_of exp_of ln_of tone_mixing loglik_at logliks ranked ranking_of heard_of weighed part_mixing target_mixing llr_of plain_of distance_from advice_of nearest_at with_best judged_of float_with_sign log_by parts_of centred series log_horner root_units nearest_root isqrt exp_by rest exp_series exp_horner floor_of frames_at target.variants_good variant_weights_good
+unfolding judge_outcome judgement judge_gathered query_verdict tones_verdict accent_in tone_in load_pack read_pack loop_to loop_on reader.record_verdict body_verdict settings_verdict tone_verdict tail_verdict accent_verdict rule_verdict part_verdict due_after size_of holds zero_or_held added parents_held chain_ends chains_end end_verdict above_zero probability_fine knot_fine weight_fine slot_fine knots_fine region_fine tail_fine tails_fine tolerances_fine range turns of_bits le lt load_query read_query record_verdict frame_verdict fields_of variant_fine variants_fine range_to turns_to frame_at extent_of gathered listings source_of_pack look_up find_rule climb_turn best_rule index_of components carried component_of knots_at first_points point_at slotted put_in with_tone main_weight targets_of target_of place_of with_target greater judgement_bytes nearest_bytes judgement_of usable shape_of list_of drawn holes_filled hz_to_st width_of st_to_chao log2_of half_width reach curve_at step_of mean_over rounded position whole_part round_up while while_if narrowed score_bytes one_bytes delta_bytes f32s_bytes round neg to_bits add sub mul div eq is_nan of_int lesser united with_issue scoring_of widen_for clamp_log add_to value_of excused point_weight squares_of end_term ends_of distance_of log_of mixed mix_turn calibrate kept offer offer_end offer_turn end_deltas deltas_of root_of exp_of ln_of tone_mixing loglik_at logliks ranked ranking_of heard_of weighed part_mixing target_mixing tail_loglik target_tail_loglik with_tail llr_of plain_of distance_from advice_of nearest_at with_best judged_of float_with_sign log_by parts_of centred series log_horner root_units nearest_root isqrt exp_by rest exp_series exp_horner floor_of frames_at target.variants_good variant_weights_good
 on_citation = refl
 
 -- "Pack or sheet comes before query": a pack that is cut short at 0, and a query whose first kind is misplaced there
@@ -104,7 +107,7 @@ one_byte_held = refl
 
 -- "11 · unvoiced · under 3 voiced frames", from a pack's and a query's bytes: two frames
 pub two_voiced : judge_outcome pack (fixed 2 (replicate 4 0) (0 ∷ 0 ∷ 0xc0 ∷ 0x41 ∷ []) ++ frames) ≡ refused Unvoiced 0
-unfolding judge_outcome judgement judge_gathered query_verdict load_pack read_pack loop_to loop_on reader.record_verdict body_verdict settings_verdict tone_verdict accent_verdict rule_verdict part_verdict due_after size_of holds zero_or_held added parents_held chain_ends chains_end end_verdict index_of above_zero probability_fine knot_fine weight_fine slot_fine knots_fine region_fine tolerances_fine range turns of_bits le lt load_query read_query record_verdict frame_verdict fields_of variant_fine variants_fine range_to turns_to frame_at extent_of
+unfolding judge_outcome judgement judge_gathered query_verdict load_pack read_pack loop_to loop_on reader.record_verdict body_verdict settings_verdict tone_verdict tail_verdict accent_verdict rule_verdict part_verdict due_after size_of holds zero_or_held added parents_held chain_ends chains_end end_verdict index_of above_zero probability_fine knot_fine weight_fine slot_fine knots_fine region_fine tail_fine tails_fine tolerances_fine range turns of_bits le lt load_query read_query record_verdict frame_verdict fields_of variant_fine variants_fine range_to turns_to frame_at extent_of
 two_voiced = refl
 
 -- "12" before "13 for prev", with three voiced frames; with two "11" before both
@@ -127,7 +130,7 @@ abbrev counted : ℕ → Option ToneListing
 counted count = Some (record { name = record { owner = 0; form = 0; label = 0 }; count = count })
 
 abbrev listed : Option ToneListing → Inventory
-listed l = record { items = record { number = 1; prior = of_bits binary32 0; region = None; listing = l } ∷ [] }
+listed l = record { items = record { number = 1; prior = of_bits binary32 0; region = None; tail = zero32; listing = l } ∷ [] }
 
 -- of an accent that is held
 abbrev strict : Tolerance

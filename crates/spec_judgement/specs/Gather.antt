@@ -10,7 +10,7 @@ use Rattle.spec_lookup.specs.Source.{Tone, Accent, Carried, Source, accent_in, t
 use Rattle.spec_lookup.specs.declared.Context.{Context}
 use Rattle.spec_judgement.specs.declared.Region.{Region}
 use Rattle.spec_judgement.specs.declared.Tolerance.{Tolerance}
-use Rattle.spec_judgement.specs.Judge.{Inventory, Listings, listing, no_entry}
+use Rattle.spec_judgement.specs.Inventory.{Inventory, Listings, listing, no_entry}
 use Rattle.spec_judgement.specs.declared.ToneListing.{ToneListing}
 use Rattle.spec_judgement.specs.declared.ToneEntry.{ToneEntry}
 use Rattle.spec_judgement.specs.declared.Slots.{Slots}
@@ -28,9 +28,13 @@ abbrev pub named_of : List Carried → Option ToneListing
 named_of [] = None
 named_of (c ∷ cs) = Some (record { name = record { owner = c.owner; form = c.form; label = c.label }; count = length (c ∷ cs) })
 
+-- "the tail value at phrase end and elsewhere": the one for the query's place in the phrase
+abbrev pub tail_of : Bool → Tone → ℕ
+tail_of last t = cond last t.tail_final t.tail_elsewhere
+
 -- a tone's own values, and its listing
-abbrev pub entry_of : Tone → Option ToneListing → ToneEntry
-entry_of tone listing = record { number = tone.number; prior = f32 tone.prior; region = region_of tone; listing = listing }
+abbrev pub entry_of : Bool → Tone → Option ToneListing → ToneEntry
+entry_of last tone listing = record { number = tone.number; prior = f32 tone.prior; region = region_of tone; tail = f32 (tail_of last tone); listing = listing }
 
 -- the inventory with one more entry; behind the eighth with none
 unfoldable pub with_tone : ToneEntry → Inventory → Inventory
@@ -40,8 +44,8 @@ with_tone entry i = record { items = i.items ++ (cond (ltb (length i.items) 8) e
 unfoldable pub put_in : ℕ → List Carried → Slots → Slots
 put_in t cs s = record { list = sets s.list (4 * t) (map (λ c. record { weight = f32 c.weight; points = map f32 c.points }) cs) }
 
-unfoldable pub slotted : ℕ → Tone → List Carried → Listings → Listings
-slotted t tone cs l = listing (with_tone (entry_of tone (named_of cs)) l.inventory) (put_in t cs l.slots)
+unfoldable pub slotted : ℕ → Bool → Tone → List Carried → Listings → Listings
+slotted t last tone cs l = listing (with_tone (entry_of last tone (named_of cs)) l.inventory) (put_in t cs l.slots)
 
 -- as lent slots are before anything is gathered
 abbrev pub no_slots : Slots
@@ -56,7 +60,7 @@ given_of (some cs) = cs
 abbrev pub list_tone : Source → Context → ℕ → Listings → Listings
 list_tone src c t l =
     let tone = get_or src.tones t absent_tone in
-    slotted t tone (given_of (src.look (record c { tone = tone.number }))) l
+    slotted t c.last tone (given_of (src.look (record c { tone = tone.number }))) l
 
 -- for each tone of the source in order its listing in this context, or that it has none
 unfoldable pub listings : Source → Context → Listings

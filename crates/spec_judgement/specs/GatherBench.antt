@@ -10,7 +10,7 @@ use Rattle.spec_judgement.specs.declared.Slot.{Slot}
 use Rattle.spec_judgement.specs.declared.ToneEntry.{ToneEntry}
 use Rattle.spec_judgement.specs.declared.Region.{Region}
 use Rattle.spec_judgement.specs.declared.Tolerance.{Tolerance}
-use Rattle.spec_judgement.specs.Judge.{Inventory, Listings}
+use Rattle.spec_judgement.specs.Inventory.{Inventory, Listings}
 use Rattle.spec_judgement.specs.Gather.{f32, with_tone, put_in, slotted, listings, gathered}
 
 -- bits: 1, a half, a quarter, 2 and 4
@@ -30,13 +30,14 @@ abbrev four : ℕ
 four = 0x4080_0000
 
 abbrev first : Tone
-first = record { number = 1; prior = half; flag = 0; from = 0; to = 0 }
+first = record { number = 1; prior = half; flag = 0; from = 0; to = 0; tail_final = 0; tail_elsewhere = 0 }
 
+-- with a tail: 4 at the end of a phrase, a half elsewhere
 abbrev second : Tone
-second = record { number = 2; prior = quarter; flag = 1; from = one; to = two }
+second = record { number = 2; prior = quarter; flag = 1; from = one; to = two; tail_final = four; tail_elsewhere = half }
 
 abbrev third : Tone
-third = record { number = 3; prior = one; flag = 0; from = 0; to = 0 }
+third = record { number = 3; prior = one; flag = 0; from = 0; to = 0; tail_final = 0; tail_elsewhere = 0 }
 
 abbrev citation : Carried
 citation = record { owner = 5; form = 1; label = 0; part = 0; weight = one; points = replicate 10 two }
@@ -66,18 +67,18 @@ here = record { accent = 5; tone = 7; prev = 0; last = true }
 abbrev its_region : Region
 its_region = record { from = f32 one; to = f32 two }
 
--- the two tones' entries, and that of the third, for which nothing is given
+-- the two tones' entries, the second's with this tail, and that of the third, for which nothing is given
 abbrev cited : ToneEntry
-cited = record { number = 1; prior = f32 half; region = None; listing = Some (record { name = record { owner = 5; form = 1; label = 0 }; count = 1 }) }
+cited = record { number = 1; prior = f32 half; region = None; tail = f32 0; listing = Some (record { name = record { owner = 5; form = 1; label = 0 }; count = 1 }) }
 
-abbrev mixed : ToneEntry
-mixed = record { number = 2; prior = f32 quarter; region = Some its_region; listing = Some (record { name = record { owner = 9; form = 3; label = 700 }; count = 2 }) }
+abbrev mixed : ℕ → ToneEntry
+mixed tail = record { number = 2; prior = f32 quarter; region = Some its_region; tail = f32 tail; listing = Some (record { name = record { owner = 9; form = 3; label = 700 }; count = 2 }) }
 
 abbrev unlisted : ToneEntry
-unlisted = record { number = 3; prior = f32 one; region = None; listing = None }
+unlisted = record { number = 3; prior = f32 one; region = None; tail = f32 0; listing = None }
 
-abbrev both : Inventory
-both = record { items = cited ∷ mixed ∷ [] }
+abbrev both : ℕ → Inventory
+both tail = record { items = cited ∷ mixed tail ∷ [] }
 
 abbrev blank_slot : Slot
 blank_slot = record { weight = f32 0; points = replicate 10 (f32 0) }
@@ -86,19 +87,19 @@ blank_slot = record { weight = f32 0; points = replicate 10 (f32 0) }
 abbrev slot : ℕ → ℕ → Slot
 slot weight point = record { weight = f32 weight; points = replicate 10 (f32 point) }
 
-abbrev both_listed : Listings
-both_listed = record {
-  inventory = both;
+abbrev both_listed : ℕ → Listings
+both_listed tail = record {
+  inventory = both tail;
   slots = record { list = slot one two ∷ (replicate 3 blank_slot ++ (slot half one ∷ slot quarter four ∷ replicate 26 blank_slot)) };
 }
 
-two_tones : listings (held (first ∷ second ∷ [])) here ≡ both_listed
+two_tones : listings (held (first ∷ second ∷ [])) here ≡ both_listed four
 unfolding listings range turns slotted with_tone put_in of_bits
 two_tones = refl
 
 -- tone 3 has nothing, and the tone behind it is there
 abbrev around : Inventory
-around = record { items = cited ∷ unlisted ∷ mixed ∷ [] }
+around = record { items = cited ∷ unlisted ∷ mixed four ∷ [] }
 
 none_for_third : listings (held (first ∷ third ∷ second ∷ [])) here ≡ record {
   inventory = around;
@@ -118,13 +119,13 @@ abbrev fifths : Tolerance
 fifths = record { contour = f32 half; onset = f32 one; offset = f32 two; turning = f32 four }
 
 under_fifth : gathered (held (first ∷ second ∷ [])) here
-    ≡ record { prev = true; settings = record { temperature = f32 one; threshold = f32 half }; tolerance = Some fifths; listed = both_listed }
+    ≡ record { prev = true; settings = record { temperature = f32 one; threshold = f32 half }; tolerance = Some fifths; listed = both_listed four }
 unfolding gathered accent_in tone_in listings range turns slotted with_tone put_in of_bits
 under_fifth = refl
 
--- under an accent that is not held, after a tone that is not
+-- under an accent that is not held, after a tone that is not, and not at the end of a phrase
 under_none : gathered (held (first ∷ second ∷ [])) (record { accent = 6; tone = 1; prev = 7; last = false })
-    ≡ record { prev = false; settings = record { temperature = f32 one; threshold = f32 half }; tolerance = None; listed = both_listed }
+    ≡ record { prev = false; settings = record { temperature = f32 one; threshold = f32 half }; tolerance = None; listed = both_listed half }
 unfolding gathered accent_in tone_in listings range turns slotted with_tone put_in of_bits
 under_none = refl
 

@@ -7,9 +7,7 @@ use Rattle.std.specs.Float.Ieee.Scale.{finite}
 use Rattle.tonekit_core.specs.Loop.{range}
 use Rattle.tonekit_core.specs.Words.{has_issue}
 use Rattle.tonekit_core.specs.declared.MeasureIssue.TheVariants.{LowSnr, TooShort}
-use Rattle.arrayvec.specs.ArrayVec.{ArrayVec}
 use Rattle.tonekit_core.specs.declared.layout.TheConstants.{MIXTURE_FORM}
-use Rattle.tonekit_core.specs.declared.Name.{Name}
 use Rattle.tonekit_core.specs.declared.Measured.TheVariants.{Full, Partial, NotMeasured}
 use Rattle.spec_arithmetic.specs.Pick.{lesser}
 use Rattle.spec_arithmetic.specs.Narrow.{narrowed}
@@ -19,6 +17,8 @@ use Rattle.spec_arithmetic.specs.Exp.{exp_of}
 use Rattle.spec_shape.specs.declared.ToneShape.{ToneShape}
 use Rattle.spec_arithmetic.specs.Constants.{zero64, zero32}
 use Rattle.spec_judgement.specs.Score.{million, empty, add_to, value_of, distance_of, no_mixing, led, mix_turn, mixture_of, mixture_log, calibrate, clamp_log, scoring_of}
+use Rattle.spec_judgement.specs.Inventory.{Inventory, Targets, Listings, count_in, name_in, entry_at, slot_at, target_at}
+use Rattle.spec_judgement.specs.Tail.{tail_loglik, target_tail_loglik, with_tail}
 use Rattle.spec_judgement.specs.declared.Settings.{Settings}
 use Rattle.spec_judgement.specs.declared.Tolerance.{Tolerance}
 use Rattle.spec_judgement.specs.declared.Scoring.{Scoring}
@@ -31,49 +31,12 @@ use Rattle.spec_judgement.specs.Deltas.{no_deltas, deltas_of}
 use Rattle.spec_judgement.specs.declared.Deltas.{Deltas}
 use Rattle.spec_judgement.specs.declared.Ranking.{Ranking}
 use Rattle.spec_judgement.specs.declared.ToneEntry.{ToneEntry}
-use Rattle.spec_judgement.specs.declared.ToneListing.{ToneListing}
 use Rattle.spec_judgement.specs.declared.Slot.{Slot}
 use Rattle.spec_judgement.specs.declared.Slots.{Slots}
 use Rattle.spec_judgement.specs.declared.Component.{Component}
 use Rattle.spec_judgement.specs.declared.Target.{Target}
 use Rattle.spec_judgement.specs.declared.Nearest.{Nearest}
 use Rattle.spec_judgement.specs.declared.ToneJudgement.{ToneJudgement}
-
--- the types of the code by these names
-abbrev pub Inventory : Type 0
-Inventory = ArrayVec ToneEntry
-
-abbrev pub Targets : Type 0
-Targets = ArrayVec Target
-
--- the components of the inventory: component j of tone t is slot 4 t + j, with a weight and ten points
-pub record Listings : Type 0 where
-  pub inventory : Inventory
-  pub slots : Slots
-
--- an inventory with what is lent of its components
-abbrev pub listing : Inventory → Slots → Listings
-listing i slots = record { inventory = i; slots = slots }
-
--- how many components were looked up, and their name
-abbrev pub count_in : Option ToneListing → ℕ
-count_in None = 0
-count_in (Some l) = l.count
-
-abbrev pub name_in : Option ToneListing → Name
-name_in None = record { owner = 0; form = 0; label = 0 }
-name_in (Some l) = l.name
-
--- what a list of entries has past its end, where nothing is read
-abbrev pub no_entry : ToneEntry
-no_entry = record { number = 0; prior = nan; region = None; listing = None }
-
-abbrev pub entry_at : Inventory → ℕ → ToneEntry
-entry_at i t = get_or i.items t no_entry
-
--- the same past the end of a list of slots
-abbrev pub slot_at : Slots → ℕ → Slot
-slot_at slots k = get_or slots.list k (record { weight = nan; points = [] })
 
 -- component j of tone t as mixtures take it: its weight, and d² with that tone's region
 abbrev pub component_at : ToneShape → Scoring → Inventory → Slots → ℕ → ℕ → Component
@@ -86,12 +49,14 @@ component_at x s i slots t j = record {
 unfoldable pub tone_mixing : Scoring → (ℕ → ℕ → Component) → ℕ → ℕ → Mixing
 tone_mixing s c n t = range (λ j m. mix_turn s m (4 * t + j) (c t j).weight (c t j).distance) 0 n no_mixing
 
--- the calibrated log-likelihoods under every tone, the unused 0
+-- the calibrated log-likelihoods under every tone, each with its tail's, the unused 0
 unfoldable pub loglik_at : Scoring → (ℕ → ℕ → Component) → ℕ → ℕ → Float
 loglik_at s c n t = calibrate s (mixture_log (mixture_of (tone_mixing s c n t)))
 
-unfoldable pub logliks : Scoring → Inventory → (ℕ → ℕ → Component) → List Float
-logliks s i c = range (λ t ll. set ll t (loglik_at s c (count_in (entry_at i t).listing) t)) 0 (length i.items) (replicate 8 zero32)
+unfoldable pub logliks : Scoring → Inventory → (ℕ → ℕ → Component) → ℕ → List Float
+logliks s i c issues =
+    let ll = λ (t : ℕ). loglik_at s c (count_in (entry_at i t).listing) t in
+    range (λ t lls. set lls t (with_tail (ll t) (tail_loglik (entry_at i t) issues))) 0 (length i.items) (replicate 8 zero32)
 
 -- background and posterior: score = ln prior + log-likelihood; the first of equal scores is the top
 unfoldable pub ranked : Ranking → ℕ → Float → Ranking
@@ -121,20 +86,20 @@ part_mixing s c n t weight m = range (λ j m. weighed s m (4 * t + j) (mul binar
 unfoldable pub target_mixing : Scoring → Inventory → (ℕ → ℕ → Component) → Targets → Mixing
 target_mixing s i c g =
     let part = λ (target : Target). part_mixing s c (count_in (entry_at i target.place).listing) target.place target.weight in
-    range (λ k m. part (get_or g.items k (record { place = 0; weight = nan })) m) 0 (length g.items) no_mixing
+    range (λ k m. part (target_at g k) m) 0 (length g.items) no_mixing
 
--- the target against the background, both calibrated
-unfoldable pub llr_of : Scoring → Mixture → LogSumExp → Float
-llr_of s m background = clamp_log (sub binary64 (calibrate s (mixture_log m)) (value_of background))
+-- the target, with its tail's, against the background, both calibrated
+unfoldable pub llr_of : Scoring → Mixture → Float → LogSumExp → Float
+llr_of s m tail background = clamp_log (sub binary64 (with_tail (calibrate s (mixture_log m)) tail) (value_of background))
 
--- what is said where there is no best component
-unfoldable pub plain_of : Scoring → Float → Inventory → (ℕ → ℕ → Component) → Mixture → ℕ → ToneJudgement
-plain_of s threshold i c m issues =
-    let ll = logliks s i c in
+-- what is said where there is no best component, with the target's tail
+unfoldable pub plain_of : Scoring → Float → Inventory → (ℕ → ℕ → Component) → Mixture → Float → ℕ → ToneJudgement
+plain_of s threshold i c m tail issues =
+    let ll = logliks s i c issues in
     let r = ranking_of i ll in
     record {
       loglik = ll;
-      llr = llr_of s m r.background;
+      llr = llr_of s m tail r.background;
       nearest = None;
       heard = heard_of i threshold r;
       deltas = no_deltas;
@@ -171,7 +136,7 @@ with_best x s t l j (Scored ll slot d2) = record j {
 unfoldable pub judged_of : ToneShape → Scoring → Float → Tolerance → Listings → (ℕ → ℕ → Component) → Targets → ℕ → ToneJudgement
 judged_of x s threshold t l c g issues =
     let m = mixture_of (target_mixing s l.inventory c g) in
-    with_best x s t l (plain_of s threshold l.inventory c m issues) m
+    with_best x s t l (plain_of s threshold l.inventory c m (target_tail_loglik l.inventory g issues) issues) m
 
 -- the first ten of a list, which a shape's have
 abbrev pub ten_of : List Float → List Float

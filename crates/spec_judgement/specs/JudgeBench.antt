@@ -11,7 +11,7 @@ use Rattle.tonekit_core.specs.declared.layout.TheConstants.{JUDGEMENT_SIZE, JUDG
 use Rattle.tonekit_core.specs.declared.layout.TheConstants.{JUDGEMENT_DISTANCE, JUDGEMENT_OWNER, JUDGEMENT_FORM, JUDGEMENT_LABEL, JUDGEMENT_PART, JUDGEMENT_HEARD}
 use Rattle.tonekit_core.specs.declared.layout.TheConstants.{JUDGEMENT_DELTA_COUNT, JUDGEMENT_FIRST_DELTA, JUDGEMENT_SECOND_DELTA, DELTA_AMOUNT, JUDGEMENT_MEASURED, JUDGEMENT_ISSUES}
 use Rattle.spec_arithmetic.specs.Fields.{byte_at, u16_at, u32_at, f32s_bytes}
-use Rattle.spec_arithmetic.specs.Constants.{one64, zero64}
+use Rattle.spec_arithmetic.specs.Constants.{one64, zero64, zero32}
 use Rattle.spec_judgement.specs.Score.{add_to, value_of, excused, point_weight, squares_of, end_term, ends_of, distance_of, no_mixing, mixed, mix_turn}
 use Rattle.spec_judgement.specs.ScoreBench.{shaped, plain}
 use Rattle.spec_judgement.specs.DeltasBench.{raised, more, three}
@@ -23,7 +23,8 @@ use Rattle.tonekit_core.specs.declared.Name.{Name}
 use Rattle.spec_judgement.specs.declared.Region.{Region}
 use Rattle.spec_judgement.specs.declared.ToneEntry.{ToneEntry}
 use Rattle.spec_judgement.specs.declared.ToneJudgement.{ToneJudgement}
-use Rattle.spec_judgement.specs.Judge.{Inventory, component_at, weighed, part_mixing, ranked, ranking_of, heard_of, advice_of, nearest_at, not_measured}
+use Rattle.spec_judgement.specs.Inventory.{Inventory}
+use Rattle.spec_judgement.specs.Judge.{component_at, weighed, part_mixing, ranked, ranking_of, heard_of, advice_of, nearest_at, not_measured}
 use Rattle.spec_judgement.specs.Record.{nearest_bytes, score_bytes, one_bytes, delta_bytes, judgement_bytes}
 
 -- "Tone 1, accent 1 with a citation, eight voiced frames of 110 Hz, floor NaN: hexadecimal 31 01 01 00 24 74 C9, 54 zero bytes, 02 40 00"
@@ -48,7 +49,7 @@ abbrev zero : Float
 zero = of_bits binary32 0
 
 abbrev likely : ℕ → ToneEntry
-likely number = record { number = number; prior = half; region = None; listing = None }
+likely number = record { number = number; prior = half; region = None; tail = zero32; listing = None }
 
 abbrev two_tones : Inventory
 two_tones = record { items = likely 7 ∷ likely 9 ∷ [] }
@@ -89,7 +90,7 @@ no_advice = refl
 
 -- a tone whose listing has this form
 abbrev of_form : ℕ → ToneEntry
-of_form form = record { number = 1; prior = half; region = None; listing = Some (record { name = record { owner = 1; form = form; label = 0 }; count = 4 }) }
+of_form form = record { number = 1; prior = half; region = None; tail = zero32; listing = Some (record { name = record { owner = 1; form = form; label = 0 }; count = 4 }) }
 
 -- a part counts from 0, in a mixture alone
 pub third_part : (nearest_at (of_form MIXTURE_FORM) 6 half).part ≡ 2

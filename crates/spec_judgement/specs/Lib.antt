@@ -1,6 +1,8 @@
 pub mod Input
 pub mod Score
 pub mod Deltas
+pub mod Inventory
+pub mod Tail
 pub mod Judge
 pub mod Asked
 pub mod Target
@@ -9,6 +11,7 @@ pub mod Record
 pub mod Judgement
 pub mod ScoreBench
 pub mod DeltasBench
+pub mod TailBench
 pub mod JudgeBench
 pub mod TargetBench
 pub mod GatherBench

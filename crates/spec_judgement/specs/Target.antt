@@ -8,7 +8,7 @@ use Rattle.tonekit_core.specs.Loop.{next, stop, range, range_to}
 use Rattle.spec_arithmetic.specs.Constants.{zero32, one32}
 use Rattle.spec_arithmetic.specs.Pick.{greater}
 use Rattle.spec_query.specs.Query.{variant_tone, variant_weight}
-use Rattle.spec_judgement.specs.Judge.{Inventory, Targets}
+use Rattle.spec_judgement.specs.Inventory.{Inventory, Targets}
 use Rattle.spec_judgement.specs.declared.Target.{Target}
 
 -- "weight below 0 or not finite (−0 passes)"

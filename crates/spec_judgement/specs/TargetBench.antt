@@ -4,7 +4,7 @@ use Rattle.std.specs.Float.{binary32}
 use Rattle.std.specs.Float.Ieee.{is_nan, neg, add, sub, lt, le, of_bits}
 use Rattle.tonekit_core.specs.Loop.{turns, range, turns_to, range_to}
 use Rattle.spec_arithmetic.specs.Pick.{greater}
-use Rattle.spec_judgement.specs.Judge.{Inventory}
+use Rattle.spec_judgement.specs.Inventory.{Inventory}
 use Rattle.spec_arithmetic.specs.Constants.{zero32}
 use Rattle.spec_judgement.specs.Target.{variant_weight_good, variant_weights_good, main_weight, variants_good, place_of, target_of, with_target, targets_of}
 
@@ -42,7 +42,7 @@ below_zero = refl
 
 -- an inventory of these numbers
 abbrev numbered : List ℕ → Inventory
-numbered ns = record { items = map (λ n. record { number = n; prior = zero32; region = None; listing = None }) ns }
+numbered ns = record { items = map (λ n. record { number = n; prior = zero32; region = None; tail = zero32; listing = None }) ns }
 
 -- tone 2 with variants 1 and 2 that weigh 0.25 and 0.5: what is left is 0.25
 pub three_targets : targets_of (numbered (1 ∷ 2 ∷ [])) (variants (0 ∷ 0 ∷ 0x80 ∷ 0x3e ∷ []) (0 ∷ 0 ∷ 0 ∷ 0x3f ∷ [])) 2 2

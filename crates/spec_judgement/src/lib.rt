@@ -113,13 +113,14 @@ pub struct ToneListing {
     pub count: u8,
 }
 
-// A tone that is judged against: its number, its prior and its region, and what was looked up for it,
-// if anything was.
+// A tone that is judged against: its number, its prior and its region, what a creaky tail is worth to it at
+// the query's place in the phrase, and what was looked up for it, if anything was.
 #[derive(Clone, Copy, Default)]
 pub struct ToneEntry {
     pub number: u8,
     pub prior: f32,
     pub region: Option<Region>,
+    pub tail: f32,
     pub listing: Option<ToneListing>,
 }
 

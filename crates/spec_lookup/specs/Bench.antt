@@ -2,14 +2,14 @@
 use Rattle.std.specs.Prelude.{ℕ, ◌≡◌, refl, Bool, true, false, List, [], ◌∷◌, ◌++◌, Some, None, replicate, Float}
 use Rattle.std.specs.Float.{binary32, binary64}
 use Rattle.std.specs.Float.Ieee.{add, sub, mul, div, of_int, of_bits, le, lt}
-use Rattle.tonekit_core.specs.declared.layout.TheConstants.{ACCENT_CONTOUR, TONE_REGION}
+use Rattle.tonekit_core.specs.declared.layout.TheConstants.{ACCENT_CONTOUR, TONE_REGION, TAIL_KIND}
 use Rattle.tonekit_core.specs.Loop.{turns, range, turns_to, range_to, loop_on, loop_to}
 use Rattle.spec_arithmetic.specs.Whole.{whole_part}
 use Rattle.spec_arithmetic.specs.Narrow.{narrowed}
 use Rattle.spec_arithmetic.specs.Places.{index_of}
-use Rattle.spec_pack.specs.Ranges.{above_zero, probability_fine, knot_fine, weight_fine, slot_fine, knots_fine, region_fine, tolerances_fine}
+use Rattle.spec_pack.specs.Ranges.{above_zero, probability_fine, knot_fine, weight_fine, slot_fine, knots_fine, region_fine, tail_fine, tails_fine, tolerances_fine}
 use Rattle.spec_arithmetic.specs.Files.{loaded}
-use Rattle.spec_pack.specs.Pack.{parts_from, PackRead, due_after, size_of, holds, zero_or_held, settings_verdict, tone_verdict, accent_verdict, rule_verdict, part_verdict, body_verdict, record_verdict, added, parents_held, chain_ends, chains_end, end_verdict, read_pack}
+use Rattle.spec_pack.specs.Pack.{parts_from, PackRead, due_after, size_of, holds, zero_or_held, settings_verdict, tone_verdict, tail_verdict, accent_verdict, rule_verdict, part_verdict, body_verdict, record_verdict, added, parents_held, chain_ends, chains_end, end_verdict, read_pack}
 use Rattle.spec_lookup.specs.declared.Context.{Context}
 use Rattle.spec_lookup.specs.declared.Listing.{Listing}
 use Rattle.spec_arithmetic.specs.Position.{position}
@@ -71,7 +71,7 @@ abbrev read : PackRead
 read = record { last = 5; tones = 9 ∷ 65 ∷ []; accents = 121 ∷ 246 ∷ []; firsts = 0 ∷ 2 ∷ []; rules = 140 ∷ 193 ∷ 265 ∷ 364 ∷ []; parts = 1; total = 5 }
 
 reads : read_pack pack ≡ loaded read 418
-unfolding read_pack loop_to loop_on record_verdict body_verdict settings_verdict tone_verdict accent_verdict rule_verdict part_verdict due_after size_of holds zero_or_held added parents_held chain_ends chains_end end_verdict index_of range_to turns_to above_zero probability_fine knot_fine weight_fine slot_fine knots_fine region_fine tolerances_fine range turns of_bits le lt
+unfolding read_pack loop_to loop_on record_verdict body_verdict settings_verdict tone_verdict tail_verdict accent_verdict rule_verdict part_verdict due_after size_of holds zero_or_held added parents_held chain_ends chains_end end_verdict index_of range_to turns_to above_zero probability_fine knot_fine weight_fine slot_fine knots_fine region_fine tail_fine tails_fine tolerances_fine range turns of_bits le lt
 reads = refl
 
 context : ℕ → ℕ → ℕ → Bool → Context
@@ -120,7 +120,7 @@ read_first = record { last = 5; tones = 9 ∷ []; accents = 65 ∷ 84 ∷ []; fi
 
 parent_behind : (read_pack child_first ≡ loaded read_first 157)
     × (look_up child_first read_first (context 3 1 0 true) ≡ Some (record { name = record { owner = 5; form = 2; label = 7 }; at = 110; count = 1 }))
-unfolding context read_pack record_verdict body_verdict settings_verdict tone_verdict accent_verdict rule_verdict part_verdict due_after size_of holds zero_or_held added parents_held chain_ends chains_end end_verdict above_zero probability_fine knot_fine weight_fine slot_fine knots_fine region_fine tolerances_fine of_bits le lt look_up find_rule climb_turn best_rule better_of matches meets specificity index_of range_to turns_to loop_to loop_on range turns parts_from
+unfolding context read_pack record_verdict body_verdict settings_verdict tone_verdict tail_verdict accent_verdict rule_verdict part_verdict due_after size_of holds zero_or_held added parents_held chain_ends chains_end end_verdict above_zero probability_fine knot_fine weight_fine slot_fine knots_fine region_fine tail_fine tails_fine tolerances_fine of_bits le lt look_up find_rule climb_turn best_rule better_of matches meets specificity index_of range_to turns_to loop_to loop_on range turns parts_from
 parent_behind = (refl, refl)
 
 -- an accent and a tone that are not held
@@ -144,10 +144,18 @@ record2 =
     2 ∷ 1 ∷ 2 ∷ 3 ∷ 4 ∷ 5 ∷ 6 ∷ 7 ∷ 8 ∷ 9 ∷ 10 ∷ 11 ∷ 12 ∷ 13 ∷ 14 ∷ 15 ∷ 16 ∷ 17 ∷ 18 ∷ 19 ∷ 20 ∷ 21 ∷ 22 ∷ 23 ∷ 24 ∷ 25 ∷ 26 ∷ 27 ∷
     28 ∷ 29 ∷ 30 ∷ 31 ∷ 32 ∷ 33 ∷ 34 ∷ 35 ∷ 36 ∷ 37 ∷ 38 ∷ 39 ∷ 40 ∷ 41 ∷ 42 ∷ 43 ∷ 44 ∷ 45 ∷ 46 ∷ 47 ∷ 48 ∷ 49 ∷ 50 ∷ 51 ∷ 52 ∷ 53 ∷ 54 ∷ 55 ∷ []
 
-fields2 : (tone_at TONE_REGION record2 0 ≡ record { number = 1; prior = 0x0504_0302; flag = 47; from = 0x3332_3130; to = 0x3736_3534 })
+fields2 : (tone_at TONE_REGION TAIL_KIND record2 0 ≡ record { number = 1; prior = 0x0504_0302; flag = 47; from = 0x3332_3130; to = 0x3736_3534; tail_final = 0; tail_elsewhere = 0 })
     × (tone_knots_at record2 0 ≡ f32 0x0a09_0807 ∷ f32 0x0e0d_0c0b ∷ f32 0x1211_100f ∷ f32 0x1615_1413 ∷ f32 0x1a19_1817 ∷ f32 0x1e1d_1c1b ∷ [])
 unfolding knots_at
 fields2 = (refl, refl)
+
+-- a tail behind it; and one that does not follow it, but the next record
+abbrev record7 : List ℕ
+record7 = 7 ∷ 1 ∷ 2 ∷ 3 ∷ 4 ∷ 5 ∷ 6 ∷ 7 ∷ 8 ∷ []
+
+fields7 : (tone_at TONE_REGION TAIL_KIND (record2 ++ record7) 0 ≡ record { number = 1; prior = 0x0504_0302; flag = 47; from = 0x3332_3130; to = 0x3736_3534; tail_final = 0x0403_0201; tail_elsewhere = 0x0807_0605 })
+    × (tone_at TONE_REGION TAIL_KIND (record2 ++ (record2 ++ record7)) 0 ≡ tone_at TONE_REGION TAIL_KIND record2 0)
+fields7 = (refl, refl)
 
 abbrev record3 : List ℕ
 record3 = 3 ∷ 1 ∷ 2 ∷ 3 ∷ 4 ∷ 5 ∷ 6 ∷ 7 ∷ 8 ∷ 9 ∷ 10 ∷ 11 ∷ 12 ∷ 13 ∷ 14 ∷ 15 ∷ 16 ∷ 17 ∷ 18 ∷ []

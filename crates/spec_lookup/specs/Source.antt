@@ -4,8 +4,8 @@ use Rattle.std.specs.Prelude.{ℕ, zero, suc, ◌+◌, Bool, false, cond, ◌||�
 use Rattle.std.proofs.Math.Option.{Option, none, some}
 use Rattle.std.specs.Float.{binary32}
 use Rattle.std.specs.Float.Ieee.{to_bits}
-use Rattle.tonekit_core.specs.declared.layout.TheConstants.{SETTINGS_TEMPERATURE, SETTINGS_THRESHOLD, TONE_PRIOR, TONE_REGION, REGION_FROM, REGION_TO}
-use Rattle.tonekit_core.specs.declared.layout.TheConstants.{ACCENT_CONTOUR, TOLERANCE_ONSET, TOLERANCE_OFFSET, TOLERANCE_TURNING}
+use Rattle.tonekit_core.specs.declared.layout.TheConstants.{SETTINGS_TEMPERATURE, SETTINGS_THRESHOLD, TONE_PRIOR, TONE_REGION, REGION_FROM, REGION_TO, REGION_SIZE}
+use Rattle.tonekit_core.specs.declared.layout.TheConstants.{TAIL_KIND, TAIL_FINAL, TAIL_ELSEWHERE, ACCENT_CONTOUR, TOLERANCE_ONSET, TOLERANCE_OFFSET, TOLERANCE_TURNING}
 use Rattle.spec_arithmetic.specs.Fields.{byte_at, u32_at}
 use Rattle.spec_arithmetic.specs.Places.{number_at}
 use Rattle.spec_pack.specs.Pack.{PackRead}
@@ -19,17 +19,19 @@ pub record Settings : Type 0 where
   pub temperature : ℕ
   pub threshold : ℕ
 
--- number, prior, flag, from and to
+-- number, prior, flag, from and to; and "the tail value at phrase end and elsewhere"
 pub record Tone : Type 0 where
   pub number : ℕ
   pub prior : ℕ
   pub flag : ℕ
   pub from : ℕ
   pub to : ℕ
+  pub tail_final : ℕ
+  pub tail_elsewhere : ℕ
 
 -- past the end of the tones, where nothing is read
 abbrev pub absent_tone : Tone
-absent_tone = record { number = 0; prior = 0; flag = 0; from = 0; to = 0 }
+absent_tone = record { number = 0; prior = 0; flag = 0; from = 0; to = 0; tail_final = 0; tail_elsewhere = 0 }
 
 -- an accent's number and its four tolerances
 pub record Accent : Type 0 where
@@ -80,14 +82,21 @@ carried_of s (Some l) = some (components s l l.count)
 abbrev pub settings_at : List ℕ → ℕ → Settings
 settings_at s o = record { temperature = u32_at s (o + SETTINGS_TEMPERATURE); threshold = u32_at s (o + SETTINGS_THRESHOLD) }
 
--- a tone's record at o, with its region at that place, and an accent's with its tolerances: they stand elsewhere in a sheet
-abbrev pub tone_at : ℕ → List ℕ → ℕ → Tone
-tone_at region s o = record {
+-- a value of the tail at o, if a record of that kind stands there: "A tone without one has zeros"
+abbrev pub tail_at : ℕ → ℕ → List ℕ → ℕ → ℕ
+tail_at kind value s o = cond (eqb (byte_at s o) kind) (u32_at s (o + value)) 0
+
+-- a tone's record at o, with its region, which is its last field, at that place, and with the tail of that kind that may follow it; and an accent's
+-- with its tolerances: they stand elsewhere in a sheet
+abbrev pub tone_at : ℕ → ℕ → List ℕ → ℕ → Tone
+tone_at region tail s o = record {
   number = number_at s o;
   prior = u32_at s (o + TONE_PRIOR);
   flag = byte_at s (o + region);
   from = u32_at s (o + (region + REGION_FROM));
   to = u32_at s (o + (region + REGION_TO));
+  tail_final = tail_at tail TAIL_FINAL s (o + (region + REGION_SIZE));
+  tail_elsewhere = tail_at tail TAIL_ELSEWHERE s (o + (region + REGION_SIZE));
 }
 
 abbrev pub accent_at : ℕ → List ℕ → ℕ → Accent
@@ -101,4 +110,4 @@ accent_at contour s o = record {
 
 -- what a pack that was read holds
 unfoldable pub source_of_pack : List ℕ → PackRead → Source
-source_of_pack s st = record { settings = settings_at s 0; tones = map (tone_at TONE_REGION s) st.tones; accents = map (accent_at ACCENT_CONTOUR s) st.accents; look = λ c. carried_of s (look_up s st c) }
+source_of_pack s st = record { settings = settings_at s 0; tones = map (tone_at TONE_REGION TAIL_KIND s) st.tones; accents = map (accent_at ACCENT_CONTOUR s) st.accents; look = λ c. carried_of s (look_up s st c) }

@@ -4,9 +4,9 @@ use Rattle.std.specs.Float.Ieee.{lt, le, of_bits}
 use Rattle.tonekit_core.specs.Loop.{range, turns, range_to, turns_to, loop_to, loop_on}
 use Rattle.spec_arithmetic.specs.Places.{index_of}
 use Rattle.tonekit_core.specs.declared.Refusal.TheVariants.{Misplaced, CutShort, Overrun, Crowded, OffScale, Doubled, Loose, EndlessChain}
-use Rattle.spec_pack.specs.Ranges.{above_zero, probability_fine, knot_fine, weight_fine, slot_fine, knots_fine, region_fine, tolerances_fine}
+use Rattle.spec_pack.specs.Ranges.{above_zero, probability_fine, knot_fine, weight_fine, slot_fine, knots_fine, region_fine, tail_fine, tails_fine, tolerances_fine}
 use Rattle.spec_arithmetic.specs.Files.{Out, loaded, refused}
-use Rattle.spec_pack.specs.Pack.{PackRead, due_after, size_of, holds, zero_or_held, settings_verdict, tone_verdict, accent_verdict, rule_verdict, part_verdict, body_verdict, record_verdict, added, parents_held, chain_ends, chains_end, end_verdict, read_pack, load_pack, check_pack}
+use Rattle.spec_pack.specs.Pack.{PackRead, due_after, size_of, holds, zero_or_held, settings_verdict, tone_verdict, tail_verdict, accent_verdict, rule_verdict, part_verdict, body_verdict, record_verdict, added, parents_held, chain_ends, chains_end, end_verdict, read_pack, load_pack, check_pack}
 
 abbrev one : List ℕ
 one = 0 ∷ 0 ∷ 128 ∷ 63 ∷ []
@@ -26,72 +26,72 @@ abbrev pack : List ℕ
 pack = settings ++ (tone 1 1 ++ (accent 1 0 ++ (6 ∷ [])))
 
 smallest : load_pack pack ≡ loaded (record { last = 3; tones = 9 ∷ []; accents = 65 ∷ []; firsts = 0 ∷ []; rules = []; parts = 0; total = 0 }) 85
-unfolding load_pack read_pack record_verdict due_after size_of body_verdict settings_verdict tone_verdict accent_verdict rule_verdict part_verdict holds zero_or_held added parents_held chain_ends chains_end end_verdict index_of range_to turns_to above_zero probability_fine knot_fine weight_fine slot_fine knots_fine region_fine tolerances_fine range turns loop_to loop_on lt le of_bits
+unfolding load_pack read_pack record_verdict due_after size_of body_verdict settings_verdict tone_verdict tail_verdict accent_verdict rule_verdict part_verdict holds zero_or_held added parents_held chain_ends chains_end end_verdict index_of range_to turns_to above_zero probability_fine knot_fine weight_fine slot_fine knots_fine region_fine tail_fine tails_fine tolerances_fine range turns loop_to loop_on lt le of_bits
 smallest = refl
 
 -- a tone first
 no_settings : read_pack (tone 1 1) ≡ refused Misplaced 0
-unfolding load_pack read_pack record_verdict due_after size_of body_verdict settings_verdict tone_verdict accent_verdict rule_verdict part_verdict holds zero_or_held added parents_held chain_ends chains_end end_verdict index_of range_to turns_to above_zero probability_fine knot_fine weight_fine slot_fine knots_fine region_fine tolerances_fine range turns loop_to loop_on lt le of_bits
+unfolding load_pack read_pack record_verdict due_after size_of body_verdict settings_verdict tone_verdict tail_verdict accent_verdict rule_verdict part_verdict holds zero_or_held added parents_held chain_ends chains_end end_verdict index_of range_to turns_to above_zero probability_fine knot_fine weight_fine slot_fine knots_fine region_fine tail_fine tails_fine tolerances_fine range turns loop_to loop_on lt le of_bits
 no_settings = refl
 
 -- a kind that there is not, once something is due
-unknown_kind : read_pack (settings ++ (7 ∷ [])) ≡ refused Misplaced 9
-unfolding load_pack read_pack record_verdict due_after size_of body_verdict settings_verdict tone_verdict accent_verdict rule_verdict part_verdict holds zero_or_held added parents_held chain_ends chains_end end_verdict index_of range_to turns_to above_zero probability_fine knot_fine weight_fine slot_fine knots_fine region_fine tolerances_fine range turns loop_to loop_on lt le of_bits
+unknown_kind : read_pack (settings ++ (8 ∷ [])) ≡ refused Misplaced 9
+unfolding load_pack read_pack record_verdict due_after size_of body_verdict settings_verdict tone_verdict tail_verdict accent_verdict rule_verdict part_verdict holds zero_or_held added parents_held chain_ends chains_end end_verdict index_of range_to turns_to above_zero probability_fine knot_fine weight_fine slot_fine knots_fine region_fine tail_fine tails_fine tolerances_fine range turns loop_to loop_on lt le of_bits
 unknown_kind = refl
 
 -- nothing at all: the first record is missing, at the input's end
 empty : read_pack [] ≡ refused CutShort 0
-unfolding load_pack read_pack record_verdict due_after size_of body_verdict settings_verdict tone_verdict accent_verdict rule_verdict part_verdict holds zero_or_held added parents_held chain_ends chains_end end_verdict index_of range_to turns_to above_zero probability_fine knot_fine weight_fine slot_fine knots_fine region_fine tolerances_fine range turns loop_to loop_on lt le of_bits
+unfolding load_pack read_pack record_verdict due_after size_of body_verdict settings_verdict tone_verdict tail_verdict accent_verdict rule_verdict part_verdict holds zero_or_held added parents_held chain_ends chains_end end_verdict index_of range_to turns_to above_zero probability_fine knot_fine weight_fine slot_fine knots_fine region_fine tail_fine tails_fine tolerances_fine range turns loop_to loop_on lt le of_bits
 empty = refl
 
 -- a record that the input cuts
 cut : read_pack (settings ++ (2 ∷ 1 ∷ [])) ≡ refused CutShort 9
-unfolding load_pack read_pack record_verdict due_after size_of body_verdict settings_verdict tone_verdict accent_verdict rule_verdict part_verdict holds zero_or_held added parents_held chain_ends chains_end end_verdict index_of range_to turns_to above_zero probability_fine knot_fine weight_fine slot_fine knots_fine region_fine tolerances_fine range turns loop_to loop_on lt le of_bits
+unfolding load_pack read_pack record_verdict due_after size_of body_verdict settings_verdict tone_verdict tail_verdict accent_verdict rule_verdict part_verdict holds zero_or_held added parents_held chain_ends chains_end end_verdict index_of range_to turns_to above_zero probability_fine knot_fine weight_fine slot_fine knots_fine region_fine tail_fine tails_fine tolerances_fine range turns loop_to loop_on lt le of_bits
 cut = refl
 
 -- no End: it is missing, at the input's end
 no_end : read_pack (settings ++ (tone 1 1 ++ accent 1 0)) ≡ refused CutShort 84
-unfolding load_pack read_pack record_verdict due_after size_of body_verdict settings_verdict tone_verdict accent_verdict rule_verdict part_verdict holds zero_or_held added parents_held chain_ends chains_end end_verdict index_of range_to turns_to above_zero probability_fine knot_fine weight_fine slot_fine knots_fine region_fine tolerances_fine range turns loop_to loop_on lt le of_bits
+unfolding load_pack read_pack record_verdict due_after size_of body_verdict settings_verdict tone_verdict tail_verdict accent_verdict rule_verdict part_verdict holds zero_or_held added parents_held chain_ends chains_end end_verdict index_of range_to turns_to above_zero probability_fine knot_fine weight_fine slot_fine knots_fine region_fine tail_fine tails_fine tolerances_fine range turns loop_to loop_on lt le of_bits
 no_end = refl
 
 -- one byte behind the pack
 behind : load_pack (pack ++ (0 ∷ [])) ≡ refused Overrun 85
-unfolding load_pack read_pack record_verdict due_after size_of body_verdict settings_verdict tone_verdict accent_verdict rule_verdict part_verdict holds zero_or_held added parents_held chain_ends chains_end end_verdict index_of range_to turns_to above_zero probability_fine knot_fine weight_fine slot_fine knots_fine region_fine tolerances_fine range turns loop_to loop_on lt le of_bits
+unfolding load_pack read_pack record_verdict due_after size_of body_verdict settings_verdict tone_verdict tail_verdict accent_verdict rule_verdict part_verdict holds zero_or_held added parents_held chain_ends chains_end end_verdict index_of range_to turns_to above_zero probability_fine knot_fine weight_fine slot_fine knots_fine region_fine tail_fine tails_fine tolerances_fine range turns loop_to loop_on lt le of_bits
 behind = refl
 
 -- the same byte is no matter to a pack at the front
 front : read_pack (pack ++ (0 ∷ [])) ≡ loaded (record { last = 3; tones = 9 ∷ []; accents = 65 ∷ []; firsts = 0 ∷ []; rules = []; parts = 0; total = 0 }) 85
-unfolding load_pack read_pack record_verdict due_after size_of body_verdict settings_verdict tone_verdict accent_verdict rule_verdict part_verdict holds zero_or_held added parents_held chain_ends chains_end end_verdict index_of range_to turns_to above_zero probability_fine knot_fine weight_fine slot_fine knots_fine region_fine tolerances_fine range turns loop_to loop_on lt le of_bits
+unfolding load_pack read_pack record_verdict due_after size_of body_verdict settings_verdict tone_verdict tail_verdict accent_verdict rule_verdict part_verdict holds zero_or_held added parents_held chain_ends chains_end end_verdict index_of range_to turns_to above_zero probability_fine knot_fine weight_fine slot_fine knots_fine region_fine tail_fine tails_fine tolerances_fine range turns loop_to loop_on lt le of_bits
 front = refl
 
 -- eleven knots, although the number is off scale too
 eleven : read_pack (settings ++ tone 0 11) ≡ refused Crowded 9
-unfolding load_pack read_pack record_verdict due_after size_of body_verdict settings_verdict tone_verdict accent_verdict rule_verdict part_verdict holds zero_or_held added parents_held chain_ends chains_end end_verdict index_of range_to turns_to above_zero probability_fine knot_fine weight_fine slot_fine knots_fine region_fine tolerances_fine range turns loop_to loop_on lt le of_bits
+unfolding load_pack read_pack record_verdict due_after size_of body_verdict settings_verdict tone_verdict tail_verdict accent_verdict rule_verdict part_verdict holds zero_or_held added parents_held chain_ends chains_end end_verdict index_of range_to turns_to above_zero probability_fine knot_fine weight_fine slot_fine knots_fine region_fine tail_fine tails_fine tolerances_fine range turns loop_to loop_on lt le of_bits
 eleven = refl
 
 -- tone 0, although the slots are in their ranges
 no_number : read_pack (settings ++ tone 0 1) ≡ refused OffScale 9
-unfolding load_pack read_pack record_verdict due_after size_of body_verdict settings_verdict tone_verdict accent_verdict rule_verdict part_verdict holds zero_or_held added parents_held chain_ends chains_end end_verdict index_of range_to turns_to above_zero probability_fine knot_fine weight_fine slot_fine knots_fine region_fine tolerances_fine range turns loop_to loop_on lt le of_bits
+unfolding load_pack read_pack record_verdict due_after size_of body_verdict settings_verdict tone_verdict tail_verdict accent_verdict rule_verdict part_verdict holds zero_or_held added parents_held chain_ends chains_end end_verdict index_of range_to turns_to above_zero probability_fine knot_fine weight_fine slot_fine knots_fine region_fine tail_fine tails_fine tolerances_fine range turns loop_to loop_on lt le of_bits
 no_number = refl
 
 -- a slot that is no knot holds 1
 loose_slot : read_pack (settings ++ tone 1 0) ≡ refused OffScale 9
-unfolding load_pack read_pack record_verdict due_after size_of body_verdict settings_verdict tone_verdict accent_verdict rule_verdict part_verdict holds zero_or_held added parents_held chain_ends chains_end end_verdict index_of range_to turns_to above_zero probability_fine knot_fine weight_fine slot_fine knots_fine region_fine tolerances_fine range turns loop_to loop_on lt le of_bits
+unfolding load_pack read_pack record_verdict due_after size_of body_verdict settings_verdict tone_verdict tail_verdict accent_verdict rule_verdict part_verdict holds zero_or_held added parents_held chain_ends chains_end end_verdict index_of range_to turns_to above_zero probability_fine knot_fine weight_fine slot_fine knots_fine region_fine tail_fine tails_fine tolerances_fine range turns loop_to loop_on lt le of_bits
 loose_slot = refl
 
 -- a tone's number again
 twice : read_pack (settings ++ (tone 1 1 ++ tone 1 1)) ≡ refused Doubled 65
-unfolding load_pack read_pack record_verdict due_after size_of body_verdict settings_verdict tone_verdict accent_verdict rule_verdict part_verdict holds zero_or_held added parents_held chain_ends chains_end end_verdict index_of range_to turns_to above_zero probability_fine knot_fine weight_fine slot_fine knots_fine region_fine tolerances_fine range turns loop_to loop_on lt le of_bits
+unfolding load_pack read_pack record_verdict due_after size_of body_verdict settings_verdict tone_verdict tail_verdict accent_verdict rule_verdict part_verdict holds zero_or_held added parents_held chain_ends chains_end end_verdict index_of range_to turns_to above_zero probability_fine knot_fine weight_fine slot_fine knots_fine region_fine tail_fine tails_fine tolerances_fine range turns loop_to loop_on lt le of_bits
 twice = refl
 
 -- and that of one that is not the first
 twice_later : read_pack (settings ++ (tone 1 1 ++ (tone 2 1 ++ tone 2 1))) ≡ refused Doubled 121
-unfolding load_pack read_pack record_verdict due_after size_of body_verdict settings_verdict tone_verdict accent_verdict rule_verdict part_verdict holds zero_or_held added parents_held chain_ends chains_end end_verdict index_of range_to turns_to above_zero probability_fine knot_fine weight_fine slot_fine knots_fine region_fine tolerances_fine range turns loop_to loop_on lt le of_bits
+unfolding load_pack read_pack record_verdict due_after size_of body_verdict settings_verdict tone_verdict tail_verdict accent_verdict rule_verdict part_verdict holds zero_or_held added parents_held chain_ends chains_end end_verdict index_of range_to turns_to above_zero probability_fine knot_fine weight_fine slot_fine knots_fine region_fine tail_fine tails_fine tolerances_fine range turns loop_to loop_on lt le of_bits
 twice_later = refl
 
 -- a number again, whose parent is not there
 again : read_pack (settings ++ (tone 1 1 ++ (accent 1 0 ++ accent 1 9))) ≡ refused Doubled 84
-unfolding load_pack read_pack record_verdict due_after size_of body_verdict settings_verdict tone_verdict accent_verdict rule_verdict part_verdict holds zero_or_held added parents_held chain_ends chains_end end_verdict index_of range_to turns_to above_zero probability_fine knot_fine weight_fine slot_fine knots_fine region_fine tolerances_fine range turns loop_to loop_on lt le of_bits
+unfolding load_pack read_pack record_verdict due_after size_of body_verdict settings_verdict tone_verdict tail_verdict accent_verdict rule_verdict part_verdict holds zero_or_held added parents_held chain_ends chains_end end_verdict index_of range_to turns_to above_zero probability_fine knot_fine weight_fine slot_fine knots_fine region_fine tail_fine tails_fine tolerances_fine range turns loop_to loop_on lt le of_bits
 again = refl
 
 -- a rule of tone 1 of this form, and a part of weight 1 or 0 with one knot
@@ -106,27 +106,27 @@ begun = settings ++ (tone 1 1 ++ accent 1 0)
 
 -- a rule with two parts
 mixture : read_pack (begun ++ (rule 3 ++ (part one ++ (part (replicate 4 0) ++ (6 ∷ []))))) ≡ loaded (record { last = 5; tones = 9 ∷ []; accents = 65 ∷ []; firsts = 0 ∷ []; rules = 84 ∷ []; parts = 2; total = 2 }) 184
-unfolding load_pack read_pack record_verdict due_after size_of body_verdict settings_verdict tone_verdict accent_verdict rule_verdict part_verdict holds zero_or_held added parents_held chain_ends chains_end end_verdict index_of range_to turns_to above_zero probability_fine knot_fine weight_fine slot_fine knots_fine region_fine tolerances_fine range turns loop_to loop_on lt le of_bits
+unfolding load_pack read_pack record_verdict due_after size_of body_verdict settings_verdict tone_verdict tail_verdict accent_verdict rule_verdict part_verdict holds zero_or_held added parents_held chain_ends chains_end end_verdict index_of range_to turns_to above_zero probability_fine knot_fine weight_fine slot_fine knots_fine region_fine tail_fine tails_fine tolerances_fine range turns loop_to loop_on lt le of_bits
 mixture = refl
 
 -- a rule without a part
 no_part : read_pack (begun ++ (rule 3 ++ (6 ∷ []))) ≡ refused Misplaced 91
-unfolding load_pack read_pack record_verdict due_after size_of body_verdict settings_verdict tone_verdict accent_verdict rule_verdict part_verdict holds zero_or_held added parents_held chain_ends chains_end end_verdict index_of range_to turns_to above_zero probability_fine knot_fine weight_fine slot_fine knots_fine region_fine tolerances_fine range turns loop_to loop_on lt le of_bits
+unfolding load_pack read_pack record_verdict due_after size_of body_verdict settings_verdict tone_verdict tail_verdict accent_verdict rule_verdict part_verdict holds zero_or_held added parents_held chain_ends chains_end end_verdict index_of range_to turns_to above_zero probability_fine knot_fine weight_fine slot_fine knots_fine region_fine tail_fine tails_fine tolerances_fine range turns loop_to loop_on lt le of_bits
 no_part = refl
 
 -- a second part of a single rule
 second : read_pack (begun ++ (rule 2 ++ (part one ++ part one))) ≡ refused Crowded 137
-unfolding load_pack read_pack record_verdict due_after size_of body_verdict settings_verdict tone_verdict accent_verdict rule_verdict part_verdict holds zero_or_held added parents_held chain_ends chains_end end_verdict index_of range_to turns_to above_zero probability_fine knot_fine weight_fine slot_fine knots_fine region_fine tolerances_fine range turns loop_to loop_on lt le of_bits
+unfolding load_pack read_pack record_verdict due_after size_of body_verdict settings_verdict tone_verdict tail_verdict accent_verdict rule_verdict part_verdict holds zero_or_held added parents_held chain_ends chains_end end_verdict index_of range_to turns_to above_zero probability_fine knot_fine weight_fine slot_fine knots_fine region_fine tail_fine tails_fine tolerances_fine range turns loop_to loop_on lt le of_bits
 second = refl
 
 -- a single rule's part of weight 0
 light : read_pack (begun ++ (rule 2 ++ part (replicate 4 0))) ≡ refused OffScale 91
-unfolding load_pack read_pack record_verdict due_after size_of body_verdict settings_verdict tone_verdict accent_verdict rule_verdict part_verdict holds zero_or_held added parents_held chain_ends chains_end end_verdict index_of range_to turns_to above_zero probability_fine knot_fine weight_fine slot_fine knots_fine region_fine tolerances_fine range turns loop_to loop_on lt le of_bits
+unfolding load_pack read_pack record_verdict due_after size_of body_verdict settings_verdict tone_verdict tail_verdict accent_verdict rule_verdict part_verdict holds zero_or_held added parents_held chain_ends chains_end end_verdict index_of range_to turns_to above_zero probability_fine knot_fine weight_fine slot_fine knots_fine region_fine tail_fine tails_fine tolerances_fine range turns loop_to loop_on lt le of_bits
 light = refl
 
 -- ---- ranges and limits: what an input is, as a single pack; opened, it computes
 unfoldable read : List ℕ → Out PackRead
-unfolding load_pack read_pack record_verdict due_after size_of body_verdict settings_verdict tone_verdict accent_verdict rule_verdict part_verdict holds zero_or_held added parents_held chain_ends chains_end end_verdict index_of range_to turns_to above_zero probability_fine knot_fine weight_fine slot_fine knots_fine region_fine tolerances_fine range turns loop_to loop_on lt le of_bits
+unfolding load_pack read_pack record_verdict due_after size_of body_verdict settings_verdict tone_verdict tail_verdict accent_verdict rule_verdict part_verdict holds zero_or_held added parents_held chain_ends chains_end end_verdict index_of range_to turns_to above_zero probability_fine knot_fine weight_fine slot_fine knots_fine region_fine tail_fine tails_fine tolerances_fine range turns loop_to loop_on lt le of_bits
 read s = load_pack s
 
 -- 0, -0, the least above 0, the greatest that is finite, infinity, a NaN
@@ -324,6 +324,55 @@ form_one = refl
 form_four : read (begun ++ rule 4) ≡ refused OffScale 84
 unfolding read
 form_four = refl
+
+-- "Kind 7 may follow a Tone: two f32, the tail value at phrase end and elsewhere": of 50 and -50 behind the second of two tones, of -0 and 0 behind the first
+abbrev tail : List ℕ → List ℕ → List ℕ
+tail final elsewhere = 7 ∷ (final ++ elsewhere)
+
+abbrev fifty : List ℕ
+fifty = 0 ∷ 0 ∷ 0x48 ∷ 0x42 ∷ []
+
+abbrev minus_fifty : List ℕ
+minus_fifty = 0 ∷ 0 ∷ 0x48 ∷ 0xc2 ∷ []
+
+tail_last : read (settings ++ (tone 1 1 ++ (tone 2 1 ++ (tail fifty minus_fifty ++ (accent 1 0 ++ (6 ∷ []))))))
+    ≡ loaded (record { last = 3; tones = 9 ∷ 65 ∷ []; accents = 130 ∷ []; firsts = 0 ∷ []; rules = []; parts = 0; total = 0 }) 150
+unfolding read
+tail_last = refl
+
+tail_between : read (settings ++ (tone 1 1 ++ (tail minus_nought nought ++ (tone 2 1 ++ (accent 1 0 ++ (6 ∷ []))))))
+    ≡ loaded (record { last = 3; tones = 9 ∷ 74 ∷ []; accents = 130 ∷ []; firsts = 0 ∷ []; rules = []; parts = 0; total = 0 }) 150
+unfolding read
+tail_between = refl
+
+-- one that follows no tone: a second, one behind the settings, one behind an accent
+tail_twice : read (settings ++ (tone 1 1 ++ (tail nought nought ++ tail nought nought))) ≡ refused Misplaced 74
+unfolding read
+tail_twice = refl
+
+tail_first : read (settings ++ tail nought nought) ≡ refused Misplaced 9
+unfolding read
+tail_first = refl
+
+tail_late : read (begun ++ tail nought nought) ≡ refused Misplaced 84
+unfolding read
+tail_late = refl
+
+-- "finite and of size at most 50": the f32s above 50 and below -50, in either place, infinity, a NaN
+tail_above : (read (settings ++ (tone 1 1 ++ tail (1 ∷ 0 ∷ 0x48 ∷ 0x42 ∷ []) nought)) ≡ refused OffScale 65)
+    × (read (settings ++ (tone 1 1 ++ tail nought (1 ∷ 0 ∷ 0x48 ∷ 0xc2 ∷ []))) ≡ refused OffScale 65)
+unfolding read
+tail_above = (refl, refl)
+
+tail_not_finite : (read (settings ++ (tone 1 1 ++ tail (0 ∷ 0 ∷ 0x80 ∷ 0x7f ∷ []) nought)) ≡ refused OffScale 65)
+    × (read (settings ++ (tone 1 1 ++ tail nought (0 ∷ 0 ∷ 0xc0 ∷ 0x7f ∷ []))) ≡ refused OffScale 65)
+unfolding read
+tail_not_finite = (refl, refl)
+
+-- one that the input cuts
+tail_cut : read (settings ++ (tone 1 1 ++ (7 ∷ replicate 7 0))) ≡ refused CutShort 65
+unfolding read
+tail_cut = refl
 
 -- "A parent may now be any accent of the file": one that stands later
 later_parent : read (settings ++ (tone 1 1 ++ (accent 1 2 ++ (accent 2 0 ++ (6 ∷ [])))))

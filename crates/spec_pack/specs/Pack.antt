@@ -1,7 +1,7 @@
 -- Document 01's section Pack: which bytes are a pack, and the refusal and place of those that are not. A record is held by its offset.
 use Rattle.std.specs.Prelude.{ℕ, zero, suc, ◌+◌, ◌-◌, Bool, true, false, cond, not, ◌&&◌, ◌||◌, List, [], ◌∷◌, ◌++◌, eqb, leb, ltb, length, get_or, Option, Some, None, Result, Ok, Err}
 use Rattle.tonekit_core.specs.declared.layout.TheConstants.{SETTINGS_KIND, SETTINGS_SIZE, SETTINGS_TEMPERATURE, SETTINGS_THRESHOLD}
-use Rattle.tonekit_core.specs.declared.layout.TheConstants.{TONE_KIND, TONE_SIZE, TONE_PRIOR, TONE_KNOT_COUNT, TONE_KNOTS, TONE_REGION}
+use Rattle.tonekit_core.specs.declared.layout.TheConstants.{TONE_KIND, TONE_SIZE, TONE_PRIOR, TONE_KNOT_COUNT, TONE_KNOTS, TONE_REGION, TAIL_KIND, TAIL_SIZE}
 use Rattle.tonekit_core.specs.declared.layout.TheConstants.{ACCENT_KIND, ACCENT_SIZE, ACCENT_PARENT, ACCENT_CONTOUR}
 use Rattle.tonekit_core.specs.declared.layout.TheConstants.{RULE_KIND, RULE_SIZE, RULE_TONE, RULE_PREV, RULE_FINAL, RULE_FORM}
 use Rattle.tonekit_core.specs.declared.layout.TheConstants.{PART_KIND, PART_SIZE, PART_WEIGHT, PART_KNOT_COUNT, PART_KNOTS, END_KIND, END_SIZE}
@@ -11,7 +11,7 @@ use Rattle.tonekit_core.specs.declared.Rejection.{Rejection}
 use Rattle.spec_arithmetic.specs.Fields.{byte_at, u32_at, f32_at}
 use Rattle.spec_arithmetic.specs.Places.{number_at, index_of}
 use Rattle.spec_arithmetic.specs.Files.{judged, Out, loaded, refused, Reader, read, single_file, said}
-use Rattle.spec_pack.specs.Ranges.{above_zero, probability_fine, weight_fine, knots_fine, region_fine, tolerances_fine}
+use Rattle.spec_pack.specs.Ranges.{above_zero, probability_fine, weight_fine, knots_fine, region_fine, tails_fine, tolerances_fine}
 
 -- what has been read: the last kind; the offsets of tones, accents and rules, in order; for each accent how many rules stood before it;
 -- the parts of the last rule, and all parts
@@ -24,24 +24,27 @@ pub record PackRead : Type 0 where
   pub parts : ℕ
   pub total : ℕ
 
--- "Order: Settings, Tones, then each Accent with its Rules, each Rule with its Parts, End": 1 to 8 tones, 1 to 8 accents, 1 to 4 parts a rule
+-- "Order: Settings, Tones, then each Accent with its Rules, each Rule with its Parts, End": 1 to 8 tones, 1 to 8 accents, 1 to 4 parts a rule.
+-- "Kind 7 may follow a Tone", once
 unfoldable pub due_after : ℕ → ℕ → Bool
 due_after last k =
     cond (eqb k SETTINGS_KIND) (eqb last 0)
-    (cond (eqb k TONE_KIND) (eqb last SETTINGS_KIND || eqb last TONE_KIND)
-    (cond (eqb k ACCENT_KIND) (eqb last TONE_KIND || (eqb last ACCENT_KIND || eqb last PART_KIND))
+    (cond (eqb k TONE_KIND) (eqb last SETTINGS_KIND || (eqb last TONE_KIND || eqb last TAIL_KIND))
+    (cond (eqb k TAIL_KIND) (eqb last TONE_KIND)
+    (cond (eqb k ACCENT_KIND) (eqb last TONE_KIND || (eqb last TAIL_KIND || (eqb last ACCENT_KIND || eqb last PART_KIND)))
     (cond (eqb k RULE_KIND) (eqb last ACCENT_KIND || eqb last PART_KIND)
     (cond (eqb k PART_KIND) (eqb last RULE_KIND || eqb last PART_KIND)
-    (eqb k END_KIND && (eqb last ACCENT_KIND || eqb last PART_KIND))))))
+    (eqb k END_KIND && (eqb last ACCENT_KIND || eqb last PART_KIND)))))))
 
 -- the bytes of a record of each kind
 unfoldable pub size_of : ℕ → ℕ
 size_of k =
     cond (eqb k SETTINGS_KIND) SETTINGS_SIZE
     (cond (eqb k TONE_KIND) TONE_SIZE
+    (cond (eqb k TAIL_KIND) TAIL_SIZE
     (cond (eqb k ACCENT_KIND) ACCENT_SIZE
     (cond (eqb k RULE_KIND) RULE_SIZE
-    (cond (eqb k PART_KIND) PART_SIZE END_SIZE))))
+    (cond (eqb k PART_KIND) PART_SIZE END_SIZE)))))
 
 -- "A tone is held if a tone record of the pack gives its number as its own, an accent if an accent record does": number n among the records at these offsets
 unfoldable pub holds : List ℕ → List ℕ → ℕ → Bool
@@ -72,6 +75,10 @@ tone_fine s o =
 unfoldable pub tone_verdict : List ℕ → ℕ → PackRead → Result Unit Refusal
 tone_verdict s o st =
     in_turn (leb 8 (length st.tones) || ltb 10 (byte_at s (o + TONE_KNOT_COUNT))) (tone_fine s o) (not (holds s st.tones (number_at s o))) true
+
+-- the two values of a tail
+unfoldable pub tail_verdict : List ℕ → ℕ → Result Unit Refusal
+tail_verdict s o = in_turn false (tails_fine s o) true true
 
 -- number, tolerances: they stand elsewhere in a sheet
 abbrev pub accent_fine : ℕ → List ℕ → ℕ → Bool
@@ -110,9 +117,10 @@ unfoldable pub body_verdict : ℕ → List ℕ → ℕ → PackRead → Result U
 body_verdict k s o st =
     cond (eqb k SETTINGS_KIND) (settings_verdict s o)
     (cond (eqb k TONE_KIND) (tone_verdict s o st)
+    (cond (eqb k TAIL_KIND) (tail_verdict s o)
     (cond (eqb k ACCENT_KIND) (accent_verdict s o st)
     (cond (eqb k RULE_KIND) (rule_verdict s o st)
-    (cond (eqb k PART_KIND) (part_verdict s o st) (Ok tt)))))
+    (cond (eqb k PART_KIND) (part_verdict s o st) (Ok tt))))))
 
 unfoldable pub record_verdict : List ℕ → ℕ → PackRead → Result Unit Refusal
 record_verdict s o st = judged (due_after st.last) size_of (λ k. body_verdict k s o st) s o

@@ -4,7 +4,7 @@ use Rattle.std.specs.Float.{inf, fin}
 use Rattle.std.specs.Float.Ieee.{lt, le}
 use Rattle.std.specs.Float.Ieee.Scale.{finite}
 use Rattle.tonekit_core.specs.Loop.{range}
-use Rattle.tonekit_core.specs.declared.layout.TheConstants.{F32_SIZE, REGION_FROM, REGION_TO, TOLERANCE_ONSET, TOLERANCE_OFFSET, TOLERANCE_TURNING}
+use Rattle.tonekit_core.specs.declared.layout.TheConstants.{F32_SIZE, REGION_FROM, REGION_TO, TOLERANCE_ONSET, TOLERANCE_OFFSET, TOLERANCE_TURNING, TAIL_FINAL, TAIL_ELSEWHERE}
 use Rattle.spec_arithmetic.specs.Constants.{zero32, one32}
 use Rattle.spec_arithmetic.specs.Fields.{byte_at, u32_at, f32_at}
 
@@ -36,6 +36,13 @@ unfoldable pub region_fine : List ℕ → ℕ → Bool
 region_fine s o =
     cond (eqb (byte_at s o) 0) (eqb (u32_at s (o + REGION_FROM)) 0 && eqb (u32_at s (o + REGION_TO)) 0)
     (eqb (byte_at s o) 1 && (finite (f32_at s (o + REGION_FROM)) && (finite (f32_at s (o + REGION_TO)) && le (f32_at s (o + REGION_FROM)) (f32_at s (o + REGION_TO)))))
+
+-- "finite and of size at most 50": both values of the tail at an offset
+unfoldable pub tail_fine : Float → Bool
+tail_fine x = le (fin true 25 (pos 1)) x && le x (fin false 25 (pos 1))
+
+unfoldable pub tails_fine : List ℕ → ℕ → Bool
+tails_fine s o = tail_fine (f32_at s (o + TAIL_FINAL)) && tail_fine (f32_at s (o + TAIL_ELSEWHERE))
 
 -- the four tolerances from an offset on
 unfoldable pub tolerances_fine : List ℕ → ℕ → Bool

@@ -1,7 +1,7 @@
 -- What a station holds that was read from a sheet.
 use Rattle.std.specs.Prelude.{ℕ, zero, suc, ◌+◌, ◌*◌, cond, List, [], ◌∷◌, ◌++◌, Option as Found, Some, None, option_map, map, eqb, length, get_or}
 use Rattle.std.proofs.Math.Option.{Option, none, some}
-use Rattle.tonekit_core.specs.declared.layout.TheConstants.{F32_SIZE, SHEET_TONE_REGION}
+use Rattle.tonekit_core.specs.declared.layout.TheConstants.{F32_SIZE, SHEET_TONE_REGION, SHEET_TAIL_KIND}
 use Rattle.tonekit_core.specs.declared.layout.TheConstants.{SHEET_ACCENT_CONTOUR, SHEET_ROW_LIST, SHEET_ROW_FINAL_LIST}
 use Rattle.tonekit_core.specs.declared.layout.TheConstants.{SHEET_LIST_SIZE, SHEET_LIST_OWNER, SHEET_LIST_FORM, SHEET_LIST_LABEL, SHEET_LIST_COUNT}
 use Rattle.tonekit_core.specs.declared.layout.TheConstants.{SHEET_COMPONENT_SIZE, SHEET_COMPONENT_WEIGHT, SHEET_COMPONENT_POINTS}
@@ -53,4 +53,4 @@ unfoldable pub look_sheet : List ℕ → SheetRead → Context → Option (List 
 look_sheet s st c = look_placed s st c (index_of s st.accents c.accent) (index_of s st.tones c.tone) (prev_found s st c.prev)
 
 unfoldable pub source_of_sheet : List ℕ → SheetRead → Source
-source_of_sheet s st = record { settings = settings_at s 0; tones = map (tone_at SHEET_TONE_REGION s) st.tones; accents = map (accent_at SHEET_ACCENT_CONTOUR s) st.accents; look = look_sheet s st }
+source_of_sheet s st = record { settings = settings_at s 0; tones = map (tone_at SHEET_TONE_REGION SHEET_TAIL_KIND s) st.tones; accents = map (accent_at SHEET_ACCENT_CONTOUR s) st.accents; look = look_sheet s st }

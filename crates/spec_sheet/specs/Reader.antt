@@ -3,7 +3,7 @@ use Rattle.std.specs.Prelude.{ℕ, zero, suc, ◌+◌, ◌-◌, ◌*◌, max, Bo
 use Rattle.std.specs.Float.{fin}
 use Rattle.std.specs.Float.Ieee.{le}
 use Rattle.tonekit_core.specs.Loop.{next, stop, range, range_to}
-use Rattle.tonekit_core.specs.declared.layout.TheConstants.{F32_SIZE, SETTINGS_SIZE, SHEET_SETTINGS_KIND, SHEET_TONE_KIND, SHEET_TONE_SIZE, SHEET_TONE_PRIOR, SHEET_TONE_REGION}
+use Rattle.tonekit_core.specs.declared.layout.TheConstants.{F32_SIZE, SETTINGS_SIZE, SHEET_SETTINGS_KIND, SHEET_TONE_KIND, SHEET_TONE_SIZE, SHEET_TONE_STEP, SHEET_TONE_PRIOR, SHEET_TONE_REGION, SHEET_TAIL_KIND, TAIL_SIZE}
 use Rattle.tonekit_core.specs.declared.layout.TheConstants.{SHEET_ACCENT_KIND, SHEET_ACCENT_SIZE, SHEET_ACCENT_CONTOUR, SHEET_ROW_KIND, SHEET_ROW_SIZE, SHEET_ROW_ACCENT, SHEET_ROW_TONE}
 use Rattle.tonekit_core.specs.declared.layout.TheConstants.{SHEET_ROW_PREV, SHEET_ROW_LIST, SHEET_ROW_FINAL_LIST, SHEET_LIST_KIND, SHEET_LIST_SIZE, SHEET_LIST_OWNER, SHEET_LIST_FORM}
 use Rattle.tonekit_core.specs.declared.layout.TheConstants.{SHEET_LIST_LABEL, SHEET_LIST_COUNT, SHEET_COMPONENT_KIND, SHEET_COMPONENT_SIZE, SHEET_COMPONENT_WEIGHT}
@@ -15,7 +15,7 @@ use Rattle.spec_arithmetic.specs.Fields.{byte_at, u16_at, u32_at, f32_at}
 use Rattle.spec_pack.specs.Ranges.{probability_fine, weight_fine, region_fine}
 use Rattle.spec_arithmetic.specs.Places.{number_at}
 use Rattle.spec_arithmetic.specs.Files.{judged, Out, loaded, refused, Reader, read, single_file, said}
-use Rattle.spec_pack.specs.Pack.{holds, zero_or_held, in_turn, settings_verdict, accent_fine}
+use Rattle.spec_pack.specs.Pack.{holds, zero_or_held, in_turn, settings_verdict, tail_verdict, accent_fine}
 use Rattle.spec_sheet.specs.Sheet.{row_count, accent_place, tone_place, prev_place}
 
 -- what has been read: the last kind; the offsets of tones and accents; how many rows; the offsets of lists; the components that the last list is still due, and all components
@@ -36,25 +36,27 @@ rows_due st = row_count (length st.accents) (length st.tones)
 unfoldable pub complete : SheetRead → Bool
 complete st = cond (eqb st.last SHEET_ROW_KIND) (eqb st.rows (rows_due st)) (eqb st.last SHEET_COMPONENT_KIND && eqb st.due 0)
 
--- "Kinds, in this order"; "A row or component too few or too many is 1"
+-- "Kinds, in this order"; "A row or component too few or too many is 1". A tail stands "after each tone", and a sheet "without them gets 1"
 unfoldable pub due_next : SheetRead → ℕ → Bool
 due_next st k =
     cond (eqb k SHEET_SETTINGS_KIND) (eqb st.last 0)
-    (cond (eqb k SHEET_TONE_KIND) (eqb st.last SHEET_SETTINGS_KIND || eqb st.last SHEET_TONE_KIND)
-    (cond (eqb k SHEET_ACCENT_KIND) (eqb st.last SHEET_TONE_KIND || eqb st.last SHEET_ACCENT_KIND)
+    (cond (eqb k SHEET_TONE_KIND) (eqb st.last SHEET_SETTINGS_KIND || eqb st.last SHEET_TAIL_KIND)
+    (cond (eqb k SHEET_TAIL_KIND) (eqb st.last SHEET_TONE_KIND)
+    (cond (eqb k SHEET_ACCENT_KIND) (eqb st.last SHEET_TAIL_KIND || eqb st.last SHEET_ACCENT_KIND)
     (cond (eqb k SHEET_ROW_KIND) ((eqb st.last SHEET_ACCENT_KIND || eqb st.last SHEET_ROW_KIND) && ltb st.rows (rows_due st))
     (cond (eqb k SHEET_COMPONENT_KIND) (ltb 0 st.due)
-    ((eqb k SHEET_LIST_KIND || eqb k SHEET_END_KIND) && complete st)))))
+    ((eqb k SHEET_LIST_KIND || eqb k SHEET_END_KIND) && complete st))))))
 
 -- the bytes of a record of each kind
 unfoldable pub size_of : ℕ → ℕ
 size_of k =
     cond (eqb k SHEET_SETTINGS_KIND) SETTINGS_SIZE
     (cond (eqb k SHEET_TONE_KIND) SHEET_TONE_SIZE
+    (cond (eqb k SHEET_TAIL_KIND) TAIL_SIZE
     (cond (eqb k SHEET_ACCENT_KIND) SHEET_ACCENT_SIZE
     (cond (eqb k SHEET_ROW_KIND) SHEET_ROW_SIZE
     (cond (eqb k SHEET_LIST_KIND) SHEET_LIST_SIZE
-    (cond (eqb k SHEET_COMPONENT_KIND) SHEET_COMPONENT_SIZE SHEET_END_SIZE)))))
+    (cond (eqb k SHEET_COMPONENT_KIND) SHEET_COMPONENT_SIZE SHEET_END_SIZE))))))
 
 -- "Fields have the pack's ranges": number, prior, region
 abbrev pub tone_fine : List ℕ → ℕ → Bool
@@ -113,10 +115,11 @@ unfoldable pub body_verdict : ℕ → List ℕ → ℕ → SheetRead → Result 
 body_verdict k s o st =
     cond (eqb k SHEET_SETTINGS_KIND) (settings_verdict s o)
     (cond (eqb k SHEET_TONE_KIND) (tone_verdict s o st)
+    (cond (eqb k SHEET_TAIL_KIND) (tail_verdict s o)
     (cond (eqb k SHEET_ACCENT_KIND) (accent_verdict s o st)
     (cond (eqb k SHEET_ROW_KIND) (row_verdict s o st)
     (cond (eqb k SHEET_LIST_KIND) (list_verdict s o st)
-    (cond (eqb k SHEET_COMPONENT_KIND) (component_verdict s o st) (Ok tt))))))
+    (cond (eqb k SHEET_COMPONENT_KIND) (component_verdict s o st) (Ok tt)))))))
 
 unfoldable pub record_verdict : List ℕ → ℕ → SheetRead → Result (Unit {0}) Refusal
 record_verdict s o st = judged (due_next st) size_of (λ k. body_verdict k s o st) s o
@@ -130,9 +133,9 @@ added k o count st =
     (cond (eqb k SHEET_LIST_KIND) (record st { last = k; lists = st.lists ++ (o ∷ []); due = count })
     (cond (eqb k SHEET_COMPONENT_KIND) (record st { last = k; due = st.due - 1; total = st.total + 1 }) (record st { last = k })))))
 
--- where row r stands: behind settings, tones and accents
+-- where row r stands: behind settings, tones with their tails, and accents
 abbrev pub row_at : SheetRead → ℕ → ℕ
-row_at st r = SETTINGS_SIZE + SHEET_TONE_SIZE * length st.tones + SHEET_ACCENT_SIZE * length st.accents + SHEET_ROW_SIZE * r
+row_at st r = SETTINGS_SIZE + SHEET_TONE_STEP * length st.tones + SHEET_ACCENT_SIZE * length st.accents + SHEET_ROW_SIZE * r
 
 -- a row's list number is 0, or one that a list record gives as its own
 unfoldable pub loose_row : List ℕ → SheetRead → Option ℕ

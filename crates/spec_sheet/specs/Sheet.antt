@@ -2,7 +2,7 @@
 use Rattle.std.specs.Prelude.{ℕ, zero, suc, ◌+◌, ◌*◌, ◌/◌, ◌%◌, Bool, true, false, List, [], ◌∷◌, ◌++◌, length, get_or}
 use Rattle.std.proofs.Math.Option.{Option, none, some}
 use Rattle.tonekit_core.specs.Loop.{range}
-use Rattle.tonekit_core.specs.declared.layout.TheConstants.{SHEET_SETTINGS_KIND, SHEET_TONE_KIND, SHEET_ACCENT_KIND, SHEET_ROW_KIND}
+use Rattle.tonekit_core.specs.declared.layout.TheConstants.{SHEET_SETTINGS_KIND, SHEET_TONE_KIND, SHEET_TAIL_KIND, SHEET_ACCENT_KIND, SHEET_ROW_KIND}
 use Rattle.tonekit_core.specs.declared.layout.TheConstants.{SHEET_LIST_KIND, SHEET_COMPONENT_KIND, SHEET_END_KIND}
 use Rattle.spec_arithmetic.specs.Fields.{le16, le32}
 use Rattle.spec_lookup.specs.Source.{Settings, Tone, Accent, Carried, Source, accent_in, absent_tone}
@@ -75,9 +75,13 @@ lists_of v = range (λ r lists. noted (noted lists (v.row r false)) (v.row r tru
 abbrev pub settings_bytes : Settings → List ℕ
 settings_bytes x = (SHEET_SETTINGS_KIND ∷ []) ++ (le32 x.temperature ++ le32 x.threshold)
 
--- "18 tone, in pack order: number, prior, flag, from, to"
+-- "kind 24 with the same two values after each tone"
+abbrev pub tail_bytes : Tone → List ℕ
+tail_bytes t = (SHEET_TAIL_KIND ∷ []) ++ (le32 t.tail_final ++ le32 t.tail_elsewhere)
+
+-- "18 tone, in pack order: number, prior, flag, from, to", with its tail
 abbrev pub tone_bytes : Tone → List ℕ
-tone_bytes t = (SHEET_TONE_KIND ∷ t.number ∷ []) ++ (le32 t.prior ++ ((t.flag ∷ []) ++ (le32 t.from ++ le32 t.to)))
+tone_bytes t = (SHEET_TONE_KIND ∷ t.number ∷ []) ++ (le32 t.prior ++ ((t.flag ∷ []) ++ (le32 t.from ++ (le32 t.to ++ tail_bytes t))))
 
 -- "19 accent: number, tolerances"
 abbrev pub accent_bytes : Accent → List ℕ

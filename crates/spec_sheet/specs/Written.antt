@@ -2,7 +2,7 @@
 use Rattle.std.specs.Prelude.{ℕ, ◌≡◌, refl, Bool, true, false, cond, List, [], ◌∷◌, ◌++◌, eqb, take, replicate}
 use Rattle.std.proofs.Math.Option.{Option, none, some}
 use Rattle.std.proofs.Common.{inl, inr}
-use Rattle.tonekit_core.specs.declared.layout.TheConstants.{SHEET_ACCENT_CONTOUR, SHEET_TONE_REGION}
+use Rattle.tonekit_core.specs.declared.layout.TheConstants.{SHEET_ACCENT_CONTOUR, SHEET_TONE_REGION, SHEET_TAIL_KIND}
 use Rattle.tonekit_core.specs.Loop.{turns, range, turns_to, range_to}
 use Rattle.spec_lookup.specs.Source.{Settings, Tone, Accent, Carried, Source, accent_in, tone_in, settings_at, tone_at, accent_at}
 use Rattle.spec_arithmetic.specs.Places.{index_of}
@@ -51,7 +51,7 @@ another_second = refl
 -- a source of one tone and of accents 5 and 3, in this order. With nothing before it, not at the end of a phrase, the tone takes the list of label 7; else
 -- that of label 8
 abbrev tone : Tone
-tone = record { number = 1; prior = 0; flag = 0; from = 0; to = 0 }
+tone = record { number = 1; prior = 0; flag = 0; from = 0; to = 0; tail_final = 0; tail_elsewhere = 0 }
 
 abbrev accent : ℕ → Accent
 accent n = record { number = n; contour = 0; onset = 0; offset = 0; turning = 0 }
@@ -65,7 +65,7 @@ small = record { settings = record { temperature = 0; threshold = 0 }; tones = t
 -- "accent .. ascending by number", "numbered from 1 by first use along the rows", "list when not final, list when final"
 small_sheet : sheet small
     ≡ (17 ∷ replicate 8 0)
-    ++ ((18 ∷ 1 ∷ replicate 13 0)
+    ++ ((18 ∷ 1 ∷ (replicate 13 0 ++ 24 ∷ replicate 8 0))
     ++ ((19 ∷ 3 ∷ replicate 16 0)
     ++ ((19 ∷ 5 ∷ replicate 16 0)
     ++ ((20 ∷ 3 ∷ 1 ∷ 0 ∷ 1 ∷ 2 ∷ [])
@@ -80,7 +80,7 @@ small_sheet = refl
 -- a source of tones 7 and 4, in this order, and of accent 3. After tone 4, tone 7 takes the list of label 9, and nothing at the end of
 -- a phrase; tone 4 has that of label 8 after none; else label 7
 abbrev toned : ℕ → Tone
-toned n = record { number = n; prior = 0; flag = 0; from = 0; to = 0 }
+toned n = record { number = n; prior = 0; flag = 0; from = 0; to = 0; tail_final = 0; tail_elsewhere = 0 }
 
 abbrev sought : Context → Option (List Carried)
 sought c =
@@ -94,8 +94,8 @@ pair = record { settings = record { temperature = 0; threshold = 0 }; tones = to
 -- "tone in pack order, prev 0 then tones in pack order", "0 nothing"
 pair_sheet : sheet pair
     ≡ (17 ∷ replicate 8 0)
-    ++ ((18 ∷ 7 ∷ replicate 13 0)
-    ++ ((18 ∷ 4 ∷ replicate 13 0)
+    ++ ((18 ∷ 7 ∷ (replicate 13 0 ++ 24 ∷ replicate 8 0))
+    ++ ((18 ∷ 4 ∷ (replicate 13 0 ++ 24 ∷ replicate 8 0))
     ++ ((19 ∷ 3 ∷ replicate 16 0)
     ++ ((20 ∷ 3 ∷ 7 ∷ 0 ∷ 1 ∷ 1 ∷ [])
     ++ ((20 ∷ 3 ∷ 7 ∷ 7 ∷ 1 ∷ 1 ∷ [])
@@ -125,14 +125,14 @@ lists = (21 ∷ 1 ∷ 3 ∷ 2 ∷ 7 ∷ 0 ∷ 1 ∷ 22 ∷ replicate 44 0) ++ ((
 abbrev printed : List ℕ
 printed =
     (17 ∷ replicate 8 0)
-    ++ ((18 ∷ 1 ∷ replicate 13 0)
+    ++ ((18 ∷ 1 ∷ (replicate 13 0 ++ 24 ∷ replicate 8 0))
     ++ ((19 ∷ 3 ∷ replicate 16 0)
     ++ ((19 ∷ 5 ∷ replicate 16 0)
     ++ ((20 ∷ 3 ∷ 1 ∷ 0 ∷ 1 ∷ 2 ∷ [])
     ++ ((20 ∷ 3 ∷ 1 ∷ 1 ∷ 2 ∷ 2 ∷ []) ++ ((20 ∷ 5 ∷ 1 ∷ 0 ∷ 2 ∷ 1 ∷ []) ++ ((20 ∷ 5 ∷ 1 ∷ 1 ∷ 0 ∷ 2 ∷ []) ++ lists)))))))
 
 abbrev read : SheetRead
-read = record { last = 22; tones = 9 ∷ []; accents = 24 ∷ 42 ∷ []; rows = 4; lists = 84 ∷ 136 ∷ []; due = 0; total = 2 }
+read = record { last = 22; tones = 9 ∷ []; accents = 33 ∷ 51 ∷ []; rows = 4; lists = 93 ∷ 145 ∷ []; due = 0; total = 2 }
 
 abbrev at : ℕ → ℕ → Bool → Context
 at accent prev last = record { accent = accent; tone = 1; prev = prev; last = last }
@@ -172,12 +172,12 @@ fields17 : (settings_at record17 0 ≡ settings17) × (settings_bytes settings17
 fields17 = (refl, refl)
 
 abbrev record18 : List ℕ
-record18 = 18 ∷ 1 ∷ 2 ∷ 3 ∷ 4 ∷ 5 ∷ 6 ∷ 7 ∷ 8 ∷ 9 ∷ 10 ∷ 11 ∷ 12 ∷ 13 ∷ 14 ∷ []
+record18 = 18 ∷ 1 ∷ 2 ∷ 3 ∷ 4 ∷ 5 ∷ 6 ∷ 7 ∷ 8 ∷ 9 ∷ 10 ∷ 11 ∷ 12 ∷ 13 ∷ 14 ∷ (24 ∷ 16 ∷ 17 ∷ 18 ∷ 19 ∷ 20 ∷ 21 ∷ 22 ∷ 23 ∷ [])
 
 abbrev tone18 : Tone
-tone18 = record { number = 1; prior = 0x0504_0302; flag = 6; from = 0x0a09_0807; to = 0x0e0d_0c0b }
+tone18 = record { number = 1; prior = 0x0504_0302; flag = 6; from = 0x0a09_0807; to = 0x0e0d_0c0b; tail_final = 0x1312_1110; tail_elsewhere = 0x1716_1514 }
 
-fields18 : (tone_at SHEET_TONE_REGION record18 0 ≡ tone18) × (tone_bytes tone18 ≡ record18)
+fields18 : (tone_at SHEET_TONE_REGION SHEET_TAIL_KIND record18 0 ≡ tone18) × (tone_bytes tone18 ≡ record18)
 fields18 = (refl, refl)
 
 abbrev record19 : List ℕ
@@ -197,10 +197,10 @@ abbrev context20 : Context
 context20 = record { accent = 1; tone = 2; prev = 3; last = false }
 
 abbrev before20 : List ℕ
-before20 = replicate 9 0 ++ ((18 ∷ 2 ∷ replicate 13 0) ++ ((18 ∷ 3 ∷ replicate 13 0) ++ ((19 ∷ 1 ∷ replicate 16 0) ++ replicate 12 0)))
+before20 = replicate 9 0 ++ ((18 ∷ 2 ∷ (replicate 13 0 ++ 24 ∷ replicate 8 0)) ++ ((18 ∷ 3 ∷ (replicate 13 0 ++ 24 ∷ replicate 8 0)) ++ ((19 ∷ 1 ∷ replicate 16 0) ++ replicate 12 0)))
 
 abbrev read20 : SheetRead
-read20 = record { last = 20; tones = 9 ∷ 24 ∷ []; accents = 39 ∷ []; rows = 3; lists = []; due = 0; total = 0 }
+read20 = record { last = 20; tones = 9 ∷ 33 ∷ []; accents = 57 ∷ []; rows = 3; lists = []; due = 0; total = 0 }
 
 fields20 : (row_due (before20 ++ record20) read20 2 ≡ true)
     × (row_names (before20 ++ record20) read20 2 3 ≡ true)
@@ -269,10 +269,10 @@ both_read = (refl, refl, refl)
 
 -- ---- what a sheet of two tones and an accent holds
 abbrev sheet19 : List ℕ
-sheet19 = record17 ++ (record18 ++ ((18 ∷ 2 ∷ replicate 13 0) ++ record19))
+sheet19 = record17 ++ (record18 ++ ((18 ∷ 2 ∷ (replicate 13 0 ++ 24 ∷ replicate 8 0)) ++ record19))
 
 abbrev read19 : SheetRead
-read19 = record { last = 19; tones = 9 ∷ 24 ∷ []; accents = 39 ∷ []; rows = 0; lists = []; due = 0; total = 0 }
+read19 = record { last = 19; tones = 9 ∷ 33 ∷ []; accents = 57 ∷ []; rows = 0; lists = []; due = 0; total = 0 }
 
 held19 : ((source_of_sheet sheet19 read19).settings ≡ settings17)
     × ((source_of_sheet sheet19 read19).tones ≡ tone18 ∷ toned 2 ∷ [])

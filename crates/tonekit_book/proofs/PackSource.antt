@@ -132,6 +132,6 @@ module _ (s : List ℕ) (st : PackRead) (c : Context) where
 pub pack_source : (s : List ℕ) (st : PackRead) → source_of_pack s st ≡ source_of (book_of s st)
 unfolding source_of_pack source_of book_of
 pack_source s st =
-    let t = tabulate_all (tone_at 47 s) st.tones ∙ sym (map_tabulate (λ (t : BookTone). t.tone) (pack_tone s st) (length st.tones) 0) in
+    let t = tabulate_all (tone_at 47 7 s) st.tones ∙ sym (map_tabulate (λ (t : BookTone). t.tone) (pack_tone s st) (length st.tones) 0) in
     let a = tabulate_all (accent_at 3 s) st.accents ∙ sym (map_tabulate (λ (a : BookAccent). a.accent) (pack_accent s st) (length st.accents) 0) in
     λ i. record { settings = settings_at s 0; tones = t i; accents = a i; look = λ c. look_same s st c i }

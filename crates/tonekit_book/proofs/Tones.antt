@@ -29,7 +29,7 @@ tone_few r t e k =
     ltb-false 10 (byte_at r 6) (neither (leb 8 (length t.tones)) (ltb 10 (byte_at r 6)) p.room).1
 
 module _ (s : List ℕ) (at : ℕ) (r : List ℕ) (n : length r ≡ 56) (few : byte_at r 6 ≤ 10) (h : Stands s at r) where
-  fields_own : tone_at 47 s at ≡ tone_at 47 r 0
+  fields_own : tone_at 47 7 s at ≡ tone_at 47 7 r 0
   fields_own =
       let b = byte_same s at r h (at + 1) 1 refl (omega arith) in
       let p = u32_same s at r h (at + 2) 2 refl (omega arith) in

@@ -144,7 +144,7 @@ tabulate f (suc k) i = f i ∷ tabulate f k (i + 1)
 
 -- the tone, and the rule with the parts behind it, of the records at an offset
 abbrev pub book_tone_at : List ℕ → ℕ → BookTone
-book_tone_at s o = record { tone = tone_at TONE_REGION s o; cited = λ n. cond (eqb (byte_at s (o + TONE_KNOT_COUNT)) 0) none (some (components s (citation n o) 1)) }
+book_tone_at s o = record { tone = tone_at TONE_REGION TAIL_KIND s o; cited = λ n. cond (eqb (byte_at s (o + TONE_KNOT_COUNT)) 0) none (some (components s (citation n o) 1)) }
 
 abbrev pub rule_at : List ℕ → ℕ → ℕ → Rule
 rule_at s owner o = record { tone = byte_at s (o + RULE_TONE); prev = byte_at s (o + RULE_PREV); final = byte_at s (o + RULE_FINAL); gives = components s (rule_listing s owner o) (parts_from 4 s (o + RULE_SIZE)) }

@@ -16,12 +16,21 @@ pub const REGION_FROM: usize = 1;
 
 pub const REGION_TO: usize = 5;
 
+pub const REGION_SIZE: usize = 9;
+
 // "tolerances contour, onset, offset, turning f32", from the contour's on
 pub const TOLERANCE_ONSET: usize = 4;
 
 pub const TOLERANCE_OFFSET: usize = 8;
 
 pub const TOLERANCE_TURNING: usize = 12;
+
+// "two f32, the tail value at phrase end and elsewhere", with the kind
+pub const TAIL_SIZE: usize = 9;
+
+pub const TAIL_FINAL: usize = 1;
+
+pub const TAIL_ELSEWHERE: usize = 5;
 
 // "form u8": 1 is a tone's citation, "2 is single, 3 mixture"
 pub const CITATION_FORM: u8 = 1;
@@ -57,6 +66,9 @@ pub const TONE_REGION: usize = 47;
 pub const TONE_FROM: usize = 48;
 
 pub const TONE_TO: usize = 52;
+
+// "Kind 7 may follow a Tone"
+pub const TAIL_KIND: u8 = 7;
 
 // "3 Accent: number u8, parent u8, tolerances contour, onset, offset, turning f32"
 pub const ACCENT_KIND: u8 = 3;
@@ -215,6 +227,11 @@ pub const SHEET_TONE_FROM: usize = 7;
 
 pub const SHEET_TONE_TO: usize = 11;
 
+// "kind 24 with the same two values after each tone": how far the next tone is
+pub const SHEET_TAIL_KIND: u8 = 24;
+
+pub const SHEET_TONE_STEP: usize = SHEET_TONE_SIZE + TAIL_SIZE;
+
 // "19 accent: number, tolerances"
 pub const SHEET_ACCENT_KIND: u8 = 19;
 
@@ -270,16 +287,16 @@ pub const SHEET_END_KIND: u8 = 23;
 
 pub const SHEET_END_SIZE: usize = 1;
 
-// "13,266 bytes always suffice"
-pub const SHEET_MOST: usize = 13266;
+// "a sheet now takes up to 13,338 bytes"
+pub const SHEET_MOST: usize = 13338;
 
 // Stays: the places of three kinds of records, each counted from the last; one function would need a kind as its argument.
-// Where tone i of a sheet stands: the tones follow the settings. i may be their count, for what follows.
+// Where tone i of a sheet stands: the tones follow the settings, each with its tail. i may be their count, for what follows.
 pub fn sheet_tone_at(i: usize) -> usize
     requires { i ≤ 8 }
     ensures { result ≡ sheet_tone_at i }
 {
-    SETTINGS_SIZE + SHEET_TONE_SIZE * i
+    SETTINGS_SIZE + SHEET_TONE_STEP * i
 }
 
 // Where accent i stands, behind so many tones.

@@ -16,7 +16,8 @@ use Rattle.spec_lookup.specs.Source as source
 use Rattle.spec_lookup.specs.declared.Context.{Context}
 use Rattle.spec_judgement.specs.Score.{scoring_of}
 use Rattle.std.specs.Prelude.{Some}
-use Rattle.spec_judgement.specs.Judge.{Targets, count_in, name_in, entry_at, slot_at, component_at, nearest_at, judgement_of}
+use Rattle.spec_judgement.specs.Inventory.{Targets, count_in, name_in, entry_at, slot_at}
+use Rattle.spec_judgement.specs.Judge.{component_at, nearest_at, judgement_of}
 use Rattle.tonekit_judge.specs.Terms.{slot_part}
 use Rattle.spec_judgement.specs.Asked.{TargetsHeld}
 use Rattle.spec_judgement.specs.declared.Slot.{Slot}
@@ -96,11 +97,11 @@ module _ (src : Source) (few : length src.tones ≤ 8) (alike : (c : Context) (c
 -- a pack that loads, and a sheet
 pack_few : (p : List ℕ) (st : pack.PackRead) (e : ℕ) → pack.read_pack p ≡ files.loaded st e → length (source_of_pack p st).tones ≤ 8
 unfolding source_of_pack
-pack_few p st e r = omega (arith, length-map st.tones (source.tone_at 47 p), (loads p st e r).kept.few_tones)
+pack_few p st e r = omega (arith, length-map st.tones (source.tone_at 47 7 p), (loads p st e r).kept.few_tones)
 
 sheet_few : (p : List ℕ) (st : sheet.SheetRead) (e : ℕ) → sheet.read_sheet p ≡ files.loaded st e → length (source_of_sheet p st).tones ≤ 8
 unfolding source_of_sheet
-sheet_few p st e r = omega (arith, length-map st.tones (source.tone_at 6 p), tones_few p st e r)
+sheet_few p st e r = omega (arith, length-map st.tones (source.tone_at 6 24 p), tones_few p st e r)
 
 pub packs_name : PacksName
 packs_name p st e h =

@@ -15,7 +15,8 @@ use Rattle.spec_judgement.specs.declared.Settings.{Settings}
 use Rattle.spec_judgement.specs.declared.Tolerance.{Tolerance}
 use Rattle.spec_judgement.specs.declared.Mixture.{Mixture}
 use Rattle.spec_judgement.specs.declared.Mixture.TheVariants.{Scored}
-use Rattle.spec_judgement.specs.Judge.{Targets, Listings, usable, slot_at, component_at, target_mixing, judgement_of}
+use Rattle.spec_judgement.specs.Inventory.{Targets, Listings, slot_at}
+use Rattle.spec_judgement.specs.Judge.{usable, component_at, target_mixing, judgement_of}
 use Rattle.spec_judgement.specs.Asked.{TargetsHeld}
 use Rattle.spec_judgement.specs.declared.Nearest.{Nearest}
 use Rattle.spec_judgement.specs.declared.ToneJudgement.{ToneJudgement}

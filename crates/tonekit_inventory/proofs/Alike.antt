@@ -12,7 +12,7 @@ use Rattle.spec_lookup.specs.declared.Context.{Context}
 use Rattle.spec_lookup.specs.declared.Listing.{Listing}
 use Rattle.tonekit_expect.proofs.Carried.{named, part_number, components_length, components_at, carried_ten}
 use Rattle.tonekit_core.specs.declared.Name.{Name}
-use Rattle.spec_judgement.specs.Judge.{count_in, name_in}
+use Rattle.spec_judgement.specs.Inventory.{count_in, name_in}
 use Rattle.spec_judgement.specs.Gather.{named_of}
 use Rattle.tonekit_inventory.proofs.Few.{Few, look_few}
 use Rattle.tonekit_inventory.proofs.Tones.{listing_named}

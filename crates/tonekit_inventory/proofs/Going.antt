@@ -8,7 +8,7 @@ use Rattle.spec_lookup.specs.declared.Context.{Context}
 use Rattle.spec_judgement.specs.declared.ToneEntry.{ToneEntry}
 use Rattle.spec_judgement.specs.declared.ToneListing.{ToneListing}
 use Rattle.spec_judgement.specs.declared.Slots.{Slots}
-use Rattle.spec_judgement.specs.Judge.{Inventory, Listings, listing, no_entry, count_in}
+use Rattle.spec_judgement.specs.Inventory.{Inventory, Listings, listing, no_entry, count_in}
 use Rattle.tonekit_inventory.specs.Gathers.{Lists}
 use Rattle.spec_judgement.specs.Gather.{entry_of, named_of, with_tone, put_in, slotted, given_of, list_tone, listings, no_slots}
 

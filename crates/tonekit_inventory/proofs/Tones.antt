@@ -26,7 +26,7 @@ listing_named s l h =
     ∙ rw (components_length s l l.count, components_at s l nothing_carried l.count 0 h, n.owner, n.form, n.label)
 
 -- ---- a tone's values in its record
-pub region_is : (s : List ℕ) (o : ℕ) → region_at s (o + 47) ≡ region_of (tone_at 47 s o)
+pub region_is : (s : List ℕ) (o : ℕ) → region_at s (o + 47) ≡ region_of (tone_at 47 7 s o)
 unfolding region_at
 region_is s o =
     let a : o + 47 + 1 ≡ o + 48 = omega arith in
@@ -36,17 +36,17 @@ region_is s o =
 module _ (s : List ℕ) (p : Pack) where
   pub tones_many : length (source_in s p).tones ≡ p.tones.count
   unfolding source_of_pack
-  tones_many = length-map (in_order p.tones.at p.tones.count) (tone_at 47 s) ∙ order_length p.tones.at p.tones.count
+  tones_many = length-map (in_order p.tones.at p.tones.count) (tone_at 47 7 s) ∙ order_length p.tones.at p.tones.count
 
   module _ (t : ℕ) (h : t < p.tones.count) where
     abbrev at : ℕ
     at = get_or p.tones.at t 0
 
-    tone_is : get_or (source_in s p).tones t absent_tone ≡ tone_at 47 s at
+    tone_is : get_or (source_in s p).tones t absent_tone ≡ tone_at 47 7 s at
     unfolding source_of_pack
     tone_is =
-        get_or-map (tone_at 47 s) (in_order p.tones.at p.tones.count) t 0 absent_tone (rw order_length h)
-        ∙ ap (tone_at 47 s) (order_get p.tones.at p.tones.count t h)
+        get_or-map (tone_at 47 7 s) (in_order p.tones.at p.tones.count) t 0 absent_tone (rw order_length h)
+        ∙ ap (tone_at 47 7 s) (order_get p.tones.at p.tones.count t h)
 
     pub entry_is : record { number = byte_at s (at + 1); prior = f32_at s (at + 2); region = region_at s (at + 47); listing = None }
         ≡ entry_of (get_or (source_in s p).tones t absent_tone) None

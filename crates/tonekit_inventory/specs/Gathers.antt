@@ -2,7 +2,7 @@
 use Rattle.std.specs.Prelude.{◌≡◌}
 use Rattle.spec_lookup.specs.Source.{Source}
 use Rattle.spec_lookup.specs.declared.Context.{Context}
-use Rattle.spec_judgement.specs.Judge.{Inventory, listing}
+use Rattle.spec_judgement.specs.Inventory.{Inventory, listing}
 use Rattle.spec_judgement.specs.Asked.{Counted}
 use Rattle.spec_judgement.specs.Gather.{Gathering, listings, gathered}
 use Rattle.spec_judgement.specs.declared.Slots.{Slots}

@@ -9,7 +9,7 @@ ghost use Rattle.tonekit_inventory.specs.Fields.{region_at, tolerance_at, settin
 ghost use Rattle.spec_judgement.specs.Gather.{entry_of, named_of, given_of, graded_of, put_in, no_slots};
 ghost use Rattle.tonekit_inventory.specs.Fields.{settings_of};
 ghost use Rattle.tonekit_inventory.specs.Gathers.{Lists, Gathers};
-ghost use Rattle.spec_judgement.specs.Judge.{count_in};
+ghost use Rattle.spec_judgement.specs.Inventory.{count_in};
 
 mod pack;
 

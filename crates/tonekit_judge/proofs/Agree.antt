@@ -8,7 +8,8 @@ use Rattle.spec_judgement.specs.declared.Mixture.{Mixture}
 use Rattle.spec_judgement.specs.declared.Tolerance.{Tolerance}
 use Rattle.spec_shape.specs.declared.ToneShape.{ToneShape}
 use Rattle.tonekit_core.proofs.LoopLaws.{range_same}
-use Rattle.spec_judgement.specs.Judge.{Inventory, Targets, Listings, component_at, plain_of, judged_of, tone_mixing, loglik_at, logliks, part_mixing, target_mixing}
+use Rattle.spec_judgement.specs.Inventory.{Inventory, Targets, Listings}
+use Rattle.spec_judgement.specs.Judge.{component_at, plain_of, judged_of, tone_mixing, loglik_at, logliks, part_mixing, target_mixing}
 use Rattle.tonekit_judge.specs.Terms.{count_at, target_at}
 use Rattle.spec_judgement.specs.Asked.{Counted, TargetsHeld}
 use Rattle.tonekit_judge.specs.Terms.{Filled, cell, tone_turn, part_turn}

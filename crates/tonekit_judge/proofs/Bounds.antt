@@ -23,7 +23,8 @@ use Rattle.spec_judgement.specs.declared.Scoring.{Scoring}
 use Rattle.spec_judgement.specs.declared.Mixture.{Mixture}
 use Rattle.spec_judgement.specs.declared.Mixture.TheVariants.{Scored, Nothing}
 use Rattle.tonekit_score.proofs.Bounds.{Bounded, bounded_zero, bounded_lowest, clamp_bounded, clamp_fits}
-use Rattle.spec_judgement.specs.Judge.{Inventory, Targets, Listings, component_at, loglik_at, logliks, target_mixing, llr_of, plain_of, with_best, judged_of, usable, not_measured, judgement_of}
+use Rattle.spec_judgement.specs.Inventory.{Inventory, Targets, Listings}
+use Rattle.spec_judgement.specs.Judge.{component_at, loglik_at, logliks, target_mixing, llr_of, plain_of, with_best, judged_of, usable, not_measured, judgement_of}
 use Rattle.tonekit_judge.specs.Terms.{count_at}
 use Rattle.tonekit_judge.proofs.Turns.{loglik_turn, lowest_turn}
 use Rattle.spec_judgement.specs.Record.{score_bytes, delta_bytes, judgement_bytes}

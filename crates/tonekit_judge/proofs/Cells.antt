@@ -5,7 +5,7 @@ use Rattle.std.specs.Float.Ieee.{lt}
 use Rattle.spec_judgement.specs.Score.{led}
 use Rattle.spec_judgement.specs.declared.Lead.{Lead}
 use Rattle.spec_judgement.specs.declared.Component.{Component}
-use Rattle.spec_judgement.specs.Judge.{Inventory}
+use Rattle.spec_judgement.specs.Inventory.{Inventory}
 use Rattle.tonekit_judge.specs.Terms.{count_at}
 use Rattle.tonekit_judge.specs.Terms.{Filled, cell}
 

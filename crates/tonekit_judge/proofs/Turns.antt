@@ -5,7 +5,8 @@ use Rattle.std.specs.Float.Ieee.{neg, add}
 use Rattle.spec_arithmetic.specs.Narrow.{narrowed}
 use Rattle.spec_arithmetic.specs.Log.{ln_of}
 use Rattle.spec_judgement.specs.Score.{million}
-use Rattle.spec_judgement.specs.Judge.{Inventory, Targets, entry_at, loglik_at, ranked, part_mixing}
+use Rattle.spec_judgement.specs.Inventory.{Inventory, Targets, entry_at}
+use Rattle.spec_judgement.specs.Judge.{loglik_at, ranked, part_mixing}
 use Rattle.tonekit_judge.specs.Terms.{count_at, target_at}
 use Rattle.spec_judgement.specs.declared.Scoring.{Scoring}
 use Rattle.spec_judgement.specs.declared.Component.{Component}

@@ -7,7 +7,8 @@ use Rattle.tonekit_core.specs.declared.Name.{Name}
 use Rattle.tonekit_core.specs.declared.layout.TheConstants.{MIXTURE_FORM}
 use Rattle.spec_arithmetic.specs.Constants.{zero32}
 use Rattle.spec_judgement.specs.Score.{mix_turn}
-use Rattle.spec_judgement.specs.Judge.{Inventory, Targets, count_in, entry_at, weighed}
+use Rattle.spec_judgement.specs.Inventory.{Inventory, Targets, count_in, entry_at}
+use Rattle.spec_judgement.specs.Judge.{weighed}
 use Rattle.tonekit_score.specs.Terms.{term_of}
 use Rattle.spec_judgement.specs.declared.Scoring.{Scoring}
 use Rattle.spec_judgement.specs.declared.Mixing.{Mixing}

@@ -8,7 +8,7 @@ use Rattle.spec_lookup.specs.Source.{Carried}
 use Rattle.spec_lookup.specs.declared.Context.{Context}
 use Rattle.std.specs.Prelude.{Some, None}
 use Rattle.tonekit_bytes.proofs.Searched.{index_found}
-use Rattle.spec_judgement.specs.Judge.{name_in}
+use Rattle.spec_judgement.specs.Inventory.{name_in}
 use Rattle.spec_judgement.specs.Gather.{named_of}
 use Rattle.tonekit_inventory.proofs.Going.{first_named}
 use Rattle.tonekit_inventory.proofs.Alike.{Under, Alike}

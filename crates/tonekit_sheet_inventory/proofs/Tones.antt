@@ -15,7 +15,7 @@ use Rattle.tonekit_bytes.proofs.Stepped.{stepped_length, stepped_get}
 use Rattle.tonekit_sheet_inventory.specs.Look.{source_in}
 
 -- ---- a tone's values in its record
-region_is : (s : List ℕ) (o : ℕ) → region_at s (o + 6) ≡ region_of (tone_at 6 s o)
+region_is : (s : List ℕ) (o : ℕ) → region_at s (o + 6) ≡ region_of (tone_at 6 24 s o)
 unfolding region_at
 region_is s o =
     let a : o + 6 + 1 ≡ o + 7 = omega arith in
@@ -25,14 +25,14 @@ region_is s o =
 module _ (s : List ℕ) (st : Sheet) where
   pub tones_many : length (source_in s st).tones ≡ st.tones
   unfolding source_of_sheet
-  tones_many = length-map (stepped 9 15 st.tones) (tone_at 6 s) ∙ stepped_length 9 15 st.tones
+  tones_many = length-map (stepped 9 15 st.tones) (tone_at 6 24 s) ∙ stepped_length 9 15 st.tones
 
-  tone_is : (t : ℕ) → t < st.tones → get_or (source_in s st).tones t absent_tone ≡ tone_at 6 s (9 + 15 * t)
+  tone_is : (t : ℕ) → t < st.tones → get_or (source_in s st).tones t absent_tone ≡ tone_at 6 24 s (9 + 15 * t)
   unfolding source_of_sheet
   tone_is t h =
-      get_or-map (tone_at 6 s) (stepped 9 15 st.tones) t 0 absent_tone (rw (stepped_length 9 15 st.tones) h)
-      ∙ ap (tone_at 6 s) (stepped_get 9 15 st.tones t h)
+      get_or-map (tone_at 6 24 s) (stepped 9 15 st.tones) t 0 absent_tone (rw (stepped_length 9 15 st.tones) h)
+      ∙ ap (tone_at 6 24 s) (stepped_get 9 15 st.tones t h)
 
   pub entry_is : (t : ℕ) → t < st.tones → (o : ℕ) → o ≡ sheet_tone_at t → record { number = byte_at s (o + 1); prior = f32_at s (o + 2); region = region_at s (o + 6); listing = None }
       ≡ entry_of (get_or (source_in s st).tones t absent_tone) None
-  entry_is t h o e = rw (tone_is t h ∙ ap (tone_at 6 s) (sym e), region_is s o)
+  entry_is t h o e = rw (tone_is t h ∙ ap (tone_at 6 24 s) (sym e), region_is s o)

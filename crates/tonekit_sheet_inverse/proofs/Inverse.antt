@@ -24,7 +24,7 @@ use Rattle.tonekit_sheet_inverse.proofs.FirstUse.{content, contents, contents_le
 
 -- what the sheet of a source is made of, where the source is what a sheet holds: its accents stand in order already
 abbrev tones_of : List ℕ → SheetRead → List Tone
-tones_of s st = map (tone_at 6 s) st.tones
+tones_of s st = map (tone_at 6 24 s) st.tones
 
 abbrev accents_of : List ℕ → SheetRead → List Accent
 accents_of s st = map (accent_at 2 s) st.accents
@@ -49,7 +49,7 @@ module _ (s : List ℕ) (b : Bytes s) (st : SheetRead) (e : ℕ) (l : Loads s st
   view_is = rw accents_stand
 
   rows_are : rows_of (view_at s st) ≡ st.rows
-  rows_are = rw (length-map st.tones (tone_at 6 s), length-map st.accents (accent_at 2 s)) (sym l.all_rows)
+  rows_are = rw (length-map st.tones (tone_at 6 24 s), length-map st.accents (accent_at 2 s)) (sym l.all_rows)
 
   -- ---- its lists
   list_is : (i : ℕ) → i < length st.lists → ListIs s (get_or st.lists i 0)
@@ -68,11 +68,11 @@ module _ (s : List ℕ) (b : Bytes s) (st : SheetRead) (e : ℕ) (l : Loads s st
   -- ---- its pieces
   tones_span : Spans s 9 (9 + 15 * length st.tones) (piecewise (tone_piece (view_at s st)) 0 (length (tones_of s st)))
   tones_span =
-      rw (length-map st.tones (tone_at 6 s))
+      rw (length-map st.tones (tone_at 6 24 s))
       (gather_spans s (tone_piece (view_at s st)) (λ i. 9 + 15 * i) (length st.tones)
       (λ i h. let t = l.tones i h in
-      let x : Spans s (get_or st.tones i 0) (9 + 15 * (i + 1)) (tone_bytes (tone_at 6 s (get_or st.tones i 0))) = tone_spans s b (get_or st.tones i 0) (9 + 15 * (i + 1)) (omega (arith, t.place)) t.kind in
-      rw (get_or-map (tone_at 6 s) st.tones i 0 absent_tone h, ← t.place) x)
+      let x : Spans s (get_or st.tones i 0) (9 + 15 * (i + 1)) (tone_bytes (tone_at 6 24 s (get_or st.tones i 0))) = tone_spans s b (get_or st.tones i 0) (9 + 15 * (i + 1)) (omega (arith, t.place)) t.kind in
+      rw (get_or-map (tone_at 6 24 s) st.tones i 0 absent_tone h, ← t.place) x)
       9 (9 + 15 * length st.tones) refl refl)
 
   accents_span : Spans s (9 + 15 * length st.tones) (rows_from st) (piecewise (accent_piece (view_at s st)) 0 (length (accents_of s st)))

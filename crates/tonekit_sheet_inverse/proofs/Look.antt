@@ -54,20 +54,20 @@ module _ (s : List ℕ) (st : SheetRead) (e : ℕ) (l : Loads s st e) (o : Order
       let z : n ≡ 0 → ⊥ = λ q. omega (arith, (l.tones p (omega arith)).least) in
       rw (ne_eqb n 0 z, tone_at_lem p (omega arith), add-one)
 
-  prev_number_lem : (p : ℕ) → p ≤ length st.tones → prev_number (map (tone_at 6 s) st.tones) p ≡ prev_due s st p
+  prev_number_lem : (p : ℕ) → p ≤ length st.tones → prev_number (map (tone_at 6 24 s) st.tones) p ≡ prev_due s st p
   prev_number_lem zero b = refl
-  prev_number_lem (suc p) b = ap (λ (t : Tone). t.number) (get_or-map (tone_at 6 s) st.tones p 0 absent_tone (omega arith))
+  prev_number_lem (suc p) b = ap (λ (t : Tone). t.number) (get_or-map (tone_at 6 24 s) st.tones p 0 absent_tone (omega arith))
 
   places : (r : ℕ) → r < st.rows → Places (length st.accents) (length st.tones) r
   places r b =
       let h : r < rows_due st = omega (arith, l.all_rows) in
       row_places (length st.accents) (length st.tones) r (some_tone (length st.accents) (length st.tones) r h) h
 
-  pub row_context_lem : (r : ℕ) (last : Bool) → r < st.rows → row_context (map (tone_at 6 s) st.tones) (map (accent_at 2 s) st.accents) r last ≡ context_at s st r last
+  pub row_context_lem : (r : ℕ) (last : Bool) → r < st.rows → row_context (map (tone_at 6 24 s) st.tones) (map (accent_at 2 s) st.accents) r last ≡ context_at s st r last
   unfolding row_context
   row_context_lem r last b =
       let p = places r b in
-      rw (length-map st.tones (tone_at 6 s), get_or-map (accent_at 2 s) st.accents (accent_place (length st.tones) r) 0 absent_accent p.accent, get_or-map (tone_at 6 s) st.tones (tone_place (length st.tones) r) 0 absent_tone p.tone, prev_number_lem (prev_place (length st.tones) r) p.prev)
+      rw (length-map st.tones (tone_at 6 24 s), get_or-map (accent_at 2 s) st.accents (accent_place (length st.tones) r) 0 absent_accent p.accent, get_or-map (tone_at 6 24 s) st.tones (tone_place (length st.tones) r) 0 absent_tone p.tone, prev_number_lem (prev_place (length st.tones) r) p.prev)
 
   look_placed_lem : (r : ℕ) (last : Bool) → r < st.rows → look_sheet s st (context_at s st r last) ≡ list_numbered s st (byte_at s (row_at st r + cond last 5 4))
   unfolding look_sheet
@@ -76,5 +76,5 @@ module _ (s : List ℕ) (st : SheetRead) (e : ℕ) (l : Loads s st e) (o : Order
       rw (accent_at_lem (accent_place (length st.tones) r) p.accent, tone_at_lem (tone_place (length st.tones) r) p.tone, prev_at (prev_place (length st.tones) r) p.prev, row_back (length st.tones) r)
 
   pub look_row : (r : ℕ) (last : Bool) → r < st.rows
-      → look_sheet s st (row_context (map (tone_at 6 s) st.tones) (map (accent_at 2 s) st.accents) r last) ≡ list_numbered s st (byte_at s (row_at st r + cond last 5 4))
+      → look_sheet s st (row_context (map (tone_at 6 24 s) st.tones) (map (accent_at 2 s) st.accents) r last) ≡ list_numbered s st (byte_at s (row_at st r + cond last 5 4))
   look_row r last b = ap (look_sheet s st) (row_context_lem r last b) ∙ look_placed_lem r last b

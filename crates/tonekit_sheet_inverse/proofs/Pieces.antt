@@ -51,7 +51,7 @@ module _ (s : List ℕ) (b : Bytes s) where
   pub settings_spans : byte_at s 0 ≡ 17 → Spans s 0 9 (settings_bytes (settings_at s 0))
   settings_spans k = joined (one_spans s 0 1 17 refl k) (joined (word_spans s b 1 5 refl) (word_spans s b 5 9 refl))
 
-  pub tone_spans : (o e : ℕ) → e ≡ o + 15 → byte_at s o ≡ 18 → Spans s o e (tone_bytes (tone_at 6 s o))
+  pub tone_spans : (o e : ℕ) → e ≡ o + 15 → byte_at s o ≡ 18 → Spans s o e (tone_bytes (tone_at 6 24 s o))
   tone_spans o e q k =
       joined (joined (one_spans s o (o + 1) 18 refl k) (one_spans s (o + 1) (o + 2) (number_at s o) (omega arith) refl))
       (joined (word_spans s b (o + 2) (o + 6) (omega arith))

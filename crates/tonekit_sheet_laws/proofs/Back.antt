@@ -39,9 +39,9 @@ module _ (s : List ℕ) (d : Out SheetRead) (src : Source) (v : View) (sheetable
       let w = settings_read s d src v sheetable laid in
       λ i. record { temperature = w.temperature i; threshold = w.threshold i }
 
-  tones_same : map (tone_is_read 6 s) (up_to tone_at (length v.tones)) ≡ v.tones
+  tones_same : map (tone_is_read 6 24 s) (up_to tone_at (length v.tones)) ≡ v.tones
   tones_same =
-      all_read (tone_is_read 6 s) tone_at v.tones absent_tone
+      all_read (tone_is_read 6 24 s) tone_at v.tones absent_tone
       (λ k h. let w = tone_read s d src v sheetable laid k h in
       λ i. record { number = w.number i; prior = w.prior i; flag = w.flag i; from = w.from i; to = w.to i })
 

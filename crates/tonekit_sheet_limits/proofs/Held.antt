@@ -16,14 +16,14 @@ use Rattle.spec_sheet.specs.Sheet.{absent_accent}
 use Rattle.tonekit_sheet.specs.Sheetable.{SettingsSheetable, region_sheetable, ToneSheetable, AccentSheetable}
 
 module _ (s : List ℕ) (b : Bytes s) where
-  region_sheetable_lem : (o : ℕ) → region_fine s (o + 47) ≡ true → region_sheetable (tone_at 47 s o) ≡ true
+  region_sheetable_lem : (o : ℕ) → region_fine s (o + 47) ≡ true → region_sheetable (tone_at 47 7 s o) ≡ true
   unfolding region_fine
   region_sheetable_lem o h =
       let p : o + 47 + 1 ≡ o + 48 = omega arith in
       let q : o + 47 + 5 ≡ o + 52 = omega arith in
       rw (p, q) at h
 
-  tone_sheetable : (before : List ℕ) (o : ℕ) → ToneFine s before o → ToneSheetable (tone_at 47 s o)
+  tone_sheetable : (before : List ℕ) (o : ℕ) → ToneFine s before o → ToneSheetable (tone_at 47 7 s o)
   tone_sheetable before o t = record {
     least = t.number;
     byte = b (o + 1);
@@ -62,10 +62,10 @@ module _ (s : List ℕ) (b : Bytes s) where
         let t = l.kept.begun (omega arith) in
         record { temperature_bits = u32_below s b 1; threshold_bits = u32_below s b 5; temperature = t.1; threshold = t.2 }
 
-    pub tones_sheetable : (i : ℕ) → i < length (map (tone_at 47 s) st.tones) → ToneSheetable (get_or (map (tone_at 47 s) st.tones) i absent_tone)
+    pub tones_sheetable : (i : ℕ) → i < length (map (tone_at 47 7 s) st.tones) → ToneSheetable (get_or (map (tone_at 47 7 s) st.tones) i absent_tone)
     tones_sheetable i h =
-        let g : i < length st.tones = omega (arith, length-map st.tones (tone_at 47 s)) in
-        rw (get_or-map (tone_at 47 s) st.tones i 0 absent_tone g) (tone_sheetable _ (get_or st.tones i 0) (l.kept.tones i g))
+        let g : i < length st.tones = omega (arith, length-map st.tones (tone_at 47 7 s)) in
+        rw (get_or-map (tone_at 47 7 s) st.tones i 0 absent_tone g) (tone_sheetable _ (get_or st.tones i 0) (l.kept.tones i g))
 
     pub accents_sheetable : (i : ℕ) → i < length (map (accent_at 3 s) st.accents) → AccentSheetable (get_or (map (accent_at 3 s) st.accents) i absent_accent)
     accents_sheetable i h =
@@ -80,14 +80,14 @@ apart n f h i j a b e =
     (λ t. split (ltb j i) (λ u. absurd (h j i (ltb-true j i u) a (sym e))) (λ u. omega (arith, ltb-false i j t, ltb-false j i u)))
 
 module _ (s : List ℕ) (st : PackRead) (e : ℕ) (l : Loads s st e) where
-  pub tones_apart : (i j : ℕ) → i < length (map (tone_at 47 s) st.tones) → j < length (map (tone_at 47 s) st.tones)
-      → (get_or (map (tone_at 47 s) st.tones) i absent_tone).number ≡ (get_or (map (tone_at 47 s) st.tones) j absent_tone).number → i ≡ j
+  pub tones_apart : (i j : ℕ) → i < length (map (tone_at 47 7 s) st.tones) → j < length (map (tone_at 47 7 s) st.tones)
+      → (get_or (map (tone_at 47 7 s) st.tones) i absent_tone).number ≡ (get_or (map (tone_at 47 7 s) st.tones) j absent_tone).number → i ≡ j
   tones_apart i j h k q =
-      let n = length-map st.tones (tone_at 47 s) in
+      let n = length-map st.tones (tone_at 47 7 s) in
       let g : i < length st.tones = omega arith in
       let m : j < length st.tones = omega arith in
       apart (length st.tones) (λ i. number_at s (get_or st.tones i 0)) (tones_once s st e l) i j g m
-      (sym (ap (λ (t : Tone). t.number) (get_or-map (tone_at 47 s) st.tones i 0 absent_tone g)) ∙ q ∙ ap (λ (t : Tone). t.number) (get_or-map (tone_at 47 s) st.tones j 0 absent_tone m))
+      (sym (ap (λ (t : Tone). t.number) (get_or-map (tone_at 47 7 s) st.tones i 0 absent_tone g)) ∙ q ∙ ap (λ (t : Tone). t.number) (get_or-map (tone_at 47 7 s) st.tones j 0 absent_tone m))
 
   pub accents_apart : (i j : ℕ) → i < length (map (accent_at 3 s) st.accents) → j < length (map (accent_at 3 s) st.accents)
       → (get_or (map (accent_at 3 s) st.accents) i absent_accent).number ≡ (get_or (map (accent_at 3 s) st.accents) j absent_accent).number → i ≡ j

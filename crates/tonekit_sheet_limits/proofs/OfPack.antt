@@ -93,7 +93,7 @@ pub sheetable_of_pack : (s : List ℕ) → Bytes s → (st : PackRead) (e : ℕ)
 unfolding source_of_pack
 sheetable_of_pack s b st e p =
     let l = loads s st e p in
-    let t = length-map st.tones (tone_at 47 s) in
+    let t = length-map st.tones (tone_at 47 7 s) in
     let a = length-map st.accents (accent_at 3 s) in
     record {
       settings = settings_sheetable s b st e l;

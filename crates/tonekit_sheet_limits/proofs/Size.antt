@@ -127,7 +127,7 @@ module _ (s : List ℕ) (st : PackRead) (e : ℕ) (p : read_pack s ≡ loaded st
   sheet_most_lem =
       let l = loads s st e p in
       let v = view_of (source_of_pack s st) in
-      bytes_most v (lists_of v) (omega (arith, l.kept.few_tones, length-map st.tones (tone_at 47 s)))
+      bytes_most v (lists_of v) (omega (arith, l.kept.few_tones, length-map st.tones (tone_at 47 7 s)))
       (omega (arith, l.kept.few_accents, length-map st.accents (accent_at 3 s), few_ascending (map (accent_at 3 s) st.accents))) lists_most
 
 -- "13,266 bytes always suffice"

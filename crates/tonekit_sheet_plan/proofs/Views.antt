@@ -43,7 +43,7 @@ module _ (s : List ℕ) (st : PackRead) where
     accent_count = ap length view_sorted ∙ length-map os (accent_at 3 s)
 
     tone_count : length (pack_view s st).tones ≡ length st.tones
-    tone_count = ap length view_tones ∙ length-map st.tones (tone_at 47 s)
+    tone_count = ap length view_tones ∙ length-map st.tones (tone_at 47 7 s)
 
     pub view_rows : rows_of (pack_view s st) ≡ row_count (length os) (length st.tones)
     view_rows = rw (accent_count, tone_count)

@@ -51,7 +51,7 @@ module _ (s : List ℕ) (p : Pack) (os : List ℕ) (n : ℕ) (its : List (List C
     parts =
         let v = pack_view s (records_of p) in
         ap₂ (λ (x y : List ℕ). x ++ y) (ap settings_bytes settings_are)
-        (ap₂ (λ (x y : List ℕ). x ++ y) (made_is (tone_at 47 s) absent_tone tone_bytes (records_of p).tones (view_tones s (records_of p)))
+        (ap₂ (λ (x y : List ℕ). x ++ y) (made_is (tone_at 47 7 s) absent_tone tone_bytes (records_of p).tones (view_tones s (records_of p)))
         (ap₂ (λ (x y : List ℕ). x ++ y) (made_is (accent_at 3 s) absent_accent accent_bytes os (view_sorted s (records_of p) os o))
         (ap (λ (d : ℕ). piecewise (row_piece v its) 0 d ++ (E ++ F)) rows_are)))
 

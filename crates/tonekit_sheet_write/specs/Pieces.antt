@@ -24,7 +24,7 @@ abbrev pub settings_made : List ℕ → ℕ → List ℕ
 settings_made s o = settings_bytes (settings_at s o)
 
 abbrev pub tone_made : List ℕ → ℕ → List ℕ
-tone_made s o = tone_bytes (tone_at TONE_REGION s o)
+tone_made s o = tone_bytes (tone_at TONE_REGION TAIL_KIND s o)
 
 abbrev pub accent_made : List ℕ → ℕ → List ℕ
 accent_made s o = accent_bytes (accent_at ACCENT_CONTOUR s o)

@@ -13,7 +13,7 @@ use Rattle.spec_lookup.specs.Source.{Tone, Accent, Carried, Source, accent_in, t
 use Rattle.spec_lookup.specs.declared.Context.{Context}
 use Rattle.spec_shape.specs.Extract.{extent_of}
 use Rattle.spec_sheet.specs.Agree.{Held, Agree}
-use Rattle.spec_judgement.specs.Judge.{Listings}
+use Rattle.spec_judgement.specs.Inventory.{Listings}
 use Rattle.spec_judgement.specs.Gather.{Gathering, given_of, slotted, list_tone, listings, graded_of, gathered}
 use Rattle.tonekit_inventory.specs.Fields.{tolerance_of}
 use Rattle.tonekit_inventory.proofs.Going.{nothing_yet}

@@ -14,7 +14,8 @@ use Rattle.spec_lookup.specs.Bench as knots
 use Rattle.spec_query.specs.declared.Query.{Query}
 use Rattle.spec_judgement.specs.Deltas.{no_deltas}
 use Rattle.spec_judgement.specs.DeltasBench as deltas
-use Rattle.spec_judgement.specs.Judge.{Inventory, ranking_of, heard_of}
+use Rattle.spec_judgement.specs.Inventory.{Inventory}
+use Rattle.spec_judgement.specs.Judge.{ranking_of, heard_of}
 use Rattle.spec_judgement.specs.declared.ToneEntry.{ToneEntry}
 use Rattle.spec_judgement.specs.declared.Tolerance.{Tolerance}
 use Rattle.spec_judgement.specs.JudgeBench as heard

@@ -19,7 +19,8 @@ use Rattle.spec_shape.specs.Record.{united}
 use Rattle.spec_shape.specs.declared.Extent.{Extent}
 use Rattle.spec_shape.specs.declared.ToneShape.{ToneShape}
 use Rattle.spec_judgement.specs.declared.Tolerance.{Tolerance}
-use Rattle.spec_judgement.specs.Judge.{Inventory, Targets, judgement_of}
+use Rattle.spec_judgement.specs.Inventory.{Inventory, Targets}
+use Rattle.spec_judgement.specs.Judge.{judgement_of}
 use Rattle.spec_judgement.specs.Record.{judgement_bytes}
 use Rattle.spec_judgement.specs.declared.ToneJudgement.{ToneJudgement}
 use Rattle.spec_judgement.specs.Target.{variants_good, targets_of}

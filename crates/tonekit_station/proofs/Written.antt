@@ -22,7 +22,8 @@ use Rattle.spec_shape.specs.Record.{united}
 use Rattle.spec_shape.specs.declared.Extent.{Extent}
 use Rattle.spec_shape.specs.declared.ToneShape.{ToneShape}
 use Rattle.spec_judgement.specs.declared.Tolerance.{Tolerance}
-use Rattle.spec_judgement.specs.Judge.{Listings, Targets, judgement_of}
+use Rattle.spec_judgement.specs.Inventory.{Listings, Targets}
+use Rattle.spec_judgement.specs.Judge.{judgement_of}
 use Rattle.spec_judgement.specs.Record.{judgement_bytes}
 use Rattle.spec_judgement.specs.declared.Settings.{Settings}
 use Rattle.spec_judgement.specs.Target.{targets_of}

@@ -6,7 +6,7 @@ ghost use Rattle.std.specs.List.{list_all};
 ghost use Rattle.tonekit_core.specs.Calls.{Delivers};
 ghost use Rattle.spec_judgement.specs.Input.{held_of, query_of};
 ghost use Rattle.spec_judgement.specs.Asked.{Counted};
-ghost use Rattle.spec_judgement.specs.Judge.{count_in};
+ghost use Rattle.spec_judgement.specs.Inventory.{count_in};
 ghost use Rattle.tonekit_inventory.specs.Gathers.{gathering_of};
 ghost use Rattle.spec_judgement.specs.Judgement.{tones_verdict, query_verdict, judge_gathered, judge_outcome, station_outcome};
 ghost use Rattle.tonekit_station.specs.Asks.{context_of};

@@ -6,7 +6,7 @@ use Rattle.std.proofs.Common.{ℕ, ◌<◌, List, Float, ◌≡◌, [], ◌∷�
 use Rattle.std.proofs.Math.ListN.{get_or-append}
 use Rattle.std.proofs.Math.Seq.{get_or-append_seam}
 use Rattle.tonekit_core.specs.Loop.{Turn, next, stop}
-use Rattle.spec_judgement.specs.Judge.{Inventory, Targets}
+use Rattle.spec_judgement.specs.Inventory.{Inventory, Targets}
 use Rattle.spec_judgement.specs.Asked.{TargetsHeld}
 use Rattle.spec_judgement.specs.declared.Target.{Target}
 use Rattle.spec_judgement.specs.Target.{target_tone, target_weight, target_of, with_target}

@@ -1,6 +1,7 @@
 -- `judged_of` meets its contract, by the ways through its code.
 use Rattle.std.proofs.Common.{refl, sym, ◌∙◌, ◌/◌, ◌<◌, arith, length}
-use Rattle.spec_judgement.specs.Judge.{listing, judged_of, with_best}
+use Rattle.spec_judgement.specs.Inventory.{listing}
+use Rattle.spec_judgement.specs.Judge.{judged_of, with_best}
 use Rattle.tonekit_judge.specs.Terms.{cell}
 use Rattle.tonekit_judge.proofs.Agree.{judged_same}
 use Rattle.tonekit_judge.proofs.Winner.{Among, winner_among}

@@ -10,4 +10,4 @@ pub returns : goal.returns
 unfolding source_of_sheet
 returns c =
     let a = c.args in
-    rw (c.is_some.ensures, c.tone_index.ensures) (sym (tone_held a.self.now.view.bytes.now (records_of a.self.now.view.sheet).tones a.number (tone_at 6 a.self.now.view.bytes.now) (λ o. refl)))
+    rw (c.is_some.ensures, c.tone_index.ensures) (sym (tone_held a.self.now.view.bytes.now (records_of a.self.now.view.sheet).tones a.number (tone_at 6 24 a.self.now.view.bytes.now) (λ o. refl)))

@@ -9,4 +9,4 @@ pub returns : goal.returns
 unfolding source_of_pack
 returns c =
     let a = c.args in
-    rw (c.is_some.ensures, c.tone_index.ensures) (sym (tone_held a.self.now.view.bytes.now (records_of a.self.now.view.pack).tones a.number (tone_at 47 a.self.now.view.bytes.now) (λ o. refl)))
+    rw (c.is_some.ensures, c.tone_index.ensures) (sym (tone_held a.self.now.view.bytes.now (records_of a.self.now.view.pack).tones a.number (tone_at 47 7 a.self.now.view.bytes.now) (λ o. refl)))
