@@ -1,4 +1,4 @@
--- The reader looks at no more than a pack can hold: inputs with the same first 7,000 bytes give the same answer. Assumes nothing.
+-- The reader looks at no more than a pack can hold: inputs with the same first 7,063 bytes give the same answer. Assumes nothing.
 use Rattle.std.proofs.Common.{ℕ, zero, suc, ◌+◌, ◌-◌, ◌*◌, ◌≤◌, ◌<◌, ◌≡◌, refl, ap, ◌∙◌, Bool, true, ◌&&◌, List, [], ◌∷◌, arith, length, get_or, take, length-append, eqb, eqb-true, ltb, ltb-true, ltb-false}
 use lib.ListN.{get_or-eq_default}
 use borrow.Author.Tests.{eqb-false}
@@ -6,14 +6,14 @@ use Rattle.std.specs.Prelude.{Option, Some, None, Ok}
 use Rattle.tonekit_core.proofs.LoopLaws.{range_same, to_same}
 use Rattle.spec_arithmetic.specs.Fields.{byte_at}
 use Rattle.tonekit_bytes.proofs.Agreeing.{Agree, taken_agrees, four, float}
-use Rattle.spec_pack.specs.Ranges.{slot_fine, knots_fine, region_fine, tolerances_fine}
+use Rattle.spec_pack.specs.Ranges.{slot_fine, knots_fine, region_fine, tails_fine, tolerances_fine}
 use Rattle.tonekit_ranges.proofs.SlotTurn.{slot_turn}
 use Rattle.spec_arithmetic.specs.Places.{number_at, index_of}
 use Rattle.tonekit_bytes.specs.Places.{index_turn}
-use Rattle.spec_pack.specs.Pack.{PackRead, size_of, holds, zero_or_held, settings_verdict, tone_verdict, accent_verdict, rule_verdict, part_verdict, body_verdict, due_after, record_verdict, added, parents_held, parent_of, or_ends, chain_ends, chains_end, end_verdict, ended, pack_reader, read_pack, load_pack}
+use Rattle.spec_pack.specs.Pack.{PackRead, size_of, holds, zero_or_held, settings_verdict, tone_verdict, tail_verdict, accent_verdict, rule_verdict, part_verdict, body_verdict, due_after, record_verdict, added, parents_held, parent_of, or_ends, chain_ends, chains_end, end_verdict, ended, pack_reader, read_pack, load_pack}
 use Rattle.tonekit_core.proofs.Split.{split}
 use Rattle.tonekit_pack.proofs.Each.{each_snoc}
-use Rattle.tonekit_pack.proofs.Records.{Due, due_is, settings, tone, accent, rule, part, finish, sound, tone_room, accent_room, rule_room, part_room}
+use Rattle.tonekit_pack.proofs.Records.{Due, due_is, settings, tone, tail, accent, rule, part, finish, sound, tone_room, accent_room, rule_room, part_room}
 use Rattle.tonekit_pack.specs.Going.{Near}
 use Rattle.tonekit_pack.proofs.Reading.{near_next}
 use Rattle.tonekit_bytes.proofs.Files.{Alike, read_same, single_same}
@@ -33,6 +33,10 @@ module _ (n : ℕ) (t s : List ℕ) (a : Agree n t s) where
   pub region_same : (o : ℕ) → o + 9 ≤ n → region_fine t o ≡ region_fine s o
   unfolding region_fine
   region_same o h = rw (a.bytes o (omega arith), four n t s a (o + 1) (omega arith), four n t s a (o + 5) (omega arith))
+
+  pub tails_same : (o : ℕ) → o + 9 ≤ n → tails_fine t o ≡ tails_fine s o
+  unfolding tails_fine
+  tails_same o h = rw (float n t s a (o + 1) (omega arith), float n t s a (o + 5) (omega arith))
 
   pub tolerances_same : (o : ℕ) → o + 16 ≤ n → tolerances_fine t o ≡ tolerances_fine s o
   unfolding tolerances_fine
@@ -112,6 +116,8 @@ low_next s at st (settings e) n b p =
     record { near = near_next at st (settings e) n p.near; few_tones = p.few_tones; few_accents = p.few_accents; few_rules = p.few_rules; few_in_all = p.few_in_all; tones = passed_on at (at + 9) st.tones (omega arith) p.tones; accents = passed_on at (at + 9) st.accents (omega arith) p.accents; rules = passed_on at (at + 9) st.rules (omega arith) p.rules }
 low_next s at st (tone l u) n b p =
     record { near = near_next at st (tone l u) n p.near; few_tones = simp length-append (omega (arith, tone_room s at st b)); few_accents = p.few_accents; few_rules = p.few_rules; few_in_all = p.few_in_all; tones = each_snoc (Before (at + 56)) st.tones at (passed_on at (at + 56) st.tones (omega arith) p.tones) (omega arith); accents = passed_on at (at + 56) st.accents (omega arith) p.accents; rules = passed_on at (at + 56) st.rules (omega arith) p.rules }
+low_next s at st (tail e r) n b p =
+    record { near = near_next at st (tail e r) n p.near; few_tones = p.few_tones; few_accents = p.few_accents; few_rules = p.few_rules; few_in_all = p.few_in_all; tones = passed_on at (at + 9) st.tones (omega arith) p.tones; accents = passed_on at (at + 9) st.accents (omega arith) p.accents; rules = passed_on at (at + 9) st.rules (omega arith) p.rules }
 low_next s at st (accent l u) n b p =
     record { near = near_next at st (accent l u) n p.near; few_tones = p.few_tones; few_accents = simp length-append (omega (arith, accent_room s at st b)); few_rules = p.few_rules; few_in_all = p.few_in_all; tones = passed_on at (at + 19) st.tones (omega arith) p.tones; accents = each_snoc (Before (at + 19)) st.accents at (passed_on at (at + 19) st.accents (omega arith) p.accents) (omega arith); rules = passed_on at (at + 19) st.rules (omega arith) p.rules }
 low_next s at st (rule l u) n b p =
@@ -120,7 +126,7 @@ low_next s at st (part l u) n b p =
     record { near = near_next at st (part l u) n p.near; few_tones = p.few_tones; few_accents = p.few_accents; few_rules = p.few_rules; few_in_all = omega (arith, (part_room s at st b).in_all); tones = passed_on at (at + 46) st.tones (omega arith) p.tones; accents = passed_on at (at + 46) st.accents (omega arith) p.accents; rules = passed_on at (at + 46) st.rules (omega arith) p.rules }
 low_next s at st (finish l u) n b p = absurd (n refl)
 
-module _ (n : ℕ) (t s : List ℕ) (a : Agree n t s) (at : ℕ) (st : PackRead) (p : Low at st) (room : 6991 ≤ n) where
+module _ (n : ℕ) (t s : List ℕ) (a : Agree n t s) (at : ℕ) (st : PackRead) (p : Low at st) (room : 7063 ≤ n) where
   seen : (os : List ℕ) → ((i : ℕ) → i < length os → get_or os i 0 + 7 ≤ at) → (i : ℕ) → i < length os → get_or os i 0 + 7 ≤ n
   seen os h i l = omega (arith, h i l)
 
@@ -133,11 +139,12 @@ module _ (n : ℕ) (t s : List ℕ) (a : Agree n t s) (at : ℕ) (st : PackRead)
 
   -- a record of each kind that is due is the same in both
   body_same : {k : ℕ} → Due st.last k → body_verdict k t at st ≡ body_verdict k s at st
-  unfolding body_verdict settings_verdict tone_verdict accent_verdict rule_verdict part_verdict
+  unfolding body_verdict settings_verdict tone_verdict tail_verdict accent_verdict rule_verdict part_verdict
   body_same (settings e) = rw (four n t s a (at + 1) (omega arith), four n t s a (at + 5) (omega arith))
   body_same (tone l u) =
       let e = p.near.early u in
       rw (a.bytes (at + 6) (omega arith), a.bytes (at + 1) (omega arith), four n t s a (at + 2) (omega arith), knots_same n t s a (at + 7) (byte_at s (at + 6)) (omega arith), region_same n t s a (at + 47) (omega arith), holds_same n t s a st.tones (number_at s at) (seen st.tones p.tones))
+  body_same (tail e r) = rw (tails_same n t s a at (omega (arith, p.near.bare e)))
   body_same (accent l u) =
       rw (a.bytes (at + 1) (omega arith), tolerances_same n t s a (at + 3) (omega arith), holds_same n t s a st.accents (number_at s at) (seen st.accents p.accents))
   body_same (rule l u) =
@@ -150,6 +157,7 @@ module _ (n : ℕ) (t s : List ℕ) (a : Agree n t s) (at : ℕ) (st : PackRead)
   unfolding size_of
   room_for (settings e) = omega arith
   room_for (tone l u) = omega (arith, p.near.early u)
+  room_for (tail e r) = omega (arith, p.near.bare e)
   room_for (accent l u) = omega arith
   room_for (rule l u) = omega arith
   room_for (part l u) = omega arith
@@ -165,7 +173,7 @@ module _ (n : ℕ) (t s : List ℕ) (a : Agree n t s) (at : ℕ) (st : PackRead)
 
 low_start : Low 0 pack_reader.start.st
 low_start = record {
-  near = record { first = λ q. refl; early = λ q. omega arith; near = omega arith };
+  near = record { first = λ q. refl; early = λ q. omega arith; bare = λ q. absurd (omega arith); near = omega arith };
   few_tones = omega arith;
   few_accents = omega arith;
   few_rules = omega arith;
@@ -175,7 +183,7 @@ low_start = record {
   rules = λ i l. absurd (omega arith);
 }
 
-alike : (n : ℕ) (t s : List ℕ) → Agree n t s → 6991 ≤ n → Alike pack_reader t s Low
+alike : (n : ℕ) (t s : List ℕ) → Agree n t s → 7063 ≤ n → Alike pack_reader t s Low
 alike n t s a l =
     record {
       kind = λ at st p. a.bytes at (omega (arith, p.near.near, p.few_tones, p.few_accents, p.few_rules, p.few_in_all));
@@ -185,12 +193,12 @@ alike n t s a l =
       goes = λ at st p v k. let ok = sound s at st v in low_next s at st ok.due k ok.body p;
     }
 
-read_agrees : (n : ℕ) (t s : List ℕ) → Agree n t s → 6991 ≤ n → read_pack t ≡ read_pack s
+read_agrees : (n : ℕ) (t s : List ℕ) → Agree n t s → 7063 ≤ n → read_pack t ≡ read_pack s
 unfolding read_pack
 read_agrees n t s a l = read_same pack_reader t s Low (alike n t s a l) steady refl low_start
 
--- what stands past the first 7,000 bytes is no matter but that it is there
-pub front_alone : (s : List ℕ) (n : ℕ) → 7000 ≤ n → load_pack (take n s) ≡ load_pack s
+-- what stands past the first 7,063 bytes is no matter but that it is there
+pub front_alone : (s : List ℕ) (n : ℕ) → 7063 ≤ n → load_pack (take n s) ≡ load_pack s
 unfolding load_pack
 front_alone s n l =
     let a = taken_agrees n s in

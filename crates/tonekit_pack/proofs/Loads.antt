@@ -5,7 +5,7 @@ use borrow.Author.Tests.{eqb-false, not-true}
 use Rattle.tonekit_core.specs.declared.Refusal.TheVariants.{CutShort}
 use Rattle.std.specs.Prelude.{Ok, None}
 use Rattle.spec_arithmetic.specs.Fields.{byte_at, u32_at, f32_at}
-use Rattle.spec_pack.specs.Ranges.{above_zero, probability_fine, weight_fine, knots_fine, region_fine, tolerances_fine}
+use Rattle.spec_pack.specs.Ranges.{above_zero, probability_fine, weight_fine, knots_fine, region_fine, tails_fine, tolerances_fine}
 use Rattle.spec_arithmetic.specs.Places.{number_at, index_of}
 use Rattle.spec_pack.specs.Pack.{PackRead, size_of, holds, zero_or_held, single, settings_verdict, body_verdict, added, parents_held, parent_of, chains_end, end_verdict, parts_from, read_pack, pack_reader}
 use Rattle.tonekit_core.proofs.Split.{split, either, neither, both, not_zero}
@@ -14,14 +14,14 @@ use Rattle.spec_arithmetic.specs.Files.{Out, loaded, refused}
 use Rattle.tonekit_pack.proofs.Numbers.{zero_or_at, none_before, parent_held, zero_unfound, unfound_zero}
 use Rattle.tonekit_pack.proofs.Chains.{Ends, ends_within, all_end}
 use Rattle.tonekit_pack.proofs.Each.{Each, each_snoc}
-use Rattle.tonekit_pack.proofs.Records.{Due, settings, tone, accent, rule, part, finish, sound, passed, tone_passed, accent_passed, rule_passed, part_passed, tone_room, accent_room, rule_room, part_room, end_passed, end_passes, end_loads}
-use Rattle.tonekit_pack.specs.Going.{Near}
+use Rattle.tonekit_pack.proofs.Records.{Due, settings, tone, tail, accent, rule, part, finish, sound, passed, tone_passed, tail_passed, accent_passed, rule_passed, part_passed, tone_room, accent_room, rule_room, part_room, end_passed, end_passes, end_loads}
+use Rattle.tonekit_pack.specs.Going.{Near, reached}
 use Rattle.tonekit_pack.proofs.Reading.{near_next}
 use Rattle.tonekit_bytes.proofs.Files.{run, accepted, no_turns, same_loaded, read_keeps}
 
 -- ---- the records
 
--- the tone at o, after those before it
+-- the tone at o, after those before it, with the tail that may follow it
 pub record ToneFine (s before : List ℕ) (o : ℕ) : Type 0 where
   pub kind : byte_at s o ≡ 2
   pub whole : o + 56 ≤ length s
@@ -31,6 +31,7 @@ pub record ToneFine (s before : List ℕ) (o : ℕ) : Type 0 where
   pub few : byte_at s (o + 6) ≤ 10
   pub knots : knots_fine s (o + 7) (byte_at s (o + 6)) ≡ true
   pub region : region_fine s (o + 47) ≡ true
+  pub tail : byte_at s (o + 56) ≡ 7 → tails_fine s (o + 56) ≡ true
 
 -- the accent at o, after those before it
 pub record AccentFine (s before : List ℕ) (o : ℕ) : Type 0 where
@@ -64,8 +65,8 @@ pub record RuleFine (s tones : List ℕ) (o : ℕ) : Type 0 where
   pub unit : byte_at s (o + 6) ≡ 2 → u32_at s (o + 7 + 1) ≡ 0x3f80_0000
 
 module _ (s : List ℕ) (at : ℕ) (st : PackRead) where
-  tone_is : byte_at s at ≡ 2 → at + 56 ≤ length s → body_verdict 2 s at st ≡ Ok tt → ToneFine s st.tones at
-  tone_is k w b =
+  tone_is : byte_at s at ≡ 2 → at + 56 ≤ length s → body_verdict 2 s at st ≡ Ok tt → (byte_at s (at + 56) ≡ 7 → tails_fine s (at + 56) ≡ true) → ToneFine s st.tones at
+  tone_is k w b t =
       let p = tone_passed s at st b in
       let f = both (not (eqb (number_at s at) 0)) _ p.ranges in
       let g = both (probability_fine (f32_at s (at + 2))) _ f.1 in
@@ -79,6 +80,7 @@ module _ (s : List ℕ) (at : ℕ) (st : PackRead) where
         few = ltb-false 10 (byte_at s (at + 6)) (neither (leb 8 (length st.tones)) (ltb 10 (byte_at s (at + 6))) p.room).1;
         knots = h.0;
         region = h.1;
+        tail = t;
       }
 
   accent_is : byte_at s at ≡ 3 → at + 19 ≤ length s → body_verdict 3 s at st ≡ Ok tt → AccentFine s st.accents at
@@ -131,9 +133,10 @@ each_part s o n p h zero l = let q : o + 46 * 0 ≡ o = omega arith in rw q p
 each_part s o n p h (suc j) l = let q : o + 46 * suc j ≡ o + 46 + 46 * j = omega arith in rw q (h j (omega arith))
 
 -- a record that is no part ends them, and there was one
-ended_some : (last p : ℕ) {k : ℕ} → 4 ≤ last → last ≤ 5 → (last ≡ 5 → 1 ≤ p) → (k ≡ 5 → ⊥) → Due last k → 1 ≤ p
-ended_some last p l u h n (settings e) = absurd (omega arith)
+ended_some : (last p : ℕ) {k : ℕ} → 4 ≤ reached last → reached last ≤ 5 → (reached last ≡ 5 → 1 ≤ p) → (k ≡ 5 → ⊥) → Due last k → 1 ≤ p
+ended_some last p l u h n (settings e) = absurd (omega (arith, ap reached e))
 ended_some last p l u h n (tone a b) = absurd (omega arith)
+ended_some last p l u h n (tail a b) = absurd (omega arith)
 ended_some last p l u h n (accent a b) = h (omega (arith, b))
 ended_some last p l u h n (rule a b) = h (omega (arith, b))
 ended_some last p l u h n (part a b) = absurd (n refl)
@@ -166,7 +169,7 @@ record Onward (s : List ℕ) (f at : ℕ) (st fin : PackRead) (e : ℕ) : Type 0
   next : PackRead
   goes : reads s f (at + 46) next ≡ loaded fin e
   same : single s next ≡ single s st
-  last : next.last ≡ 5
+  last : reached next.last ≡ 5
   parts : next.parts ≡ st.parts + 1
 
 onward : (s : List ℕ) (f at : ℕ) (st fin : PackRead) (e k : ℕ) → k ≡ 5 → reads s f (at + size_of k) (added k at st) ≡ loaded fin e → Onward s f at st fin e
@@ -175,7 +178,7 @@ onward s f at st fin e k q h = record { next = added 5 at st; goes = rw q at h; 
 
 -- the parts that stand from here on are fine, since the reading goes on past them
 parts_fine : (n f : ℕ) (one : Bool) (s : List ℕ) (at : ℕ) (st fin : PackRead) (e : ℕ)
-    → single s st ≡ one → 4 ≤ st.last → st.last ≤ 5 → (st.last ≡ 5 → 1 ≤ st.parts) → (one ≡ true → st.parts ≤ 1) → n + st.parts ≡ 4
+    → single s st ≡ one → 4 ≤ reached st.last → reached st.last ≤ 5 → (reached st.last ≡ 5 → 1 ≤ st.parts) → (one ≡ true → st.parts ≤ 1) → n + st.parts ≡ 4
     → reads s f at st ≡ loaded fin e → PartsFine one s at (parts_from n s at) st.parts
 parts_fine n zero one s at st fin e i l u g h q r = no_turns pack_reader s at st fin CutShort (length s) e r
 parts_fine zero (suc f) one s at st fin e i l u g h q r =
@@ -238,6 +241,16 @@ rule_is f s at st fin e k w b g =
       unit = λ q. t.unit (eq-eqb form 2 q) (omega (arith, t.some));
     }
 
+-- ---- the tone, with its tail
+
+behind_tone : (f : ℕ) (s : List ℕ) (at : ℕ) (st fin : PackRead) (e : ℕ) → reads s f (at + size_of 2) (added 2 at st) ≡ loaded fin e
+    → byte_at s (at + 56) ≡ 7 → tails_fine s (at + 56) ≡ true
+unfolding added size_of
+behind_tone zero s at st fin e g k = no_turns pack_reader s (at + 56) (added 2 at st) fin CutShort (length s) e g
+behind_tone (suc f) s at st fin e g k =
+    let a = accepted pack_reader s (refused CutShort (length s)) f (at + 56) (added 2 at st) fin e g in
+    tail_passed s (at + 56) (added 2 at st) (rw k at (sound s (at + 56) (added 2 at st) a.passes).body)
+
 -- ---- what every turn keeps
 
 -- entries that do not fall, and that stay within a bound
@@ -252,14 +265,14 @@ AnyRule s tones before o = RuleFine s tones o
 
 pub record Kept (s : List ℕ) (at : ℕ) (st : PackRead) : Type 0 where
   pub near : Near at st
-  pub begun : 1 ≤ st.last → (byte_at s 0 ≡ 1) × (above_zero (f32_at s 1) ≡ true) × (probability_fine (f32_at s 5) ≡ true) × (9 ≤ at)
+  pub begun : 1 ≤ reached st.last → (byte_at s 0 ≡ 1) × (above_zero (f32_at s 1) ≡ true) × (probability_fine (f32_at s 5) ≡ true) × (9 ≤ at)
   pub few_tones : length st.tones ≤ 8
-  pub some_tone : 2 ≤ st.last → 1 ≤ length st.tones
+  pub some_tone : 2 ≤ reached st.last → 1 ≤ length st.tones
   pub tones : Each (ToneFine s) st.tones
   pub few_accents : length st.accents ≤ 8
-  pub some_accent : 3 ≤ st.last → 1 ≤ length st.accents
+  pub some_accent : 3 ≤ reached st.last → 1 ≤ length st.accents
   pub accents : Each (AccentFine s) st.accents
-  pub early : st.last ≤ 2 → st.rules ≡ []
+  pub early : reached st.last ≤ 2 → st.rules ≡ []
   pub few_rules : length st.rules ≤ 64
   pub rules : Each (AnyRule s st.tones) st.rules
   pub counted : length st.firsts ≡ length st.accents
@@ -292,7 +305,7 @@ module _ (f : ℕ) (s : List ℕ) (at : ℕ) (st fin : PackRead) (e : ℕ) (p : 
         few_accents = p.few_accents;
         some_accent = λ q. absurd (omega arith);
         accents = p.accents;
-        early = λ q. p.early (omega arith);
+        early = λ q. p.early (omega (arith, ap reached z));
         few_rules = p.few_rules;
         rules = p.rules;
         counted = p.counted;
@@ -301,7 +314,7 @@ module _ (f : ℕ) (s : List ℕ) (at : ℕ) (st fin : PackRead) (e : ℕ) (p : 
         few_in_all = p.few_in_all;
       }
 
-  after_tone : Due st.last 2 → 1 ≤ st.last → st.last ≤ 2 → ToneFine s st.tones at → length st.tones < 8 → Kept s (at + size_of 2) (added 2 at st)
+  after_tone : Due st.last 2 → 1 ≤ reached st.last → reached st.last ≤ 2 → ToneFine s st.tones at → length st.tones < 8 → Kept s (at + size_of 2) (added 2 at st)
   unfolding added size_of
   after_tone d l u t r =
       record {
@@ -322,7 +335,28 @@ module _ (f : ℕ) (s : List ℕ) (at : ℕ) (st fin : PackRead) (e : ℕ) (p : 
         few_in_all = p.few_in_all;
       }
 
-  after_accent : Due st.last 3 → 2 ≤ st.last → AccentFine s st.accents at → length st.accents < 8 → Kept s (at + size_of 3) (added 3 at st)
+  after_tail : Due st.last 7 → reached st.last ≡ 2 → Kept s (at + size_of 7) (added 7 at st)
+  unfolding added size_of
+  after_tail d r =
+      record {
+        near = near_next at st d (λ q. omega arith) p.near;
+        begun = λ q. let b = p.begun (omega arith) in (b.0, b.1, b.2, omega arith);
+        few_tones = p.few_tones;
+        some_tone = λ q. p.some_tone (omega arith);
+        tones = p.tones;
+        few_accents = p.few_accents;
+        some_accent = λ q. absurd (omega arith);
+        accents = p.accents;
+        early = λ q. p.early (omega arith);
+        few_rules = p.few_rules;
+        rules = p.rules;
+        counted = p.counted;
+        ascending = p.ascending;
+        bounded = p.bounded;
+        few_in_all = p.few_in_all;
+      }
+
+  after_accent : Due st.last 3 → 2 ≤ reached st.last → AccentFine s st.accents at → length st.accents < 8 → Kept s (at + size_of 3) (added 3 at st)
   unfolding added size_of
   after_accent d l t r =
       record {
@@ -343,7 +377,7 @@ module _ (f : ℕ) (s : List ℕ) (at : ℕ) (st fin : PackRead) (e : ℕ) (p : 
         few_in_all = p.few_in_all;
       }
 
-  after_rule : Due st.last 4 → 3 ≤ st.last → RuleFine s st.tones at → length st.rules < 64 → Kept s (at + size_of 4) (added 4 at st)
+  after_rule : Due st.last 4 → 3 ≤ reached st.last → RuleFine s st.tones at → length st.rules < 64 → Kept s (at + size_of 4) (added 4 at st)
   unfolding added size_of
   after_rule d l t r =
       let more : length st.rules ≤ length (st.rules ++ (at ∷ [])) = simp length-append (omega arith) in
@@ -365,7 +399,7 @@ module _ (f : ℕ) (s : List ℕ) (at : ℕ) (st fin : PackRead) (e : ℕ) (p : 
         few_in_all = p.few_in_all;
       }
 
-  after_part : Due st.last 5 → 4 ≤ st.last → st.total < 128 → Kept s (at + size_of 5) (added 5 at st)
+  after_part : Due st.last 5 → 4 ≤ reached st.last → st.total < 128 → Kept s (at + size_of 5) (added 5 at st)
   unfolding added size_of
   after_part d l r =
       record {
@@ -390,7 +424,8 @@ module _ (f : ℕ) (s : List ℕ) (at : ℕ) (st fin : PackRead) (e : ℕ) (p : 
       → reads s f (at + size_of k) (added k at st) ≡ loaded fin e → Kept s (at + size_of k) (added k at st)
   unfolding size_of
   keep (settings z) k w b n g = after_settings (settings z) z k b
-  keep (tone l u) k w b n g = after_tone (tone l u) l u (tone_is s at st k w b) (tone_room s at st b)
+  keep (tone l u) k w b n g = after_tone (tone l u) l u (tone_is s at st k w b (behind_tone f s at st fin e g)) (tone_room s at st b)
+  keep (tail q r) k w b n g = after_tail (tail q r) r
   keep (accent l u) k w b n g = after_accent (accent l u) l (accent_is s at st k w b) (accent_room s at st b)
   keep (rule l u) k w b n g = after_rule (rule l u) l (rule_is f s at st fin e k w b g) (rule_room s at st b)
   keep (part l u) k w b n g = after_part (part l u) l (part_room s at st b).in_all
@@ -404,14 +439,15 @@ pub record Loads (s : List ℕ) (st : PackRead) (e : ℕ) : Type 0 where
   pub closing : byte_at s place ≡ 6
   pub ends : place + 1 ≡ e
   pub inside : e ≤ length s
-  pub closed : 3 ≤ st.last
+  pub closed : 3 ≤ reached st.last
   pub kept : Kept s place st
   pub parents : parents_held s st.accents st.accents ≡ true
   pub chains : chains_end s st (length st.accents) 0 ≡ true
 
-closes : (last : ℕ) {k : ℕ} → k ≡ 6 → Due last k → 3 ≤ last
+closes : (last : ℕ) {k : ℕ} → k ≡ 6 → Due last k → 3 ≤ reached last
 closes last q (settings z) = absurd (omega arith)
 closes last q (tone l u) = absurd (omega arith)
+closes last q (tail l u) = absurd (omega arith)
 closes last q (accent l u) = absurd (omega arith)
 closes last q (rule l u) = absurd (omega arith)
 closes last q (part l u) = absurd (omega arith)
@@ -429,7 +465,7 @@ loads s st e h =
     rw (← q.0) (record { place = at; closing = k; ends = q.1; inside = omega (arith, q.1, ok.inside); closed = closes x.last k ok.due; kept = p; parents = h.0; chains = h.1 }))
     h
     (record {
-      near = record { first = λ q. refl; early = λ q. omega arith; near = omega arith };
+      near = record { first = λ q. refl; early = λ q. omega arith; bare = λ q. absurd (omega arith); near = omega arith };
       begun = λ q. absurd (omega arith);
       few_tones = omega arith;
       some_tone = λ q. absurd (omega arith);
@@ -455,7 +491,7 @@ module _ (s : List ℕ) (st : PackRead) (e : ℕ) (l : Loads s st e) where
   pub some_accents : 1 ≤ length st.accents
   some_accents = l.kept.some_accent (omega arith)
 
-  pub near_end : e ≤ 6946
+  pub near_end : e ≤ 7018
   near_end = omega arith
 
   pub tones_once : (i j : ℕ) → i < j → j < length st.tones → number_at s (get_or st.tones i 0) ≡ number_at s (get_or st.tones j 0) → ⊥

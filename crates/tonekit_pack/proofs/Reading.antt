@@ -14,15 +14,16 @@ use Rattle.tonekit_pack.specs.declared.Loaded.{Loaded}
 use Rattle.tonekit_core.specs.declared.Rejection.{Rejection}
 use Rattle.tonekit_bytes.proofs.InOrder.{order_length}
 use Rattle.tonekit_pack.proofs.Turns.{steady}
-use Rattle.tonekit_pack.proofs.Records.{Due, settings, tone, accent, rule, part, finish, Sound, sound, tone_room, accent_room, rule_room, part_room}
+use Rattle.tonekit_pack.proofs.Records.{Due, settings, tone, tail, accent, rule, part, finish, Sound, sound, tone_room, accent_room, rule_room, part_room}
 
 pub near_next : (at : ℕ) (st : PackRead) {k : ℕ} → Due st.last k → (k ≡ 6 → ⊥) → Near at st → Near (at + size_of k) (added k at st)
 unfolding added size_of
-near_next at st (settings e) n p = record { first = λ q. absurd (omega arith); early = λ q. omega (arith, p.first e); near = omega (arith, p.first e) }
-near_next at st (tone l u) n p = record { first = λ q. absurd (omega arith); early = λ q. simp length-append (omega (arith, p.early u)); near = simp length-append (omega arith) }
-near_next at st (accent l u) n p = record { first = λ q. absurd (omega arith); early = λ q. absurd (omega arith); near = simp length-append (omega arith) }
-near_next at st (rule l u) n p = record { first = λ q. absurd (omega arith); early = λ q. absurd (omega arith); near = simp length-append (omega arith) }
-near_next at st (part l u) n p = record { first = λ q. absurd (omega arith); early = λ q. absurd (omega arith); near = omega arith }
+near_next at st (settings e) n p = record { first = λ q. absurd (omega arith); early = λ q. omega (arith, p.first e); bare = λ q. absurd (omega arith); near = omega (arith, p.first e) }
+near_next at st (tone l u) n p = record { first = λ q. absurd (omega arith); early = λ q. simp length-append (omega (arith, p.early u)); bare = λ q. simp length-append (omega (arith, p.early u)); near = simp length-append (omega (arith, p.early u)) }
+near_next at st (tail e r) n p = record { first = λ q. absurd (omega arith); early = λ q. omega (arith, p.bare e); bare = λ q. absurd (omega arith); near = omega (arith, p.bare e) }
+near_next at st (accent l u) n p = record { first = λ q. absurd (omega arith); early = λ q. absurd (omega arith); bare = λ q. absurd (omega arith); near = simp length-append (omega arith) }
+near_next at st (rule l u) n p = record { first = λ q. absurd (omega arith); early = λ q. absurd (omega arith); bare = λ q. absurd (omega arith); near = simp length-append (omega arith) }
+near_next at st (part l u) n p = record { first = λ q. absurd (omega arith); early = λ q. absurd (omega arith); bare = λ q. absurd (omega arith); near = omega arith }
 near_next at st (finish l u) n p = absurd (n refl)
 
 module _ (s : List ℕ) (st : Pack) (at : ℕ) (g : Going s st at) where
@@ -58,7 +59,7 @@ module _ (s : List ℕ) (st : Pack) (at : ℕ) (g : Going s st at) where
 -- before the first record
 pub begins : (s : List ℕ) (p : Pack) → records_of p ≡ pack_reader.start.st → Going s p 0
 begins s p e = record {
-  near = rw e (record { first = λ q. refl; early = λ q. omega arith; near = omega arith });
+  near = rw e (record { first = λ q. refl; early = λ q. omega arith; bare = λ q. absurd (omega arith); near = omega arith });
   onward = files.begins pack_reader refl s (records_of p) e;
 }
 

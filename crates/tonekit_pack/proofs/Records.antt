@@ -1,52 +1,67 @@
 -- What a record that is fine shows: its kind was due, it is whole, and each test of its body passed; and what an End shows of the pack. Assumes nothing.
-use Rattle.std.proofs.Common.{ℕ, ◌+◌, ◌≤◌, ◌<◌, ◌≡◌, refl, Bool, true, false, not, ◌&&◌, ◌||◌, List, arith, length, eqb, leb, ltb, eqb-true, leb-false, ltb-false}
+use Rattle.std.proofs.Common.{ℕ, ◌+◌, ◌≤◌, ◌<◌, ◌≡◌, refl, ap, Bool, true, false, not, ◌&&◌, ◌||◌, List, arith, length, eqb, leb, ltb, eqb-true, leb-false, ltb-false}
 use Rattle.tonekit_core.specs.declared.Refusal.TheVariants.{Crowded, OffScale, Doubled, Loose, EndlessChain}
 use Rattle.std.specs.Prelude.{Ok}
 use Rattle.spec_arithmetic.specs.Fields.{byte_at}
 use Rattle.spec_arithmetic.specs.Places.{number_at}
+use Rattle.spec_pack.specs.Ranges.{tails_fine}
+use Rattle.tonekit_pack.specs.Going.{reached}
 use Rattle.spec_arithmetic.specs.Files.{loaded}
 use Rattle.tonekit_bytes.proofs.Files.{not_fine, by_verdict, fine, not_loaded}
-use Rattle.spec_pack.specs.Pack.{PackRead, due_after, size_of, holds, in_turn, tone_fine, tone_verdict, accent_fine, accent_verdict, rule_fine, rule_held, rule_verdict, single, part_fine, part_verdict, body_verdict, record_verdict, parents_held, chains_end, end_verdict, ended}
+use Rattle.spec_pack.specs.Pack.{PackRead, due_after, size_of, holds, in_turn, tone_fine, tone_verdict, tail_verdict, accent_fine, accent_verdict, rule_fine, rule_held, rule_verdict, single, part_fine, part_verdict, body_verdict, record_verdict, parents_held, chains_end, end_verdict, ended}
 use Rattle.tonekit_core.proofs.Split.{split, absurd_bool, either, neither}
 
 -- which kind is due
 pub data Due (last : ℕ) : ℕ → Type 0 where
   settings : last ≡ 0 → Due last 1
-  tone : 1 ≤ last → last ≤ 2 → Due last 2
-  accent : 2 ≤ last → (last ≡ 4 → ⊥) → Due last 3
-  rule : 3 ≤ last → (last ≡ 4 → ⊥) → Due last 4
-  part : 4 ≤ last → last ≤ 5 → Due last 5
-  finish : 3 ≤ last → (last ≡ 4 → ⊥) → Due last 6
+  tone : 1 ≤ reached last → reached last ≤ 2 → Due last 2
+  tail : last ≡ 2 → reached last ≡ 2 → Due last 7
+  accent : 2 ≤ reached last → (reached last ≡ 4 → ⊥) → Due last 3
+  rule : 3 ≤ reached last → (reached last ≡ 4 → ⊥) → Due last 4
+  part : 4 ≤ reached last → reached last ≤ 5 → Due last 5
+  finish : 3 ≤ reached last → (reached last ≡ 4 → ⊥) → Due last 6
 
 module _ (last : ℕ) where
-  is_tone : (eqb last 1 || eqb last 2) ≡ true → Due last 2
-  is_tone h = either (eqb last 1) (eqb last 2) h (λ q. tone (omega (arith, eqb-true last 1 q)) (omega (arith, eqb-true last 1 q))) (λ q. tone (omega (arith, eqb-true last 2 q)) (omega (arith, eqb-true last 2 q)))
+  -- what a test of the last kind says of how far the pack is read
+  was : {P : Type 0} (k : ℕ) → eqb last k ≡ true → (last ≡ k → reached last ≡ reached k → P) → P
+  was k h f = let e = eqb-true last k h in f e (ap reached e)
 
-  after_accent : {P : Type 0} → (eqb last 3 || eqb last 5) ≡ true → (3 ≤ last → (last ≡ 4 → ⊥) → P) → P
-  after_accent h f = either (eqb last 3) (eqb last 5) h (λ q. f (omega (arith, eqb-true last 3 q)) (λ e. omega (arith, eqb-true last 3 q))) (λ q. f (omega (arith, eqb-true last 5 q)) (λ e. omega (arith, eqb-true last 5 q)))
+  is_tone : (eqb last 1 || (eqb last 2 || eqb last 7)) ≡ true → Due last 2
+  is_tone h =
+      either (eqb last 1) (eqb last 2 || eqb last 7) h (λ q. was 1 q (λ e r. tone (omega arith) (omega arith)))
+      (λ q. either (eqb last 2) (eqb last 7) q (λ x. was 2 x (λ e r. tone (omega arith) (omega arith))) (λ x. was 7 x (λ e r. tone (omega arith) (omega arith))))
 
-  is_accent : (eqb last 2 || (eqb last 3 || eqb last 5)) ≡ true → Due last 3
-  is_accent h = either (eqb last 2) (eqb last 3 || eqb last 5) h (λ q. accent (omega (arith, eqb-true last 2 q)) (λ e. omega (arith, eqb-true last 2 q))) (λ q. after_accent q (λ l n. accent (omega arith) n))
+  after_accent : {P : Type 0} → (eqb last 3 || eqb last 5) ≡ true → (3 ≤ reached last → (reached last ≡ 4 → ⊥) → P) → P
+  after_accent h f =
+      either (eqb last 3) (eqb last 5) h (λ q. was 3 q (λ e r. f (omega arith) (λ x. omega arith))) (λ q. was 5 q (λ e r. f (omega arith) (λ x. omega arith)))
+
+  is_accent : (eqb last 2 || (eqb last 7 || (eqb last 3 || eqb last 5))) ≡ true → Due last 3
+  is_accent h =
+      either (eqb last 2) (eqb last 7 || (eqb last 3 || eqb last 5)) h (λ q. was 2 q (λ e r. accent (omega arith) (λ x. omega arith)))
+      (λ q. either (eqb last 7) (eqb last 3 || eqb last 5) q (λ x. was 7 x (λ e r. accent (omega arith) (λ y. omega arith)))
+      (λ x. after_accent x (λ l n. accent (omega arith) n)))
 
   is_part : (eqb last 4 || eqb last 5) ≡ true → Due last 5
-  is_part h = either (eqb last 4) (eqb last 5) h (λ q. part (omega (arith, eqb-true last 4 q)) (omega (arith, eqb-true last 4 q))) (λ q. part (omega (arith, eqb-true last 5 q)) (omega (arith, eqb-true last 5 q)))
+  is_part h = either (eqb last 4) (eqb last 5) h (λ q. was 4 q (λ e r. part (omega arith) (omega arith))) (λ q. was 5 q (λ e r. part (omega arith) (omega arith)))
 
   pub due_is : (k : ℕ) → due_after last k ≡ true → Due last k
   unfolding due_after
   due_is k h =
       split (eqb k 1) (λ a. rw (eqb-true k 1 a) (settings (eqb-true last 0 (rw a at h))))
       (λ a. split (eqb k 2) (λ b. rw (eqb-true k 2 b) (is_tone (rw (a, b) at h)))
-      (λ b. split (eqb k 3) (λ d. rw (eqb-true k 3 d) (is_accent (rw (a, b, d) at h)))
-      (λ d. split (eqb k 4) (λ e. rw (eqb-true k 4 e) (after_accent (rw (a, b, d, e) at h) rule))
-      (λ e. split (eqb k 5) (λ f. rw (eqb-true k 5 f) (is_part (rw (a, b, d, e, f) at h)))
-      (λ f. split (eqb k 6) (λ g. rw (eqb-true k 6 g) (after_accent (rw (a, b, d, e, f, g) at h) finish))
-      (λ g. absurd_bool (rw (a, b, d, e, f, g) at h)))))))
+      (λ b. split (eqb k 7) (λ t. rw (eqb-true k 7 t) (was 2 (rw (a, b, t) at h) tail))
+      (λ t. split (eqb k 3) (λ d. rw (eqb-true k 3 d) (is_accent (rw (a, b, t, d) at h)))
+      (λ d. split (eqb k 4) (λ e. rw (eqb-true k 4 e) (after_accent (rw (a, b, t, d, e) at h) rule))
+      (λ e. split (eqb k 5) (λ f. rw (eqb-true k 5 f) (is_part (rw (a, b, t, d, e, f) at h)))
+      (λ f. split (eqb k 6) (λ g. rw (eqb-true k 6 g) (after_accent (rw (a, b, t, d, e, f, g) at h) finish))
+      (λ g. absurd_bool (rw (a, b, t, d, e, f, g) at h))))))))
 
 pub size_pos : (k : ℕ) → 1 ≤ size_of k
 unfolding size_of
 size_pos k =
-    split (eqb k 1) (λ a. rw a (omega arith)) (λ a. split (eqb k 2) (λ b. rw (a, b) (omega arith)) (λ b. split (eqb k 3) (λ d. rw (a, b, d) (omega arith))
-    (λ d. split (eqb k 4) (λ e. rw (a, b, d, e) (omega arith)) (λ e. split (eqb k 5) (λ f. rw (a, b, d, e, f) (omega arith)) (λ f. rw (a, b, d, e, f) (omega arith))))))
+    split (eqb k 1) (λ a. rw a (omega arith)) (λ a. split (eqb k 2) (λ b. rw (a, b) (omega arith)) (λ b. split (eqb k 7) (λ t. rw (a, b, t) (omega arith))
+    (λ t. split (eqb k 3) (λ d. rw (a, b, t, d) (omega arith)) (λ d. split (eqb k 4) (λ e. rw (a, b, t, d, e) (omega arith))
+    (λ e. split (eqb k 5) (λ f. rw (a, b, t, d, e, f) (omega arith)) (λ f. rw (a, b, t, d, e, f) (omega arith)))))))
 
 -- each test in turn passed
 pub record Passed (crowded fine new held : Bool) : Type 0 where
@@ -85,6 +100,10 @@ module _ (s : List ℕ) (at : ℕ) (st : PackRead) where
   pub tone_passed : body_verdict 2 s at st ≡ Ok tt → Passed (tone_crowded s at st) (tone_fine s at) (not (holds s st.tones (number_at s at))) true
   unfolding body_verdict tone_verdict
   tone_passed h = passed (tone_crowded s at st) (tone_fine s at) (not (holds s st.tones (number_at s at))) true h
+
+  pub tail_passed : body_verdict 7 s at st ≡ Ok tt → tails_fine s at ≡ true
+  unfolding body_verdict tail_verdict
+  tail_passed h = (passed false (tails_fine s at) true true h).ranges
 
   pub accent_passed : body_verdict 3 s at st ≡ Ok tt → Passed (leb 8 (length st.accents)) (accent_fine 3 s at) (not (holds s st.accents (number_at s at))) true
   unfolding body_verdict accent_verdict

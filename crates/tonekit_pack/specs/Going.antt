@@ -1,5 +1,6 @@
 -- What the reader's loop keeps: from here it gives what it gives of the whole, and its place is near enough for a u16.
-use Rattle.std.specs.Prelude.{ℕ, ◌+◌, ◌*◌, ◌≤◌, ◌≡◌, List, length, Err}
+use Rattle.std.specs.Prelude.{ℕ, ◌+◌, ◌*◌, ◌≤◌, ◌≡◌, List, cond, eqb, length, Err}
+use Rattle.tonekit_core.specs.declared.layout.TheConstants.{TONE_KIND, TAIL_KIND}
 use Rattle.std.proofs.Common.{refl}
 use Rattle.tonekit_core.specs.declared.Refusal.{Refusal}
 use Rattle.tonekit_pack.specs.declared.Pack.{Pack}
@@ -9,11 +10,17 @@ use Rattle.tonekit_bytes.specs.Onward.{Onward}
 use Rattle.spec_pack.specs.Pack.{PackRead, due_after, size_of, body_verdict, record_verdict, pack_reader, read_pack}
 use Rattle.tonekit_pack.specs.Held.{records_of}
 
--- a place is behind one settings record and the records counted; before the first accent, behind tones alone
+-- how far a pack is read, by its last kind: a tail is a tone's
+abbrev pub reached : ℕ → ℕ
+reached last = cond (eqb last TAIL_KIND) TONE_KIND last
+
+-- a place is behind one settings record and the records counted, each tone with a tail; before the first accent, behind tones alone, and behind a tone
+-- that may have no tail yet
 pub record Near (at : ℕ) (st : PackRead) : Type 0 where
   pub first : st.last ≡ 0 → at ≡ 0
-  pub early : st.last ≤ 2 → at ≤ 9 + 56 * length st.tones
-  pub near : at ≤ 9 + 56 * length st.tones + 19 * length st.accents + 7 * length st.rules + 46 * st.total
+  pub early : reached st.last ≤ 2 → at ≤ 9 + 65 * length st.tones
+  pub bare : st.last ≡ 2 → at ≤ 65 * length st.tones
+  pub near : at ≤ 9 + 65 * length st.tones + 19 * length st.accents + 7 * length st.rules + 46 * st.total
 
 -- from here the reader gives what it gives of the whole
 pub record Going (s : List ℕ) (st : Pack) (at : ℕ) : Type 0 where

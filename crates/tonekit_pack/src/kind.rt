@@ -11,6 +11,7 @@ use tonekit_core::{Refusal, layout};
 pub enum Kind {
     Settings,
     Tone,
+    Tail,
     Accent,
     Rule,
     Part,
@@ -27,6 +28,7 @@ impl TryFrom<u8> for Kind {
         match n {
             layout::SETTINGS_KIND => Ok(Kind::Settings),
             layout::TONE_KIND => Ok(Kind::Tone),
+            layout::TAIL_KIND => Ok(Kind::Tail),
             layout::ACCENT_KIND => Ok(Kind::Accent),
             layout::RULE_KIND => Ok(Kind::Rule),
             layout::PART_KIND => Ok(Kind::Part),
@@ -44,8 +46,14 @@ impl Kind {
     {
         match self {
             Kind::Settings => last.is_none(),
-            Kind::Tone => matches!(last, Some(Kind::Settings | Kind::Tone)),
-            Kind::Accent => matches!(last, Some(Kind::Tone | Kind::Accent | Kind::Part)),
+            Kind::Tone => matches!(last, Some(Kind::Settings | Kind::Tone | Kind::Tail)),
+            Kind::Tail => matches!(last, Some(Kind::Tone)),
+            Kind::Accent => {
+                matches!(
+                    last,
+                    Some(Kind::Tone | Kind::Tail | Kind::Accent | Kind::Part)
+                )
+            }
             Kind::Part => matches!(last, Some(Kind::Rule | Kind::Part)),
             Kind::Rule | Kind::End => matches!(last, Some(Kind::Accent | Kind::Part)),
         }
@@ -60,6 +68,7 @@ impl Kind {
         match self {
             Kind::Settings => layout::SETTINGS_SIZE,
             Kind::Tone => layout::TONE_SIZE,
+            Kind::Tail => layout::TAIL_SIZE,
             Kind::Accent => layout::ACCENT_SIZE,
             Kind::Rule => layout::RULE_SIZE,
             Kind::Part => layout::PART_SIZE,

@@ -3,7 +3,7 @@ ghost use Rattle.std.specs.Prelude.{◌≡◌, ◌+◌, ◌<◌, ◌≤◌, eqb,
 ghost use Rattle.tonekit_core.specs.declared.layout.TheConstants.{TONE_SIZE, ACCENT_SIZE, PART_SIZE, TONE_KIND, ACCENT_KIND, RULE_KIND, PART_KIND, END_KIND};
 ghost use Rattle.spec_arithmetic.specs.Fields.{byte_at};
 ghost use Rattle.tonekit_pack.specs.Kinds.{number, last_of};
-ghost use Rattle.spec_pack.specs.Pack.{due_after, size_of, holds, zero_or_held, in_turn, settings_verdict, tone_verdict, accent_verdict, rule_verdict, single, part_verdict, body_verdict, record_verdict, added, read_pack, pack_reader};
+ghost use Rattle.spec_pack.specs.Pack.{due_after, size_of, holds, zero_or_held, in_turn, settings_verdict, tone_verdict, tail_verdict, accent_verdict, rule_verdict, single, part_verdict, body_verdict, record_verdict, added, read_pack, pack_reader};
 ghost use Rattle.tonekit_pack.specs.Held.{records_of, answered};
 ghost use Rattle.tonekit_pack.specs.Going.{Going, judges, refuses};
 
@@ -13,7 +13,7 @@ use tonekit_bytes::places::{Offsets, index_of};
 use tonekit_bytes::{byte_at, f32_at, u32_at};
 use tonekit_core::{Refusal, Rejection, layout, limits};
 use tonekit_ranges::{
-    above_zero, knots_fine, probability_fine, region_fine, tolerances_fine, weight_fine,
+    above_zero, knots_fine, probability_fine, region_fine, tails_fine, tolerances_fine, weight_fine,
 };
 
 // Whether one of the records at these offsets has x as its number.
@@ -60,6 +60,14 @@ pub fn settings_verdict(s: &[u8], o: usize) -> Result<(), Refusal>
     let fine = above_zero(f32_at(s, o, layout::SETTINGS_TEMPERATURE))
         & probability_fine(f32_at(s, o, layout::SETTINGS_THRESHOLD));
     in_turn(false, fine, true, true)
+}
+
+// A tail: both values. Sheets have it too.
+#[tactic(auto, unfolding(spec_pack::specs::Pack::tail_verdict))]
+pub fn tail_verdict(s: &[u8], o: usize) -> Result<(), Refusal>
+    ensures { result ≡ tail_verdict s.now o }
+{
+    in_turn(false, tails_fine(s, o), true, true)
 }
 
 impl Pack {
@@ -175,7 +183,7 @@ impl Pack {
                 self.parts += 1;
                 self.total += 1;
             }
-            Kind::Settings | Kind::End => {}
+            Kind::Settings | Kind::Tail | Kind::End => {}
         }
     }
 }
@@ -226,6 +234,7 @@ impl Format for Pack {
         match k {
             Kind::Settings => settings_verdict(s, o),
             Kind::Tone => self.tone_verdict(s, o),
+            Kind::Tail => tail_verdict(s, o),
             Kind::Accent => self.accent_verdict(s, o),
             Kind::Rule => self.rule_verdict(s, o),
             Kind::Part => self.part_verdict(s, o),

@@ -2,7 +2,7 @@
 #![tactic(auto)]
 
 ghost use Rattle.std.specs.Prelude.{◌≡◌, ◌<◌};
-ghost use Rattle.spec_pack.specs.Ranges.{above_zero, probability_fine, weight_fine, slot_fine, knots_fine, region_fine, tolerances_fine};
+ghost use Rattle.spec_pack.specs.Ranges.{above_zero, probability_fine, weight_fine, slot_fine, knots_fine, region_fine, tail_fine, tails_fine, tolerances_fine};
 ghost use Rattle.tonekit_ranges.specs.Sizes.{within};
 
 use tonekit_bytes::{byte_at, f32_at, u32_at};
@@ -77,6 +77,22 @@ pub fn region_fine(s: &[u8], o: usize) -> bool
     let from = f32_at(s, o, layout::REGION_FROM);
     let to = f32_at(s, o, layout::REGION_TO);
     (flag == 1) & (is_finite(from) & (is_finite(to) & (from <= to)))
+}
+
+// A tail's value: of size at most 50.
+#[tactic(auto, using(crate::proofs::Bounds::tail_within))]
+fn tail_fine(x: f32) -> bool
+    ensures { result ≡ tail_fine x }
+{
+    within(x, 50.0)
+}
+
+// Both values of the tail at o.
+#[tactic(auto, unfolding(spec_pack::specs::Ranges::tails_fine))]
+pub fn tails_fine(s: &[u8], o: usize) -> bool
+    ensures { result ≡ tails_fine s.now o }
+{
+    tail_fine(f32_at(s, o, layout::TAIL_FINAL)) & tail_fine(f32_at(s, o, layout::TAIL_ELSEWHERE))
 }
 
 // The four tolerances from o on.
