@@ -1,6 +1,6 @@
 -- What a record that is fine shows: its kind was due, it is whole, and each test of its body passed. Assumes nothing.
 use Prim.Native.Nat.{ℕ, ◌+◌, ◌≤◌, ◌<◌}
-use mathlib.Core.Path.{◌≡◌, refl}
+use mathlib.Core.Path.{◌≡◌, refl, ap}
 use mathlib.Core.Bool.{true, false, not, ◌&&◌, ◌||◌}
 use mathlib.Core.List.{List}
 use native.Mathlib.Omega.{arith}
@@ -10,7 +10,9 @@ use borrow.Author.Tests.{eqb-true, leb-false, ltb-true, ltb-false, not-true}
 use Rattle.std.specs.Prelude.{Ok}
 use Rattle.spec_arithmetic.specs.Fields.{byte_at}
 use Rattle.spec_arithmetic.specs.Places.{number_at}
-use Rattle.spec_pack.specs.Pack.{holds, accent_fine}
+use Rattle.spec_pack.specs.Ranges.{tails_fine}
+use Rattle.spec_pack.specs.Pack.{holds, accent_fine, tail_verdict}
+use Rattle.tonekit_sheet.specs.Kinds.{reached}
 use Rattle.tonekit_core.proofs.Split.{split, either, neither, both, not_zero}
 use Rattle.tonekit_pack.proofs.Records.{Passed, passed}
 use Rattle.tonekit_bytes.proofs.Files.{fine}
@@ -24,9 +26,10 @@ pub data Complete (st : SheetRead) : Type 0 where
 -- which kind is due
 pub data Due (st : SheetRead) : ℕ → Type 0 where
   settings : st.last ≡ 0 → Due st 17
-  tone : 17 ≤ st.last → st.last ≤ 18 → Due st 18
-  accent : 18 ≤ st.last → st.last ≤ 19 → Due st 19
-  row : 19 ≤ st.last → st.last ≤ 20 → st.rows < rows_due st → Due st 20
+  tone : 17 ≤ reached st.last → reached st.last ≤ 18 → (st.last ≡ 18 → ⊥) → Due st 18
+  tail : st.last ≡ 18 → reached st.last ≡ 18 → Due st 24
+  accent : 18 ≤ reached st.last → reached st.last ≤ 19 → (st.last ≡ 18 → ⊥) → Due st 19
+  row : 19 ≤ reached st.last → reached st.last ≤ 20 → st.rows < rows_due st → Due st 20
   list : Complete st → Due st 21
   component : 0 < st.due → Due st 22
   finish : Complete st → Due st 23
@@ -39,14 +42,25 @@ module _ (st : SheetRead) where
       (λ a. rows_done (eqb-true st.last 20 a) (eqb-true st.rows (rows_due st) (rw a at h)))
       (λ a. let b = both (eqb st.last 22) (eqb st.due 0) (rw a at h) in list_done (eqb-true st.last 22 b.0) (eqb-true st.due 0 b.1))
 
-  -- the last kind is one of two neighbours
-  one_of : {P : Type 0} (a b : ℕ) → a + 1 ≡ b → (eqb st.last a || eqb st.last b) ≡ true → (a ≤ st.last → st.last ≤ b → P) → P
-  one_of a b n h f = either (eqb st.last a) (eqb st.last b) h (λ q. f (omega (arith, eqb-true st.last a q)) (omega (arith, eqb-true st.last a q))) (λ q. f (omega (arith, eqb-true st.last b q)) (omega (arith, eqb-true st.last b q)))
+  -- what a test of the last kind says of how far the sheet is read
+  was : {P : Type 0} (k : ℕ) → eqb st.last k ≡ true → (st.last ≡ k → reached st.last ≡ reached k → P) → P
+  was k h f = let e = eqb-true st.last k h in f e (ap reached e)
+
+  is_tone : (eqb st.last 17 || eqb st.last 24) ≡ true → Due st 18
+  is_tone h =
+      either (eqb st.last 17) (eqb st.last 24) h (λ q. was 17 q (λ e r. tone (omega arith) (omega arith) (λ x. omega arith)))
+      (λ q. was 24 q (λ e r. tone (omega arith) (omega arith) (λ x. omega arith)))
+
+  is_accent : (eqb st.last 24 || eqb st.last 19) ≡ true → Due st 19
+  is_accent h =
+      either (eqb st.last 24) (eqb st.last 19) h (λ q. was 24 q (λ e r. accent (omega arith) (omega arith) (λ x. omega arith)))
+      (λ q. was 19 q (λ e r. accent (omega arith) (omega arith) (λ x. omega arith)))
 
   is_row : ((eqb st.last 19 || eqb st.last 20) && ltb st.rows (rows_due st)) ≡ true → Due st 20
   is_row h =
       let b = both (eqb st.last 19 || eqb st.last 20) (ltb st.rows (rows_due st)) h in
-      one_of 19 20 refl b.0 (λ l u. row l u (ltb-true st.rows (rows_due st) b.1))
+      let due = ltb-true st.rows (rows_due st) b.1 in
+      either (eqb st.last 19) (eqb st.last 20) b.0 (λ q. was 19 q (λ e r. row (omega arith) (omega arith) due)) (λ q. was 20 q (λ e r. row (omega arith) (omega arith) due))
 
   is_last : (k : ℕ) → ((eqb k 21 || eqb k 23) && complete st) ≡ true → Due st k
   is_last k h =
@@ -57,17 +71,19 @@ module _ (st : SheetRead) where
   unfolding due_next
   due_is k h =
       split (eqb k 17) (λ a. rw (eqb-true k 17 a) (settings (eqb-true st.last 0 (rw a at h))))
-      (λ a. split (eqb k 18) (λ b. rw (eqb-true k 18 b) (one_of 17 18 refl (rw (a, b) at h) tone))
-      (λ b. split (eqb k 19) (λ d. rw (eqb-true k 19 d) (one_of 18 19 refl (rw (a, b, d) at h) accent))
-      (λ d. split (eqb k 20) (λ e. rw (eqb-true k 20 e) (is_row (rw (a, b, d, e) at h)))
-      (λ e. split (eqb k 22) (λ f. rw (eqb-true k 22 f) (component (ltb-true 0 st.due (rw (a, b, d, e, f) at h))))
-      (λ f. is_last k (rw (a, b, d, e, f) at h))))))
+      (λ a. split (eqb k 18) (λ b. rw (eqb-true k 18 b) (is_tone (rw (a, b) at h)))
+      (λ b. split (eqb k 24) (λ t. rw (eqb-true k 24 t) (was 18 (rw (a, b, t) at h) tail))
+      (λ t. split (eqb k 19) (λ d. rw (eqb-true k 19 d) (is_accent (rw (a, b, t, d) at h)))
+      (λ d. split (eqb k 20) (λ e. rw (eqb-true k 20 e) (is_row (rw (a, b, t, d, e) at h)))
+      (λ e. split (eqb k 22) (λ f. rw (eqb-true k 22 f) (component (ltb-true 0 st.due (rw (a, b, t, d, e, f) at h))))
+      (λ f. is_last k (rw (a, b, t, d, e, f) at h)))))))
 
 -- at the end a list could stand too
 pub closes : (st : SheetRead) {k : ℕ} → k ≡ 23 → Due st k → Complete st
 closes st q (settings z) = absurd (omega arith)
-closes st q (tone l u) = absurd (omega arith)
-closes st q (accent l u) = absurd (omega arith)
+closes st q (tone l u n) = absurd (omega arith)
+closes st q (tail e r) = absurd (omega arith)
+closes st q (accent l u n) = absurd (omega arith)
 closes st q (row l u d) = absurd (omega arith)
 closes st q (list c) = absurd (omega arith)
 closes st q (component d) = absurd (omega arith)
@@ -76,9 +92,10 @@ closes st q (finish c) = c
 pub size_pos : (k : ℕ) → 1 ≤ size_of k
 unfolding size_of
 size_pos k =
-    split (eqb k 17) (λ a. rw a (omega arith)) (λ a. split (eqb k 18) (λ b. rw (a, b) (omega arith)) (λ b. split (eqb k 19) (λ d. rw (a, b, d) (omega arith))
-    (λ d. split (eqb k 20) (λ e. rw (a, b, d, e) (omega arith)) (λ e. split (eqb k 21) (λ f. rw (a, b, d, e, f) (omega arith))
-    (λ f. split (eqb k 22) (λ g. rw (a, b, d, e, f, g) (omega arith)) (λ g. rw (a, b, d, e, f, g) (omega arith)))))))
+    split (eqb k 17) (λ a. rw a (omega arith)) (λ a. split (eqb k 18) (λ b. rw (a, b) (omega arith)) (λ b. split (eqb k 24) (λ t. rw (a, b, t) (omega arith))
+    (λ t. split (eqb k 19) (λ d. rw (a, b, t, d) (omega arith)) (λ d. split (eqb k 20) (λ e. rw (a, b, t, d, e) (omega arith))
+    (λ e. split (eqb k 21) (λ f. rw (a, b, t, d, e, f) (omega arith)) (λ f. split (eqb k 22) (λ g. rw (a, b, t, d, e, f, g) (omega arith))
+    (λ g. rw (a, b, t, d, e, f, g) (omega arith))))))))
 
 module _ (s : List ℕ) (at : ℕ) (st : SheetRead) where
   pub record Sound : Type 0 where
@@ -96,6 +113,10 @@ module _ (s : List ℕ) (at : ℕ) (st : SheetRead) where
   pub tone_passed : body_verdict 18 s at st ≡ Ok tt → Passed (leb 8 (length st.tones)) (tone_fine s at) (not (holds s st.tones (number_at s at))) true
   unfolding body_verdict tone_verdict
   tone_passed h = passed (leb 8 (length st.tones)) (tone_fine s at) (not (holds s st.tones (number_at s at))) true h
+
+  pub tail_passed : body_verdict 24 s at st ≡ Ok tt → tails_fine s at ≡ true
+  unfolding body_verdict tail_verdict
+  tail_passed h = (passed false (tails_fine s at) true true h).ranges
 
   pub accent_passed : body_verdict 19 s at st ≡ Ok tt → Passed (leb 8 (length st.accents)) (accent_fine 2 s at) (not (holds s st.accents (number_at s at))) true
   unfolding body_verdict accent_verdict

@@ -4,7 +4,7 @@ use Rattle.std.proofs.Math.Option.{some}
 use Rattle.std.specs.Float.{binary32}
 use Rattle.std.specs.Float.Ieee.{of_bits, le}
 use Rattle.std.specs.Float.Ieee.Scale.{finite}
-use Rattle.spec_pack.specs.Ranges.{above_zero, probability_fine, weight_fine}
+use Rattle.spec_pack.specs.Ranges.{above_zero, probability_fine, weight_fine, tail_fine}
 use Rattle.spec_lookup.specs.Source.{Settings, Tone, Accent, Carried, Source, accent_in, absent_tone}
 use Rattle.spec_lookup.specs.declared.Context.{Context}
 use Rattle.spec_sheet.specs.Agree.{Held}
@@ -37,6 +37,10 @@ pub record ToneSheetable (t : Tone) : Type 0 where
   pub from_bits : Bits t.from
   pub to_bits : Bits t.to
   pub region : region_sheetable t ≡ true
+  pub tail_final_bits : Bits t.tail_final
+  pub tail_elsewhere_bits : Bits t.tail_elsewhere
+  pub tail_final : tail_fine (f32 t.tail_final) ≡ true
+  pub tail_elsewhere : tail_fine (f32 t.tail_elsewhere) ≡ true
 
 pub record AccentSheetable (a : Accent) : Type 0 where
   pub least : 1 ≤ a.number

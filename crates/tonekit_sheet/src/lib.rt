@@ -16,6 +16,7 @@ use tonekit_core::{Refusal, layout};
 pub enum Kind {
     Settings,
     Tone,
+    Tail,
     Accent,
     Row,
     List,
@@ -33,6 +34,7 @@ impl TryFrom<u8> for Kind {
         match n {
             layout::SHEET_SETTINGS_KIND => Ok(Kind::Settings),
             layout::SHEET_TONE_KIND => Ok(Kind::Tone),
+            layout::SHEET_TAIL_KIND => Ok(Kind::Tail),
             layout::SHEET_ACCENT_KIND => Ok(Kind::Accent),
             layout::SHEET_ROW_KIND => Ok(Kind::Row),
             layout::SHEET_LIST_KIND => Ok(Kind::List),
@@ -53,6 +55,7 @@ impl Kind {
         match self {
             Kind::Settings => layout::SETTINGS_SIZE,
             Kind::Tone => layout::SHEET_TONE_SIZE,
+            Kind::Tail => layout::TAIL_SIZE,
             Kind::Accent => layout::SHEET_ACCENT_SIZE,
             Kind::Row => layout::SHEET_ROW_SIZE,
             Kind::List => layout::SHEET_LIST_SIZE,
