@@ -69,7 +69,7 @@ any_order : (sheet_outcome (front ++ (parent ++ (child ++ (6 ∷ [])))) ≡ writ
 unfolding sheet_outcome load_pack read_pack record_verdict due_after size_of body_verdict settings_verdict tone_verdict tail_verdict accent_verdict rule_verdict part_verdict holds zero_or_held added parents_held chain_ends chains_end end_verdict above_zero probability_fine knot_fine weight_fine slot_fine knots_fine region_fine tail_fine tails_fine tolerances_fine range turns range_to turns_to loop_to loop_on le lt of_bits to_bits sheet bytes_with view_of source_of_pack ascending asc_from accent_in row_context lists_of noted number_in seen_in place_in same_by same_carried piecewise pieces bits_bytes components_bytes look_up find_rule climb_turn best_rule index_of parts_from components carried component_of knots_at first_points point_at better_of matches meets specificity
 any_order = (refl, refl)
 
--- tails: kind 7's of -0 and 1 is a kind 24 of these bits; of a tone without one, zeros
+-- tails: kind 7's of -0 and 1 is a kind 24 of these bits; of a tone without one, zeros, as of one of zeros
 abbrev tailed : List ℕ → List ℕ
 tailed tail = front ++ (tail ++ ((3 ∷ 3 ∷ 0 ∷ (one ++ (one ++ (one ++ one)))) ++ (6 ∷ [])))
 
@@ -81,8 +81,9 @@ with_tail values =
 
 tails_written : (sheet_outcome (tailed (7 ∷ 0 ∷ 0 ∷ 0 ∷ 0x80 ∷ one)) ≡ written (with_tail (0 ∷ 0 ∷ 0 ∷ 0x80 ∷ one)))
     × (sheet_outcome (tailed []) ≡ written (with_tail (replicate 8 0)))
+    × (sheet_outcome (tailed (7 ∷ replicate 8 0)) ≡ written (with_tail (replicate 8 0)))
 unfolding sheet_outcome load_pack read_pack record_verdict due_after size_of body_verdict settings_verdict tone_verdict tail_verdict accent_verdict rule_verdict part_verdict holds zero_or_held added parents_held chain_ends chains_end end_verdict above_zero probability_fine knot_fine weight_fine slot_fine knots_fine region_fine tail_fine tails_fine tolerances_fine range turns range_to turns_to loop_to loop_on le lt of_bits to_bits sheet bytes_with view_of source_of_pack ascending asc_from accent_in row_context lists_of noted number_in seen_in place_in same_by same_carried piecewise pieces bits_bytes components_bytes look_up find_rule climb_turn best_rule index_of parts_from components carried component_of knots_at first_points point_at
-tails_written = (refl, refl)
+tails_written = (refl, refl, refl)
 
 -- one byte short: the length is answered
 short : answer_in 197 (written its) ≡ Err (record { why = ShortBuffer; place = 198 })
