@@ -65,8 +65,8 @@ enum {
 };
 
 /* The largest inputs that load, and the outputs, in bytes. */
-#define TONEKIT_PACK_MAX 6946
-#define TONEKIT_SHEET_MAX 13266
+#define TONEKIT_PACK_MAX 7018
+#define TONEKIT_SHEET_MAX 13338
 #define TONEKIT_QUERY_MAX 10286
 #define TONEKIT_SHAPE_SIZE 124
 #define TONEKIT_JUDGEMENT_SIZE 64
@@ -86,9 +86,10 @@ enum {
 #define TONEKIT_VARIANTS_MAX 4
 #define TONEKIT_FRAMES_MAX 1024
 
-/* Sizes of records, with their kind. */
+/* Sizes of records, with their kind. A pack's and a sheet's tail are alike. */
 #define TONEKIT_SETTINGS_SIZE 9
 #define TONEKIT_TONE_SIZE 56
+#define TONEKIT_TAIL_SIZE 9
 #define TONEKIT_ACCENT_SIZE 19
 #define TONEKIT_RULE_SIZE 7
 #define TONEKIT_PART_SIZE 46
@@ -107,19 +108,23 @@ enum {
 
 /* The first byte of a record. */
 enum {
-    TONEKIT_KIND_SETTINGS = 1,     /* of a pack: settings, tones, each accent with its rules, each rule with its parts, end */
+    TONEKIT_KIND_SETTINGS = 1,     /* of a pack: settings, tones, each with a tail or none, each accent with its rules, each rule
+                                    * with its parts, end */
     TONEKIT_KIND_TONE = 2,
     TONEKIT_KIND_ACCENT = 3,
     TONEKIT_KIND_RULE = 4,
     TONEKIT_KIND_PART = 5,
     TONEKIT_KIND_END = 6,
-    TONEKIT_KIND_SHEET_SETTINGS = 17, /* of a sheet: settings, tones, accents, rows, each list with its components, end */
+    TONEKIT_KIND_TAIL = 7,         /* straight after a tone, if that has one */
+    TONEKIT_KIND_SHEET_SETTINGS = 17, /* of a sheet: settings, each tone with its tail, accents, rows, each list with its
+                                       * components, end */
     TONEKIT_KIND_SHEET_TONE = 18,
     TONEKIT_KIND_SHEET_ACCENT = 19,
     TONEKIT_KIND_ROW = 20,
     TONEKIT_KIND_LIST = 21,
     TONEKIT_KIND_COMPONENT = 22,
     TONEKIT_KIND_SHEET_END = 23,
+    TONEKIT_KIND_SHEET_TAIL = 24,  /* straight after each tone */
     TONEKIT_KIND_QUERY = 48,
     TONEKIT_KIND_JUDGEMENT = 49,
     TONEKIT_KIND_FRAME = 50,
@@ -137,6 +142,9 @@ enum {
     TONEKIT_TONE_REGION = 47,      /* u8: 1 where the tone has a region, in which points with little voice are left out */
     TONEKIT_TONE_FROM = 48,        /* f32: its beginning, as a fraction of the voiced part */
     TONEKIT_TONE_TO = 52,          /* f32: its end */
+    TONEKIT_TAIL_FINAL = 1,        /* f32: what is added to the tone's log-likelihood where the issues have
+                                    * TONEKIT_ISSUE_CREAKY_TAIL, at the end of a phrase; 0 in a tone without a tail */
+    TONEKIT_TAIL_ELSEWHERE = 5,    /* f32: elsewhere */
     TONEKIT_ACCENT_NUMBER = 1,     /* u8, not 0 */
     TONEKIT_ACCENT_PARENT = 2,     /* u8: the accent, anywhere in the pack, whose rules serve where none here matches; 0 none */
     TONEKIT_ACCENT_CONTOUR = 3,    /* f32: tolerance of the contour, and of its range */
@@ -152,7 +160,7 @@ enum {
     TONEKIT_PART_KNOTS = 5         /* u8: how many; then 10 f32 */
 };
 
-/* Offsets in a sheet's records; its settings are as a pack's. */
+/* Offsets in a sheet's records; its settings and its tails are as a pack's. */
 enum {
     TONEKIT_SHEET_TONE_NUMBER = 1, /* u8; this and the rest as in a pack */
     TONEKIT_SHEET_TONE_PRIOR = 2,  /* f32 */
@@ -211,7 +219,7 @@ enum {
     TONEKIT_ISSUE_INVALID_EVIDENCE = 0x0040,    /* alone, where nothing was measured: the contour is not finite */
     TONEKIT_ISSUE_NO_NUCLEUS = 0x0080,
     TONEKIT_ISSUE_UNPITCHED = 0x0100,
-    TONEKIT_ISSUE_CREAKY_TAIL = 0x0200
+    TONEKIT_ISSUE_CREAKY_TAIL = 0x0200          /* the tones' tails are added to log-likelihoods and to the target's */
 };
 
 /* Offsets in the record of a shape, kind 51. The voiced part is the frames from the first to the last voiced one of the span. */

@@ -2,7 +2,7 @@
 import math
 from collections import namedtuple
 
-from reading import ACCENT, COMPONENT, LIST, PART, ROW, RULE, SHEET_TONE, TONE
+from reading import ACCENT, COMPONENT, LIST, PART, ROW, RULE, SHEET_TAIL, SHEET_TONE, TAIL, TONE
 from tables import bits, f32
 
 Rule = namedtuple('Rule', 'accent label tone prev final form parts')
@@ -54,8 +54,12 @@ class PackSource:
     def __init__(self, formats, pack):
         self.get, self.pack, self.rules, self.parents = formats.get, pack, [], {}
         self.knots = {self.get(tone, 'number'): self.curve(tone) for tone in pack.of(TONE)}
-        accent = 0
+        self.tails, accent, tone = dict.fromkeys(self.knots, (0, 0)), 0, 0
         for _, record in pack.records:
+            if record[0] == TONE:
+                tone = self.get(record, 'number')
+            if record[0] == TAIL:
+                self.tails[tone] = self.get(record, 'at phrase end'), self.get(record, 'elsewhere')
             if record[0] == ACCENT:
                 accent = self.get(record, 'number')
                 self.parents[accent] = self.get(record, 'parent')
@@ -105,6 +109,7 @@ def sheet_of(formats, pack):
     out = layouts[17].write(**fields(pack.records[0][1], ['temperature', 'heard threshold']))
     for tone in pack.of(TONE):
         out += layouts[SHEET_TONE].write(**fields(tone, ['number', 'prior', 'region flag', 'from', 'to']))
+        out += layouts[SHEET_TAIL].write(**dict(zip(('at_phrase_end', 'elsewhere'), source.tails[get(tone, 'number')])))
     accents = sorted(pack.of(ACCENT), key=lambda record: get(record, 'number'))
     for accent in accents:
         names = ['number', 'contour tolerance', 'onset tolerance', 'offset tolerance', 'turning tolerance']

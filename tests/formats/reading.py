@@ -5,8 +5,8 @@ from collections import defaultdict
 import tables
 from tables import f32
 
-TONE, ACCENT, RULE, PART, END = 2, 3, 4, 5, 6
-SHEET_TONE, SHEET_ACCENT, ROW, LIST, COMPONENT, SHEET_END = 18, 19, 20, 21, 22, 23
+TONE, ACCENT, RULE, PART, END, TAIL = 2, 3, 4, 5, 6, 7
+SHEET_TONE, SHEET_ACCENT, ROW, LIST, COMPONENT, SHEET_END, SHEET_TAIL = 18, 19, 20, 21, 22, 23, 24
 QUERY, FRAME = 48, 50
 
 
