@@ -9,3 +9,4 @@ pub mod JudgeSheet
 pub mod Bench
 pub mod Written
 pub mod OutcomeBench
+pub mod AgreeBench
