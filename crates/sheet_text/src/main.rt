@@ -26,7 +26,30 @@ fn add_settings(out: &mut impl Write, sheet: Record) -> fmt::Result {
     )
 }
 
-// A tone.
+// A tone's region, or that it has none.
+fn add_region(out: &mut impl Write, tone: Record) -> fmt::Result {
+    if tone.byte(layout::SHEET_TONE_REGION) == 0 {
+        return write!(out, ", no region");
+    }
+    write!(
+        out,
+        ", region {} to {}",
+        tone.float(layout::SHEET_TONE_FROM),
+        tone.float(layout::SHEET_TONE_TO)
+    )
+}
+
+// A tail, which ends its tone's line.
+fn add_tail(out: &mut impl Write, tail: Record) -> fmt::Result {
+    writeln!(
+        out,
+        ", tail at phrase end {}, elsewhere {}",
+        tail.float(layout::TAIL_FINAL),
+        tail.float(layout::TAIL_ELSEWHERE)
+    )
+}
+
+// A tone with its tail.
 // Stays: a tone and an accent share no words and no fields but their number, so one function for both would be these two behind a switch.
 fn add_tone(out: &mut impl Write, tone: Record) -> fmt::Result {
     write!(
@@ -35,21 +58,14 @@ fn add_tone(out: &mut impl Write, tone: Record) -> fmt::Result {
         tone.byte(layout::OWN_NUMBER),
         tone.float(layout::SHEET_TONE_PRIOR)
     )?;
-    if tone.byte(layout::SHEET_TONE_REGION) == 0 {
-        return writeln!(out, ", no region");
-    }
-    writeln!(
-        out,
-        ", region {} to {}",
-        tone.float(layout::SHEET_TONE_FROM),
-        tone.float(layout::SHEET_TONE_TO)
-    )
+    add_region(out, tone)?;
+    add_tail(out, tone.part(layout::SHEET_TONE_SIZE))
 }
 
 // So many tones from the first on, in the sheet's order.
 fn add_tones(out: &mut impl Write, first: Record, tones: usize) -> fmt::Result {
     for t in 0..tones {
-        add_tone(out, first.entry(layout::SHEET_TONE_SIZE, t))?;
+        add_tone(out, first.entry(layout::SHEET_TONE_STEP, t))?;
     }
     Ok(())
 }
