@@ -14,9 +14,11 @@ def knots(values):
     return bytes([len(values)]) + f32(*values, *[0.0] * (10 - len(values)))
 
 
-def tone(number, prior, curve, region=None):
+def tone(number, prior, curve, region=None, tail=None):
+    """tail: what a creaky ending is worth to the tone, at the end of a phrase and elsewhere."""
     flag, start, end = (1, *region) if region else (0, 0.0, 0.0)
-    return bytes([2, number]) + f32(prior) + knots(curve) + bytes([flag]) + f32(start, end)
+    behind = bytes([7]) + f32(*tail) if tail else b''
+    return bytes([2, number]) + f32(prior) + knots(curve) + bytes([flag]) + f32(start, end) + behind
 
 
 def accent(number, parent, *tolerances):
@@ -31,12 +33,12 @@ def rule(label, of, prev, final, *parts):
 
 
 # Five tones in Chao values: high, rising, low, falling, and a neutral one that has a curve in context only. The low tone may
-# be creaky in its middle. A rule's final is 0 any, 1 not at the end of a phrase, 2 at its end.
+# be creaky in its middle, and a creaky ending speaks for it. A rule's final is 0 any, 1 not at the end of a phrase, 2 at its end.
 PACK = b''.join([
     bytes([1]) + f32(1.0, 0.5),
     tone(1, 0.25, [5.0]),
     tone(2, 0.2, [3.0, 5.0]),
-    tone(3, 0.2, [2.0, 1.0, 4.0], region=(0.375, 0.75)),
+    tone(3, 0.2, [2.0, 1.0, 4.0], region=(0.375, 0.75), tail=(1.5, 0.75)),
     tone(4, 0.25, [5.0, 1.0]),
     tone(5, 0.1, []),
     accent(1, 0, 0.5, 0.5, 0.5, 0.125),

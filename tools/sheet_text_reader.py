@@ -23,8 +23,8 @@ class Damaged(Exception):
 
 
 class Tone:
-    def __init__(self, number, prior, region):
-        self.number, self.prior, self.region = number, prior, region
+    def __init__(self, number, prior, region, tail):
+        self.number, self.prior, self.region, self.tail = number, prior, region, tail
 
 
 class Accent:
@@ -60,7 +60,7 @@ class Sheet:
         """Every float of the sheet, in its order."""
         out = list(self.settings)
         for tone in self.tones:
-            out += [tone.prior, *(tone.region or ())]
+            out += [tone.prior, *(tone.region or ()), *tone.tail]
         for accent in self.accents:
             out += accent.tolerances
         for component in (c for each in self.lists for c in each.components):
@@ -122,11 +122,12 @@ class Lines:
 
 
 def read_tones(lines, sheet):
-    pattern = rf'tone {WHOLE}: prior {FLOAT}, (?:no region|region {FLOAT} to {FLOAT})'
+    pattern = (rf'tone {WHOLE}: prior {FLOAT}, (?:no region|region {FLOAT} to {FLOAT}), '
+               rf'tail at phrase end {FLOAT}, elsewhere {FLOAT}')
     while not sheet.tones or lines.match('tone .*'):
-        number, prior, start, end = lines.take(pattern, 'a tone')
+        number, prior, start, end, *tail = lines.take(pattern, 'a tone')
         number = lines.number(number, [t.number for t in sheet.tones])
-        sheet.tones.append(Tone(number, prior, start and (start, end)))
+        sheet.tones.append(Tone(number, prior, start and (start, end), tail))
 
 
 def read_accents(lines, sheet):
@@ -221,7 +222,7 @@ def sheet_bytes(sheet):
     out = bytes([17]) + f32(*sheet.settings)
     for tone in sheet.tones:
         region = b'\x01' + f32(*tone.region) if tone.region else bytes(9)
-        out += bytes([18, tone.number]) + f32(tone.prior) + region
+        out += bytes([18, tone.number]) + f32(tone.prior) + region + b'\x18' + f32(*tone.tail)
     for accent in sheet.accents:
         out += bytes([19, accent.number]) + f32(*accent.tolerances)
     preceding = [0] + [t.number for t in sheet.tones]

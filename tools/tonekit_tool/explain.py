@@ -36,7 +36,18 @@ def misplaced(place, data, of, found, at):
     if place == 0 and FIRST.get(record.number) in ('pack', 'sheet', 'query'):
         return f'the first byte is {record.number}, that of a {FIRST[record.number]}'
     kind = f'a record of kind {record.number}, {name}, stands {after(found, at)}'
-    return kind + ('; the file looks like text' if place == 0 and looks_like_text(data) else '')
+    if place == 0:
+        return kind + ('; the file looks like text' if looks_like_text(data) else '')
+    return kind + about_tails(of, record, found[at - 1])
+
+
+def about_tails(of, record, before):
+    """Where tails stand, if that is why a record is misplaced."""
+    if record.kind and record.kind.name == 'tail' and record.kind.format == of:
+        return ': a tail stands straight after its tone, which has one' + (' at most' if of == 'pack' else '')
+    if of == 'sheet' and before.kind and before.kind.name == 'tone':
+        return ': in a sheet each tone is followed by its tail, kind 24'
+    return ''
 
 
 def cut_short(place, data, of, found, at):

@@ -3,7 +3,7 @@ import os
 import stat
 import sys
 
-# No pack, sheet or query that loads is longer than 13,266 bytes, and the programs' answers depend on no more than this much.
+# No pack, sheet or query that loads is longer than 13,338 bytes, and the programs' answers depend on no more than this much.
 ENOUGH = 65536
 # No text or file of records needs more.
 MOST = 64 * 1024 * 1024

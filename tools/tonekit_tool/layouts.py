@@ -23,6 +23,7 @@ WEIGHT = Range('finite and not below 0, without the sign of -0', lambda v: v.bit
 FINITE = Range('finite', lambda v: abs(v) < float('inf'))
 KNOT = Range('of a size of at most 100', lambda v: abs(v) <= 100)
 POINT = Range('of a size of at most 128', lambda v: abs(v) <= 128)
+TAIL = Range('of a size of at most 50', lambda v: abs(v) <= 50)
 FLAG = Range('0 or 1', lambda v: v <= 1)
 SOME = Range('at least 1', lambda v: v >= 1)
 ISSUE_BITS = Range('without the bits 10 to 15', lambda v: v < 1 << 10)
@@ -95,6 +96,12 @@ def settings(number, of):
         Field(5, 'f32', 'threshold', 'threshold', SHARE)))
 
 
+def tail(number, of):
+    return Kind(number, 'tail', of, 9, (
+        Field(1, 'f32', 'final', 'final', TAIL),
+        Field(5, 'f32', 'elsewhere', 'elsewhere', TAIL)))
+
+
 def tolerances(first):
     return tuple(Field(first + 4 * i, 'f32', name, name, POSITIVE)
                  for i, name in enumerate(('contour', 'onset', 'offset', 'turning')))
@@ -126,6 +133,7 @@ PACK = (
         Field(1, 'u8', 'number', 'number', NUMBER),
         Field(2, 'f32', 'prior', 'prior', SHARE),
         *knots(6, ANY), *region(47)), most=8, rules=(REGION_ORDER,)),
+    tail(7, 'pack'),
     Kind(3, 'accent', 'pack', 19, (
         Field(1, 'u8', 'number', 'number', NUMBER),
         Field(2, 'u8', 'parent', 'parent', names=NO_PARENT, default=0, refers='accent'),
@@ -148,6 +156,7 @@ SHEET = (
         Field(1, 'u8', 'number', 'number', NUMBER),
         Field(2, 'f32', 'prior', 'prior', SHARE),
         *region(6)), most=8, rules=(REGION_ORDER,)),
+    tail(24, 'sheet'),
     Kind(19, 'accent', 'sheet', 18, (
         Field(1, 'u8', 'number', 'number', NUMBER),
         *tolerances(2)), most=8),
@@ -309,12 +318,14 @@ def plain(values, leave=()):
 
 
 def decode_sheet(data):
-    """A sheet that loads as a dictionary: settings, tones, accents, rows, and lists with their components."""
+    """A sheet that loads as a dictionary: settings, tones with their tails, accents, rows, and lists with their components."""
     sheet = {'settings': {}, 'tones': [], 'accents': [], 'rows': [], 'lists': []}
     for record in records(data):
         name, values = record.kind.name, record.values
         if name == 'settings':
             sheet['settings'] = plain(values)
+        elif name == 'tail':
+            sheet['tones'][-1]['tail'] = plain(values)
         elif name == 'component':
             sheet['lists'][-1]['components'].append(plain(values))
         elif name == 'list':

@@ -117,7 +117,17 @@ class Row:
 
 def about_tone(tone):
     region = f', region{TIE}{short(tone["from"])}{TIE}to{TIE}{short(tone["to"])}' if tone['flag'] else ''
-    return f'Tone {tone["number"]}', f'prior {short(tone["prior"])}{region}'
+    return f'Tone {tone["number"]}', f'prior {short(tone["prior"])}{region}{about_tail(tone["tail"])}'
+
+
+def has_tail(tone):
+    return any(tone['tail'].values())
+
+
+def about_tail(tail):
+    """The two values, where one is not zero."""
+    words = [f'{short(tail[name])}{TIE}{name}' for name in ('final', 'elsewhere')]
+    return f', tail{TIE}{words[0]},{TIE}{words[1]}' if any(tail.values()) else ''
 
 
 def about_accent(accent):
@@ -260,6 +270,9 @@ def explained(figure):
         out.append('Numbers on curves: parts of a mixture, with their weights in the key; the more weight, the wider the line.')
     if any(tone['flag'] for tone in figure.tones):
         out.append('Black bar on the time axis: the region in which points that are less than half voiced do not count.')
+    if any(has_tail(tone) for tone in figure.tones):
+        out.append('Tail: added to the tone\'s log-likelihood where the voice gives way to creak, at the end of a phrase (final) and '
+                   'elsewhere; no word of it: 0 in both.')
     return ' '.join(out)
 
 

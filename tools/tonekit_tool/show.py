@@ -51,13 +51,15 @@ def own_number(kind):
 
 
 def title(found, at):
-    """What people call the record at an index: tone 3, part 0 of rule 31, frame 12."""
+    """What people call the record at an index: tone 3, tail of tone 3, part 0 of rule 31, frame 12."""
     record = found[at]
     if record.kind is None or record.values is None:
         return f'the record of kind {record.number} at byte {record.offset}'
     kind, values = record.kind, record.values
     if own_number(kind):
         return f'{kind.name} {values[own_number(kind)]}'
+    if kind.name == 'tail' and at and found[at - 1].kind.name == 'tone':
+        return f'{kind.name} of {title(found, at - 1)}'
     if kind.within:
         owner = next((i for i in reversed(range(at)) if found[i].kind.name == kind.within[0]), None)
         return f'{kind.name} {at - owner - 1} of {title(found, owner)}' if owner is not None else kind.name
@@ -113,14 +115,15 @@ def in_short(record):
     return f'expected tone {record.values["expected"]}, {heard}'
 
 
-COUNTED = {'pack': ('tone', 'accent', 'rule', 'part'), 'sheet': ('tone', 'accent', 'row', 'list', 'component'),
+COUNTED = {'pack': ('tone', 'tail', 'accent', 'rule', 'part'), 'sheet': ('tone', 'accent', 'row', 'list', 'component'),
            'query': ('frame',)}
 
 
 def summary(of, found, length):
-    """What a file of a format has, in a line."""
+    """What a file of a format has, in a line; tails only where a pack has some."""
     counts = [(name, sum(r.kind is not None and r.kind.name == name for r in found)) for name in COUNTED[of]]
-    return f'a {of}: ' + ', '.join(f'{n} {name}{"" if n == 1 else "s"}' for name, n in counts) + f', {length} bytes'
+    said = [f'{n} {name}{"" if n == 1 else "s"}' for name, n in counts if n or name != 'tail']
+    return f'a {of}: ' + ', '.join(said) + f', {length} bytes'
 
 
 def format_of(data):

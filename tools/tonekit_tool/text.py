@@ -5,7 +5,7 @@ from .floats import NotANumber, is_number, parsed
 from .layouts import PACK, SIZES, derived, encode, records, used
 from .show import own_number, value_words
 
-INDENT = {'rule': '  ', 'part': '    '}
+INDENT = {'tail': '  ', 'rule': '  ', 'part': '    '}
 BY_NAME = {kind.name: kind for kind in PACK}
 
 
@@ -123,13 +123,16 @@ def line_text(kind, values):
 
 
 def keys(found):
-    """By what a name is found again: the tone, the accent, or the rule with its accent and conditions."""
-    accent = None
+    """By what a name is found again: the tone, also of its tail, the accent, or the rule with its accent and conditions."""
+    tone = accent = None
     for record in found:
         values, name = record.values, record.kind.name
+        tone = values['number'] if name == 'tone' else tone
         accent = values['number'] if name == 'accent' else accent
         if name in ('tone', 'accent'):
             yield name, values['number']
+        elif name == 'tail':
+            yield name, tone
         elif name == 'rule':
             yield name, accent, values['label'], values['tone'], values['prev'], values['final']
         else:
@@ -137,7 +140,7 @@ def keys(found):
 
 
 def names_in(text):
-    """The comments behind the tones, accents and rules of a text."""
+    """The comments behind the tones, tails, accents and rules of a text."""
     data, at_line = read_pack(text)
     found, lines = records(data), lines_of(text)
     out = {}
@@ -170,5 +173,5 @@ def write_pack(data, names=None):
         comment = (names or {}).get(key) or own_words(record)
         text = line_text(record.kind, record.values)
         out.append(f'{text}   # {comment}' if comment else text)
-        before = name
+        before = before if name in INDENT else name
     return '\n'.join(out) + '\n'
