@@ -30,7 +30,7 @@ const STEPS: [u8; 4] = [1, 2, 4, 8];
 const ROUNDS: usize = 25;
 const COUNTED: usize = 10;
 /// The longest output, a sheet.
-const ROOM: usize = 13_266;
+const ROOM: usize = 13_338;
 
 /// Bytes that last as long as the program.
 type Bytes = &'static [u8];

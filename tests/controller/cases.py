@@ -20,7 +20,7 @@ CALLS = {1: 'check_pack', 2: 'check_query', 3: 'check_sheet', 4: 'write_shape', 
 CHECK_PACK, CHECK_QUERY, CHECK_SHEET, WRITE_SHAPE, WRITE_SHEET, JUDGE, JUDGE_SHEET = range(1, 8)
 FILES = ['checks.bin', 'shapes.bin', 'sheets.bin', 'judgements.bin', 'functions.bin']
 ARENA, BEHIND = 24576, 8
-PACK_MAX, SHEET_MAX, QUERY_MAX, SHAPE, RECORD = 6946, 13266, 10286, 124, 64
+PACK_MAX, SHEET_MAX, QUERY_MAX, SHAPE, RECORD = 7018, 13338, 10286, 124, 64
 
 
 def case(call, first, second=b'', room=0, skew=0, held=None):
@@ -67,9 +67,13 @@ def curve(r, knots):
     return [r.choice([r.uniform(0.5, 5.5), r.uniform(-100, 100), 0.0, -0.0, 3.0]) for _ in range(knots)]
 
 
+def some_tail(r):
+    return [r.choice([r.uniform(-50, 50), 50.0, -50.0, 0.0, -0.0]) for _ in range(2)]
+
+
 def largest_pack(r):
-    """6,946 bytes, whose sheet has 13,266: in each accent each tone has its citation, and one rule of two parts."""
-    tones = [tone(t, 0.125, curve(r, 10), (0.25, 0.75)) for t in range(1, 9)]
+    """7,018 bytes, whose sheet has 13,338: in each accent each tone has its citation, and one rule of two parts."""
+    tones = [tone(t, 0.125, curve(r, 10), (0.25, 0.75), some_tail(r)) for t in range(1, 9)]
     accents = [accent(a, 0, 0.5, 0.75, 1.0, 0.25) + b''.join(rule(8 * a + t, t, 1 + (t + a) % 8, 1 + a % 2,
                (0.25, curve(r, 10)), (0.75, curve(r, 10))) for t in range(1, 9)) for a in range(1, 9)]
     return bytes([1]) + f32(1.0, 0.25) + b''.join(tones + accents) + bytes([6])
@@ -86,7 +90,7 @@ def alike_pack(one_mark=False):
     def knots(t, prev):
         end = struct.unpack('<2f', of_one_mark(8 * t + prev)) if one_mark else (2.0, t + prev / 16)
         return [2.0] * 8 + list(end)
-    tones = [tone(t, 0.125, [3.0] * 10) for t in range(1, 9)]
+    tones = [tone(t, 0.125, [3.0] * 10, tail=(1.0, -1.0)) for t in range(1, 9)]
     rules = [rule(7, t, prev, 0, (0.25, [2.0] * 10), (0.75, knots(t, prev))) for t in range(1, 9) for prev in range(1, 9)]
     accents = [accent(a, a - 1, 0.5, 0.75, 1.0, 0.25) + (b''.join(rules) if a == 1 else b'') for a in range(1, 9)]
     return bytes([1]) + f32(1.0, 0.25) + b''.join(tones + accents) + bytes([6])
@@ -95,7 +99,7 @@ def alike_pack(one_mark=False):
 def heavy_pack():
     """A largest pack that is longest to judge against: eight accents, each the parent of the next, 64 rules in the first, and the
     last of them, for every tone, is a mixture of four parts."""
-    tones = [tone(t, 0.125, [3.0] * 10, (0.25, 0.75)) for t in range(1, 9)]
+    tones = [tone(t, 0.125, [3.0] * 10, (0.25, 0.75), (t / 8, -t / 8)) for t in range(1, 9)]
     others = [rule(n, n % 8 + 1, 8, 2, *[(1.0, [2.0] * 10)] * (2 if n < 40 else 1)) for n in range(56)]
     rules = others + [rule(100 + t, t, 0, 0, *[(0.25, [p + k * t / 16 for k in range(10)]) for p in range(4)]) for t in range(1, 9)]
     accents = [accent(a, a - 1, 0.5, 0.75, 1.0, 0.25) + (b''.join(rules) if a == 1 else b'') for a in range(1, 9)]
@@ -105,7 +109,7 @@ def heavy_pack():
 def some_pack(r):
     tones, accents = r.randint(1, 8), r.randint(1, 8)
     head = bytes([1]) + f32(r.uniform(0.5, 2), r.uniform(0.1, 0.9))
-    body = [tone(t, r.uniform(0.1, 1), curve(r, r.randint(1, 10)), r.choice([None, (0.25, 0.5)])) for t in range(1, tones + 1)]
+    body = [tone(t, r.uniform(0.1, 1), curve(r, r.randint(1, 10)), r.choice([None, (0.25, 0.5)]), r.choice([None, some_tail(r)])) for t in range(1, tones + 1)]
     for a in range(1, accents + 1):
         body.append(accent(a, r.randrange(a), *[r.uniform(0.1, 2) for _ in range(4)]))
         for label in range(r.randint(0, 64 // accents)):
@@ -115,11 +119,12 @@ def some_pack(r):
 
 
 def some_query(r, frames, tones=8):
-    """Frames of a curve with holes; now and then a pitch or a register of any bits."""
+    """Frames of a curve with holes, half of them with a creaky tail; now and then a pitch or a register of any bits."""
     pitch, step = r.uniform(60, 300), r.uniform(-60, 60)
     hertz = [None if r.random() < 0.1 else pitch + step * i / (frames or 1) + r.uniform(-2, 2) for i in range(frames)]
     variants = [(r.randint(1, tones), r.choice([0.25, 0.125, -0.0])) for _ in range(r.choice([0, 0, 1, 2, 4]))]
     q = bytearray(query(r.randint(1, tones), r.randint(1, 8), r.randint(0, tones), r.randint(0, 1), hertz, variants))
+    q[22] = r.choice([0, 2])
     for _ in range(r.choice([0, 0, 0, 1, 5])):
         at = r.choice([13, 17] + ([48 + 10 * r.randrange(frames)] if frames else []))
         q[at:at + 4] = r.choice([bytes(4), r.randbytes(4), f32(float('nan')), f32(float('inf')), f32(-0.0), f32(1e-40)])

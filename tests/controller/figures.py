@@ -33,7 +33,7 @@ FIVE += accent(1, 0, 1.0, 1.0, 1.0, 1.0) + bytes([6])
 def alike_sheet(one_mark=False):
     """A sheet of no pack that is long to read: 128 lists of one component, alike but for the last bits of the ninth point; or for
     the last two points, and of one mark."""
-    head = bytes([17]) + f32(1.0, 0.25) + b''.join(bytes([18, t]) + f32(0.125) + bytes(9) for t in range(1, 9))
+    head = bytes([17]) + f32(1.0, 0.25) + b''.join(bytes([18, t]) + f32(0.125) + bytes(9) + bytes([24]) + bytes(8) for t in range(1, 9))
     head += b''.join(bytes([19, a]) + f32(0.5, 0.75, 1.0, 0.25) for a in range(1, 9))
     places = [(a, t, prev) for a in range(1, 9) for t in range(1, 9) for prev in range(9)]
     rows = b''.join(bytes([20, *place, *((2 * i + 1, 2 * i + 2) if i < 64 else (1, 2))]) for i, place in enumerate(places))
@@ -55,9 +55,12 @@ def figures(host=None):
     for frames in (8, 30, 200, 1024):
         named.append((f'judge_sheet, {frames} frames, that pack\'s sheet', case(JUDGE_SHEET, sheets[0], query(frames), RECORD)))
     hard = query(1024, 8, False, [(t, 0.25) for t in (2, 3, 4, 5)])
+    creaky = hard[:22] + b'\x02' + hard[23:]
     return named + [
         ('judge, 1024 frames, all voiced, 4 variants, heavy pack', case(JUDGE, heavy, hard, RECORD)),
         ('judge_sheet, the same, heavy pack\'s sheet', case(JUDGE_SHEET, sheets[3], hard, RECORD)),
+        ('judge, the same with CreakyTail, heavy pack', case(JUDGE, heavy, creaky, RECORD)),
+        ('judge_sheet, the same with CreakyTail, heavy pack\'s sheet', case(JUDGE_SHEET, sheets[3], creaky, RECORD)),
         ('judge_sheet, the same, largest sheet', case(JUDGE_SHEET, sheets[1], hard, RECORD)),
         ('judge_sheet, the same, alike pack\'s sheet', case(JUDGE_SHEET, sheets[2], hard, RECORD)),
         ('judge_sheet, the same, sheet of 128 lists alike', case(JUDGE_SHEET, alike_sheet(), hard, RECORD)),

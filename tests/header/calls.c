@@ -15,11 +15,12 @@ static void versions(void)
 static void limits(void)
 {
     check("the longest pack",
-          TONEKIT_PACK_MAX == TONEKIT_SETTINGS_SIZE + TONEKIT_TONES_MAX * TONEKIT_TONE_SIZE
+          TONEKIT_PACK_MAX == TONEKIT_SETTINGS_SIZE + TONEKIT_TONES_MAX * (TONEKIT_TONE_SIZE + TONEKIT_TAIL_SIZE)
                                   + TONEKIT_ACCENTS_MAX * TONEKIT_ACCENT_SIZE + TONEKIT_RULES_MAX * TONEKIT_RULE_SIZE
                                   + TONEKIT_PARTS_MAX * TONEKIT_PART_SIZE + TONEKIT_END_SIZE);
     check("the longest sheet",
-          TONEKIT_SHEET_MAX == TONEKIT_SETTINGS_SIZE + TONEKIT_TONES_MAX * TONEKIT_SHEET_TONE_SIZE
+          TONEKIT_SHEET_MAX == TONEKIT_SETTINGS_SIZE
+                                   + TONEKIT_TONES_MAX * (TONEKIT_SHEET_TONE_SIZE + TONEKIT_TAIL_SIZE)
                                    + TONEKIT_ACCENTS_MAX * TONEKIT_SHEET_ACCENT_SIZE + TONEKIT_ROWS_MAX * TONEKIT_ROW_SIZE
                                    + TONEKIT_LISTS_MAX * TONEKIT_LIST_SIZE + TONEKIT_COMPONENTS_MAX * TONEKIT_COMPONENT_SIZE
                                    + TONEKIT_END_SIZE);

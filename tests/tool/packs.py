@@ -4,7 +4,7 @@ import struct
 
 NUMBERS = range(1, 256)
 LEAST, GREATEST = 0x00000001, 0x7F7FFFFF
-ONE, HUNDRED = 0x3F800000, 0x42C80000
+ONE, FIFTY, HUNDRED = 0x3F800000, 0x42480000, 0x42C80000
 SIGN = 0x80000000
 
 
@@ -51,6 +51,17 @@ class Packs:
                   'flag': region[0], 'from': region[1], 'to': region[2]}
         return 2, values, bytes([2, number]) + whole(prior) + slots + tail
 
+    def tail(self):
+        final, elsewhere = self.signed(FIFTY), self.signed(FIFTY)
+        return 7, {'final': final, 'elsewhere': elsewhere}, bytes([7]) + whole(final) + whole(elsewhere)
+
+    def tones(self, numbers):
+        """Tones, some of them with a tail."""
+        for number in numbers:
+            yield self.tone(number)
+            if self.chance.random() < 0.4:
+                yield self.tail()
+
     def accent(self, number, parent):
         four = [self.bits(GREATEST) for _ in range(4)]
         values = {'number': number, 'parent': parent, **dict(zip(('contour', 'onset', 'offset', 'turning'), four))}
@@ -88,7 +99,7 @@ class Packs:
         settings = self.bits(GREATEST), self.bits(ONE)
         yield 1, dict(zip(('temperature', 'threshold'), settings)), bytes([1]) + b''.join(map(whole, settings))
         tones = self.chance.sample(NUMBERS, self.chance.randint(1, 8))
-        yield from map(self.tone, tones)
+        yield from self.tones(tones)
         accents, left = self.chance.sample(NUMBERS, self.chance.randint(1, 8)), [64, 128]
         parents = self.parents(accents)
         for number in accents:

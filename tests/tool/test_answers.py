@@ -128,7 +128,10 @@ def test_show_as_json():
         tone = read['pack']['records'][3]
         expect('a tone as JSON', tone == {'offset': 121, 'kind': 2, 'name': 'tone', 'fields': {
             'number': 3, 'prior': 0.2, 'knot_count': 3, 'knots': [2.0, 1.0, 4.0], 'flag': 1, 'from': 0.375, 'to': 0.75}}, tone)
-        expect('a sheet as JSON', len(read['sheet']['records']) == 134 and read['sheet']['refused'] is None)
+        tails = [next(r for r in read[of]['records'] if r['offset'] == at) for of, at in (('pack', 177), ('sheet', 72))]
+        expect('tails as JSON', tails == [{'offset': at, 'kind': kind, 'name': 'tail', 'fields': {'final': 1.5, 'elsewhere': 0.75}}
+                                          for at, kind in ((177, 7), (72, 24))], tails)
+        expect('a sheet as JSON', len(read['sheet']['records']) == 139 and read['sheet']['refused'] is None)
         put(at, 'odd', changed(QUERY, 13, bytes.fromhex('0100c07f'), bytes.fromhex('000080ff')))
         fields = json.loads(tonekit('show', '--json', 'odd', cwd=at).out)['records'][0]['fields']
         expect('floats that JSON lacks', (fields['floor'], fields['ceil']) == ('0x7fc00001', '-inf'), fields)
@@ -145,7 +148,7 @@ def test_show_by_offset():
         words = tonekit('show', 'pack', cwd=at).out.decode()
         for told in ('     0  settings: temperature 1, threshold 0.5',
                      '   121  tone 3: prior 0.2, knots 2 1 4, region 0.375, to 0.75',
-                     '   368  part 0: weight 0.75, knots 2 1 4', '   915  end'):
+                     '   177  tail: final 1.5, elsewhere 0.75', '   377  part 0: weight 0.75, knots 2 1 4', '   924  end'):
             expect(f'the words have {told!r}', f'{told}\n' in words, words)
 
 

@@ -1,5 +1,6 @@
 """The words behind a refusal against the proved check: where it refuses a field, the table must name one at that place, and where
 it loads, the table must have nothing to say."""
+import itertools
 import random
 import struct
 
@@ -68,8 +69,8 @@ def refused_with(data):
 def with_parents(parents, order):
     """A pack of accents of these numbers, in this order, and where each of them stands."""
     packs = Packs(random.Random(9))
-    data = PACK[:289] + joined(packs.accent(number, parents[number]) for number in order) + b'\x06'
-    return data, {number: 289 + 19 * i for i, number in enumerate(order)}
+    data = PACK[:298] + joined(packs.accent(number, parents[number]) for number in order) + b'\x06'
+    return data, {number: 298 + 19 * i for i, number in enumerate(order)}
 
 
 def test_parents():
@@ -93,6 +94,29 @@ def test_parents():
                and all(one in words for one in told), words)
 
 
+def test_tails():
+    """A tail that is misplaced, or a sheet's that is missing: what stands there is told, and where a tail belongs."""
+    tail, other = PACK[177:186], SHEET[24:33]
+    once, due = 'a tail stands straight after its tone, which has one', 'in a sheet each tone is followed by its tail, kind 24'
+    for of, name, data, place, told in [
+            ('pack', 'a second tail', PACK[:186] + tail + PACK[186:], 186, f'stands after the tail of tone 3: {once} at most'),
+            ('pack', 'a tail after the settings', PACK[:9] + tail + PACK[9:], 9, f'stands after the settings: {once} at most'),
+            ('pack', 'a tail at the end', PACK[:-1] + tail, 924, f'stands after part 1 of rule 44: {once} at most'),
+            ('pack', "a sheet's tail", PACK[:65] + other + PACK[65:], 65, 'kind 24, tail, of a sheet, stands after tone 1'),
+            ('sheet', 'a tone without a tail', SHEET[:24] + SHEET[33:], 24, f'tone, of a sheet, stands after tone 1: {due}'),
+            ('sheet', 'the last tone without a tail', SHEET[:120] + SHEET[129:], 120, f'accent, of a sheet, stands after tone 5: {due}'),
+            ('sheet', 'a second tail', SHEET[:33] + other + SHEET[33:], 33, f'stands after the tail of tone 1: {once}')]:
+        refusal = programs.check(of, data)
+        words = refusal and explain.told(refusal, data, of)
+        expect(f'{of}, {name}', refusal == (1, place) and words.endswith(told), words)
+    for value, at in itertools.product((50.5, -50.5, float('inf'), float('nan')), (178, 182)):
+        number, place, words = refused_with(changed(PACK, at, f32(value)))
+        expect(f'a tail of {value}', (number, place) == (5, 177) and '(the tail of tone 3)' in words
+               and 'not of a size of at most 50' in words, words)
+    for value, at in itertools.product((50, -50, 0.0, -0.0), (178, 182)):
+        expect(f'a tail of {value} loads', programs.check('pack', changed(PACK, at, f32(value))) is None)
+
+
 def spelt(name):
     """StartHigher as START_HIGHER."""
     return ''.join(f'_{c}' if c.isupper() and i else c for i, c in enumerate(name)).upper()
@@ -113,13 +137,13 @@ def test_names_are_the_headers():
 def test_crowded_files():
     """A ninth tone, a second part of a single rule, a fifth of a mixture, and counts past their limits."""
     tones = b''.join(changed(PACK[9:65], 1, bytes([i])) for i in range(1, 10))
-    rule, part = PACK[308:315], PACK[315:361]
+    rule, part = PACK[317:324], PACK[324:370]
     mixture = struct.pack('<BHBBBB', 4, 1, 0, 0, 0, 3)
     for name, data, told in [
-            ('a ninth tone', PACK[:9] + tones + PACK[289:], 'tone number 9 of the file'),
-            ('a second part', PACK[:361] + part + PACK[361:], 'part number 2 of rule 30'),
-            ('a fifth part', PACK[:308] + mixture + part * 5 + PACK[308:], 'part number 5 of rule 1'),
-            ('a 65th rule', PACK[:308] + (rule + part) * 65 + PACK[308:], 'rule number 65 of the file'),
+            ('a ninth tone', PACK[:9] + tones + PACK[298:], 'tone number 9 of the file'),
+            ('a second part', PACK[:370] + part + PACK[370:], 'part number 2 of rule 30'),
+            ('a fifth part', PACK[:317] + mixture + part * 5 + PACK[317:], 'part number 5 of rule 1'),
+            ('a 65th rule', PACK[:317] + (rule + part) * 65 + PACK[317:], 'rule number 65 of the file'),
             ('11 knots', changed(PACK, 15, b'\x0b'), 'knot count is 11, at most 10'),
             ('5 variants', changed(QUERY, 23, b'\x05'), 'variants is 5, at most 4'),
             ('1,025 frames', changed(QUERY, 44, b'\x01\x04'), 'frames is 1025, at most 1024')]:

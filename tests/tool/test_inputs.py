@@ -14,7 +14,7 @@ TONE_OFF = changed(PACK, 123, b'\x00\x00\x00\x40')
 LIST_OFF = content('crates', 'sheet_text', 'data', 'damaged.sheet')
 FRAME_OFF = changed(QUERY, 57, b'\x07')
 PACK_TOLD = ('refused with 5, off scale, at byte 121 (tone 3)', 'prior is 2, not above 0 and at most 1')
-SHEET_TOLD = ('refused with 5, off scale, at byte 841', 'component')
+SHEET_TOLD = ('refused with 5, off scale, at byte 886', 'component')
 QUERY_TOLD = ('refused with 10, bad query, at byte 56 (frame 1)', 'voiced is 7, not 0 or 1')
 
 # Where the input stands in each command: words before it and behind it, a good one, a damaged one with what is told of it, what
@@ -22,25 +22,25 @@ QUERY_TOLD = ('refused with 10, bad query, at byte 56 (frame 1)', 'voiced is 7, 
 CUT = 'refused with 2, cut short, at byte 0'
 OVER = 'refused with 3, overrun, at byte '
 COMMANDS = [
-    (['check'], [], PACK, TONE_OFF, PACK_TOLD, CUT, PACK * 6000, OVER + '916'),
-    (['check'], [], SHEET, LIST_OFF, SHEET_TOLD, CUT, SHEET * 3500, OVER + '1601'),
+    (['check'], [], PACK, TONE_OFF, PACK_TOLD, CUT, PACK * 6000, OVER + '925'),
+    (['check'], [], SHEET, LIST_OFF, SHEET_TOLD, CUT, SHEET * 3500, OVER + '1646'),
     (['check'], [], QUERY, FRAME_OFF, QUERY_TOLD, CUT, QUERY * 16000, OVER + '346'),
     (['check', '--as', 'sheet'], [], SHEET, PACK, ('refused with 1, misplaced, at byte 0', 'that of a pack'), CUT, PACK * 6000,
      'refused with 1'),
-    (['judge', '-o', 'out', '--pack'], ['query'], PACK, TONE_OFF, PACK_TOLD, CUT, PACK * 6000, OVER + '916'),
-    (['judge', '-o', 'out', '--sheet'], ['query'], SHEET, LIST_OFF, SHEET_TOLD, CUT, SHEET * 3500, OVER + '1601'),
+    (['judge', '-o', 'out', '--pack'], ['query'], PACK, TONE_OFF, PACK_TOLD, CUT, PACK * 6000, OVER + '925'),
+    (['judge', '-o', 'out', '--sheet'], ['query'], SHEET, LIST_OFF, SHEET_TOLD, CUT, SHEET * 3500, OVER + '1646'),
     (['judge', '-o', 'out', '--pack', 'pack'], [], QUERY, FRAME_OFF, QUERY_TOLD, CUT, QUERY * 16000, OVER + '346'),
     (['judge', '-o', 'out', '--sheet', 'sheet'], [], QUERY, FRAME_OFF, QUERY_TOLD, CUT, QUERY * 16000, OVER + '346'),
     (['shape', '-o', 'out'], [], QUERY, FRAME_OFF, QUERY_TOLD, CUT, QUERY * 16000, OVER + '346'),
-    (['sheet', '-o', 'out'], [], PACK, TONE_OFF, PACK_TOLD, CUT, PACK * 6000, OVER + '916'),
-    (['unpack', '-o', 'out'], [], PACK, TONE_OFF, PACK_TOLD, CUT, PACK * 6000, OVER + '916'),
-    (['show'], [], PACK, TONE_OFF, PACK_TOLD, 'the file is empty', PACK * 6000, OVER + '916'),
-    (['show'], [], SHEET, LIST_OFF, SHEET_TOLD, 'the file is empty', SHEET * 3500, OVER + '1601'),
+    (['sheet', '-o', 'out'], [], PACK, TONE_OFF, PACK_TOLD, CUT, PACK * 6000, OVER + '925'),
+    (['unpack', '-o', 'out'], [], PACK, TONE_OFF, PACK_TOLD, CUT, PACK * 6000, OVER + '925'),
+    (['show'], [], PACK, TONE_OFF, PACK_TOLD, 'the file is empty', PACK * 6000, OVER + '925'),
+    (['show'], [], SHEET, LIST_OFF, SHEET_TOLD, 'the file is empty', SHEET * 3500, OVER + '1646'),
     (['show', '--json'], [], QUERY, FRAME_OFF, QUERY_TOLD, 'the file is empty', QUERY * 16000, OVER + '346'),
     (['show'], [], RECORD, RECORD[:60], ('at byte 0: kind 49, judgement, is cut short',), 'the file is empty', bytes(MEGABYTES),
      'begins with byte 0'),
     (['pack', '-o', 'out'], [], TEXT.encode(), TEXT.replace('prior', 'prio').encode(), ("line 6: 'prio' is none",),
-     'at the end of the text: the pack is refused with 2', TEXT.encode() * 1500, 'line 42: the pack is refused with 3, overrun'),
+     'at the end of the text: the pack is refused with 2', TEXT.encode() * 1500, 'line 43: the pack is refused with 3, overrun'),
     (['query', '-o', 'out', *SAID], [], CSV.encode(), CSV.replace('0.015', '0.016').encode(), ('line 3: the step is 11 ms',),
      'the track is empty', b''.join(b'%.2f,110\n' % (i / 100) for i in range(200000)), 'has 200000 frames'),
 ]
