@@ -32,6 +32,8 @@ SPOILT = [
     ('other settings', r'Temperature 1.5', 'Temperature 1'),
     ('another page', r'Page 1', 'Page 2'),
     ('a region left out', r'<rect class="region"[^>]*/>', ''),
+    ('another tail', r'tail\u00a01.5', 'tail\u00a02.5'),
+    ('a tail left out', r', tail\u00a01.5[^<]*', ''),
     ('another width', r'width="174.000mm"', 'width="170.000mm"'),
     ('no well-formed XML', r'</g>', ''),
 ]
@@ -155,7 +157,7 @@ def faults(sheet, digest, args, pages):
         for i, page in enumerate(read):
             panels = [Panel(group, page) for group in page.panels]
             found += panels
-            out += [*page.faults(args), *foot(page, sheet, digest)]
+            out += [*page.faults(args), *foot(page, sheet, digest), *tails(page, {panel.tone for panel in panels}, sheet)]
             out += [fault for panel in panels for fault in of_panel(panel, sheet)]
             if args.grey:
                 out += page.colours()
@@ -178,6 +180,17 @@ def foot(page, sheet, digest):
                   f'{digest[:16]} (the first 16 of 64 digits)', 'pitch (Chao)', 'time'):
         if words not in page.said:
             yield f'{words!r} is not said'
+
+
+def tails(page, shown, sheet):
+    """The tails of the tones that a page shows; not a word where all are zero."""
+    said = page.said.replace('\u00a0', ' ')
+    for tail in [tone['tail'] for tone in sheet['tones'] if tone['number'] in shown and any(tone['tail'].values())]:
+        words = f'tail {tail["final"]:.4g} final, {tail["elsewhere"]:.4g} elsewhere'
+        if words not in said or 'Tail: what a creaky ending adds' not in said:
+            yield f'{words!r} is not said'
+    if not any(value for tone in sheet['tones'] for value in tone['tail'].values()) and 'tail' in said.lower():
+        yield 'a tail, and there is none'
 
 
 def of_panel(panel, sheet):

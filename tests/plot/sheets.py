@@ -33,11 +33,13 @@ class Builder:
         return self.known[key]
 
 
-def tones(numbers, prior=0.125, **regions):
+def tones(numbers, prior=0.125, tails=(), **regions):
+    """`tails` are the two values of tones by their numbers, `regions` from and to by t and the number."""
     out = []
     for n in numbers:
         flag, start, end = (1, *regions[f't{n}']) if f't{n}' in regions else (0, 0.0, 0.0)
-        out.append({'number': n, 'prior': prior, 'flag': flag, 'from': start, 'to': end})
+        tail = dict(zip(('final', 'elsewhere'), dict(tails).get(n, (0.0, 0.0))))
+        out.append({'number': n, 'prior': prior, 'flag': flag, 'from': start, 'to': end, 'tail': tail})
     return out
 
 
@@ -66,7 +68,7 @@ def largest():
             parts = [(1.0 if form == 2 else (i + 1) / 8, line(1 + (a + i + t) % 5, 1 + (t + 2 * i) % 5)) for i in range(count)]
             return a, form, 100 * a + t, parts
         return citation(a, 1 + t / 2, 1 + a % 5)
-    return Builder(tones(range(1, 9), t3=(0.3, 0.7)), accents(range(1, 9), 0.5, 0.25, 0.75, 0.1), takes).sheet
+    return Builder(tones(range(1, 9), tails={2: (1.5, -0.5), 3: (0.0, 0.25)}, t3=(0.3, 0.7)), accents(range(1, 9), 0.5, 0.25, 0.75, 0.1), takes).sheet
 
 
 def dense():
@@ -78,7 +80,7 @@ def dense():
             return 255, 3, 65000 + 2 * (p % 200) + f, parts
         return citation(a, 1 + t % 5, 1 + a % 5)
     numbers = range(248, 256)
-    return Builder(tones(numbers, 1.2345e-40), accents(numbers, 0.33333334, 1.2345e-05, 0.75, 0.1), takes).sheet
+    return Builder(tones(numbers, 1.2345e-40, {n: (-1.2345e-05, -12.34) for n in numbers}), accents(numbers, 0.33333334, 1.2345e-05, 0.75, 0.1), takes).sheet
 
 
 def extreme():
@@ -92,7 +94,7 @@ def extreme():
     held = accents([1], LEAST, LEAST, LEAST, LEAST) + accents([2], GREATEST, GREATEST, GREATEST, GREATEST)
     held += accents([9], 0.5, GREATEST, LEAST, 3.0)
     regions = {'t1': (-GREATEST, GREATEST), 't2': (0.5, 0.5), 't3': (5.0, 6.0), 't4': (-1.0, 0.25)}
-    sheet = Builder(tones([1, 2, 3, 4], LEAST, **regions), held, takes).sheet
+    sheet = Builder(tones([1, 2, 3, 4], LEAST, {1: (-0.0, 0.0), 2: (50.0, -50.0), 3: (0.0, LEAST)}, **regions), held, takes).sheet
     sheet['settings'] = {'temperature': GREATEST, 'threshold': LEAST}
     return sheet
 
@@ -123,4 +125,5 @@ def generated(seed):
         lists.append((r.choice(numbers[1]), form, label if form > 1 else 0, parts))
     few = {(a, t): r.sample(lists, min(len(lists), r.randint(1, 6))) for a in numbers[1] for t in numbers[0]}
     held = [{**each, 'contour': r.uniform(0.01, 3)} for each in accents(numbers[1], 0.5, r.random() + 0.1, 1.25, 0.1)]
-    return Builder(tones(numbers[0]), held, lambda a, t, p, f: r.choice(few[a, t])).sheet
+    tails = {n: (r.uniform(-50, 50), r.uniform(-1, 1)) for n in numbers[0] if r.random() < 0.5}
+    return Builder(tones(numbers[0], tails=tails), held, lambda a, t, p, f: r.choice(few[a, t])).sheet

@@ -271,8 +271,7 @@ def explained(figure):
     if any(tone['flag'] for tone in figure.tones):
         out.append('Black bar on the time axis: the region in which points that are less than half voiced do not count.')
     if any(has_tail(tone) for tone in figure.tones):
-        out.append('Tail: added to the tone\'s log-likelihood where the voice gives way to creak, at the end of a phrase (final) and '
-                   'elsewhere; no word of it: 0 in both.')
+        out.append('Tail: what a creaky ending adds to the tone\'s log-likelihood.')
     return ' '.join(out)
 
 

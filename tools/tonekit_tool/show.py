@@ -51,7 +51,7 @@ def own_number(kind):
 
 
 def title(found, at):
-    """What people call the record at an index: tone 3, tail of tone 3, part 0 of rule 31, frame 12."""
+    """What people call the record at an index: tone 3, the tail of tone 3, part 0 of rule 31, frame 12."""
     record = found[at]
     if record.kind is None or record.values is None:
         return f'the record of kind {record.number} at byte {record.offset}'
@@ -59,7 +59,7 @@ def title(found, at):
     if own_number(kind):
         return f'{kind.name} {values[own_number(kind)]}'
     if kind.name == 'tail' and at and found[at - 1].kind.name == 'tone':
-        return f'{kind.name} of {title(found, at - 1)}'
+        return f'the {kind.name} of {title(found, at - 1)}'
     if kind.within:
         owner = next((i for i in reversed(range(at)) if found[i].kind.name == kind.within[0]), None)
         return f'{kind.name} {at - owner - 1} of {title(found, owner)}' if owner is not None else kind.name
