@@ -86,6 +86,34 @@ pub fn sized(x: f32, most: f32) -> bool {
     x.abs() <= most
 }
 
+/// "the tail value at phrase end and elsewhere, finite and of size at most 50". −0 is a value. `at` is where the record stands.
+pub fn tail_in_range(bytes: &[u8], at: usize) -> bool {
+    let [last, elsewhere] = tail_at(bytes, at).map(tail_value);
+    match () {
+        _ if planted(TAIL_END_ONLY) => last,
+        _ if planted(TAIL_ELSEWHERE_ONLY) => elsewhere,
+        _ => last && elsewhere,
+    }
+}
+
+fn tail_value(x: f32) -> bool {
+    match () {
+        _ if planted(TAIL_BELOW_50) => x.abs() < 50.0,
+        _ if planted(TAIL_ABOVE_50) => x.is_finite(),
+        _ if planted(TAIL_NO_LEAST) => x <= 50.0,
+        _ if planted(TAIL_NAN) => !(x.abs() > 50.0),
+        _ if planted(TAIL_INFINITE) => x.abs() <= 50.0 || x.is_infinite(),
+        _ if planted(TAIL_MINUS_ZERO) && minus_zero(x) => false,
+        _ if planted(TAIL_AT_MOST_ZERO) => -50.0 <= x && x <= 0.0,
+        _ => x.abs() <= 50.0,
+    }
+}
+
+/// The two values of a tail's record.
+pub fn tail_at(bytes: &[u8], at: usize) -> [f32; 2] {
+    f32s_at(bytes, at + 1)
+}
+
 /// "zero bytes"
 pub fn zero_bytes(bytes: &[u8]) -> bool {
     bytes.iter().all(|&b| b == 0)

@@ -65,6 +65,13 @@ pub fn tone(number: u8, prior: f32, k: &[f32], r: Option<(f32, f32)>) -> Vec<u8>
     out
 }
 
+/// What a tone's tail adds at phrase end and elsewhere: kind 7 in a pack, 24 in a sheet.
+pub fn tail(kind: u8, values: [f32; 2]) -> Vec<u8> {
+    let mut out = vec![kind];
+    floats(&mut out, &values);
+    out
+}
+
 pub fn accent(number: u8, parent: u8, tolerances: [f32; 4]) -> Vec<u8> {
     let mut out = vec![3, number, parent];
     floats(&mut out, &tolerances);
@@ -83,11 +90,12 @@ pub fn part(weight: f32, k: &[f32]) -> Vec<u8> {
     out
 }
 
-pub fn sheet_tone(number: u8, prior: f32, r: Option<(f32, f32)>) -> Vec<u8> {
+/// A sheet's tone with its tail's record.
+pub fn sheet_tone(number: u8, prior: f32, r: Option<(f32, f32)>, values: [f32; 2]) -> Vec<u8> {
     let mut out = vec![18, number];
     floats(&mut out, &[prior]);
     region(&mut out, r);
-    out
+    [out, tail(24, values)].concat()
 }
 
 pub fn sheet_accent(number: u8, tolerances: [f32; 4]) -> Vec<u8> {
@@ -162,7 +170,7 @@ pub fn steady(n: usize, hz: f32) -> Vec<(u8, f32, f32)> {
     vec![(1, hz, 1.0); n]
 }
 
-const ODD_FLOATS: [u32; 30] = [
+const ODD_FLOATS: [u32; 34] = [
     0x0000_0000, // 0
     0x8000_0000, // −0
     0x0000_0001, // least subnormal
@@ -171,6 +179,10 @@ const ODD_FLOATS: [u32; 30] = [
     0x3F7F_FFFF, // just below 1
     0xBF80_0000, // −1
     0x3F00_0000, // 0.5
+    0x4248_0000, // 50
+    0x4248_0001, // just above 50
+    0xC248_0000, // −50
+    0xC248_0001, // just below −50
     0x42C8_0000, // 100
     0x42C8_0001, // just above 100
     0xC2C8_0000, // −100
@@ -279,6 +291,15 @@ pub fn of_parents(parents: &[u8]) -> Vec<u8> {
     out
 }
 
+/// A tail that loads.
+fn some_tail(r: &mut Rng) -> f32 {
+    match r.below(3) {
+        0 => r.pick(&[0.0, -0.0, 50.0, -50.0, 1e-40, -1e-45, -1.0]),
+        1 => (-5.0 * r.unit()) as f32,
+        _ => (100.0 * r.unit() - 50.0) as f32,
+    }
+}
+
 /// A pack that loads.
 pub fn some_pack(r: &mut Rng) -> SomePack {
     let sizes = [1, 1, 2, 2, 3, 4, 8];
@@ -290,6 +311,7 @@ pub fn some_pack(r: &mut Rng) -> SomePack {
     let mut bytes = settings(1, temperature, threshold);
     let shared = some_knots(r, 1);
     let context_only = r.one_in(3);
+    let tailed = r.one_in(2);
     for &t in &tones {
         let k =
             if r.one_in(3) { shared.clone() } else { some_knots(r, usize::from(!context_only)) };
@@ -311,6 +333,9 @@ pub fn some_pack(r: &mut Rng) -> SomePack {
         let (a, b) = (r.pick(&ends), r.pick(&ends));
         let range = r.one_in(2).then_some((a.min(b), a.max(b)));
         bytes.extend(tone(t, prior, &k, range));
+        if tailed && !r.one_in(3) {
+            bytes.extend(tail(7, [some_tail(r), some_tail(r)]));
+        }
     }
     let (mut rules, mut parts) = (0, 0);
     let many_rules = r.one_in(2);
@@ -452,6 +477,7 @@ pub fn some_query(r: &mut Rng, tones: &[u8], accents: &[u8]) -> Ask {
     let issues = match r.below(4) {
         0 => (r.next() & 0x3FF) as u16,
         1 => 1 << r.below(10),
+        2 => 1 << 9,
         _ => 0,
     };
     let prev = if r.one_in(2) { 0 } else { holding(r, tones) };
@@ -477,7 +503,8 @@ pub fn some_sheet(r: &mut Rng) -> Vec<u8> {
     accents.sort();
     let mut out = settings(17, 1.0, 0.5);
     for &t in &tones {
-        out.extend(sheet_tone(t, 0.5, r.one_in(3).then_some((0.0, 0.5))));
+        let values = [some_tail(r), some_tail(r)];
+        out.extend(sheet_tone(t, 0.5, r.one_in(3).then_some((0.0, 0.5)), values));
     }
     for &a in &accents {
         out.extend(sheet_accent(a, [1.0; 4]));
@@ -525,7 +552,7 @@ pub fn records(bytes: &[u8]) -> Vec<Vec<u8>> {
     let mut at = 0;
     while at < bytes.len() {
         let length = match bytes[at] {
-            1 | 17 => 9,
+            1 | 7 | 17 | 24 => 9,
             2 => 56,
             3 => 19,
             4 | 21 => 7,
@@ -577,14 +604,14 @@ pub fn damaged(r: &mut Rng, bytes: &[u8]) -> Vec<u8> {
             }
             3 => {
                 record[0] =
-                    r.pick(&[0u8, 1, 2, 3, 4, 5, 6, 17, 18, 19, 20, 21, 22, 23, 48, 50, 255])
+                    r.pick(&[0u8, 1, 2, 3, 4, 5, 6, 7, 17, 18, 19, 20, 21, 22, 23, 24, 48, 50, 255])
             }
             4 | 5 if record.len() > 5 => {
                 let value = odd_float(r).to_bits().to_le_bytes();
                 let at = 1 + r.below(record.len() - 4);
                 record[at..at + 4].copy_from_slice(&value);
             }
-            6 | 7 if record.len() > 9 => {
+            6 | 7 if record.len() > 8 => {
                 // On a field of the kind.
                 let value = odd_float(r).to_bits().to_le_bytes();
                 let at = match record[0] {
@@ -593,6 +620,7 @@ pub fn damaged(r: &mut Rng, bytes: &[u8]) -> Vec<u8> {
                     3 => 3 + 4 * r.below(4),
                     5 if r.one_in(2) => 1,
                     5 => 6 + 4 * r.below(10),
+                    7 | 24 => r.pick(&[1, 5]),
                     18 => r.pick(&[2, 7, 11]),
                     19 => 2 + 4 * r.below(4),
                     22 => 1 + 4 * r.below(11),

@@ -1,4 +1,5 @@
-//! Document 01, "Judgement": `judge` after `extract`, in the order of refusals of "Turned back".
+//! Document 01, "Judgement": `judge` after `extract`, in the order of refusals of "Turned back"; with change request 2 of
+//! document 02, creaky tails.
 
 use crate::bytes::*;
 use crate::list::{List, Source, Tone};
@@ -354,16 +355,120 @@ fn main_weight(q: &Query) -> Option<f32> {
     Some(max32(main, 0.0))
 }
 
-/// The tail that the Rust's `target_tail_loglik` gives with no table; here both tails are 0.
-fn rust_tail(q: &Query, main: f32, issues: u16) -> f32 {
-    if q.variant_count == 0 || issues & CREAKY_TAIL == 0 {
-        return 0.0;
+/// "With the CreakyTail issue set, `tail_loglik`, `target_tail_loglik` and `with_tail` of `tail.rs` apply".
+struct Tails<'a, S: Source> {
+    source: &'a S,
+    query: &'a Query<'a>,
+    issues: u16,
+}
+
+impl<S: Source> Tails<'_, S> {
+    fn count(&self) -> bool {
+        match () {
+            _ if planted(TAIL_ALWAYS) => true,
+            _ if planted(TAIL_BIT_EARLY) => self.issues & CREAKY_TAIL >> 1 != 0,
+            _ => self.issues & CREAKY_TAIL != 0,
+        }
     }
-    let mut total = LogSumExp::EMPTY;
-    for &(_, weight) in &q.variants[..q.variant_count] {
-        total = total.with(ln(f64::from(weight)));
+
+    /// A tone's value for the query's place in the phrase, whatever the issues.
+    fn listed(&self, tone: usize) -> f32 {
+        let tone = match () {
+            _ if planted(TAIL_OF_PREV) => self.source.tone(self.query.prev).unwrap_or(tone),
+            _ if planted(TAIL_OF_FIRST) => 0,
+            _ if planted(TAIL_OF_TARGET) => self.source.tone(self.query.tone).unwrap_or(tone),
+            _ => tone,
+        };
+        let [last, elsewhere] = self.source.tones()[tone].tail;
+        match () {
+            _ if planted(TAIL_END_ALONE) && !self.query.fin => 0.0,
+            _ if self.query.fin != planted(TAIL_PLACES_EXCHANGED) => last,
+            _ => elsewhere,
+        }
     }
-    narrow(total.with(ln(f64::from(main))).value())
+
+    /// `tail_loglik`, of a tone by its place.
+    fn of(&self, tone: usize) -> f64 {
+        f64::from(if self.count() { self.listed(tone) } else { 0.0 })
+    }
+
+    /// `target_tail_loglik`, `main` the main tone's weight: without variants the tone's own, with them ln Σ w·exp(tail) as a
+    /// log-sum of ln w + tail, the variants first.
+    fn of_target(&self, main: f32) -> f64 {
+        let q = self.query;
+        let variants = &q.variants[..q.variant_count];
+        let target = self.source.tone(q.tone).unwrap_or(0);
+        let counts = self.count() || planted(TARGET_TAIL_ALWAYS);
+        if variants.is_empty() || !counts || planted(TARGET_TAIL_MAIN_ONLY) {
+            return if planted(TARGET_TAIL_NONE) { 0.0 } else { self.of(target) };
+        }
+        let main = match () {
+            _ if planted(TARGET_TAIL_MAIN_WHOLE) => 1.0,
+            _ if planted(TARGET_TAIL_SUM_IN_F64) => {
+                let sum = variants.iter().fold(0.0, |sum, v| sum + f64::from(v.1));
+                max32((1.0 - sum) as f32, 0.0)
+            }
+            _ => main,
+        };
+        // Weight and tail of each tone.
+        let of_variant = |&(number, weight): &(u8, f32)| {
+            let tone = self.source.tone(number).unwrap_or(target);
+            (weight, self.of(if planted(TARGET_TAIL_OF_MAIN) { target } else { tone }))
+        };
+        let mut parts: Vec<(f32, f64)> = variants.iter().map(of_variant).collect();
+        if !planted(TARGET_TAIL_VARIANTS_ONLY) {
+            parts.push((main, self.of(target)));
+        }
+        if planted(TARGET_TAIL_MAIN_FIRST) {
+            parts.rotate_right(1);
+        }
+        let all_zero = match () {
+            _ if planted(TARGET_TAIL_OF_ZEROS) => parts.iter().all(|p| p.1 == 0.0),
+            _ if planted(TARGET_TAIL_NO_TABLE) => {
+                self.source.tones().iter().all(|t| t.tail == [0.0; 2])
+            }
+            _ => false,
+        };
+        if all_zero {
+            return 0.0;
+        }
+        let mut total = LogSumExp::EMPTY;
+        let mut mean = 0.0;
+        for (weight, tail) in parts {
+            let ln = match () {
+                _ if planted(TARGET_TAIL_UNWEIGHTED) => 0.0,
+                _ if planted(TARGET_TAIL_MINUS_ZERO) && weight.to_bits() == 1 << 31 => f64::NAN,
+                _ => ln(f64::from(weight)),
+            };
+            total = total.with(ln + tail);
+            mean += f64::from(weight) * tail;
+        }
+        let tail = match () {
+            _ if planted(TARGET_TAIL_MEAN) => mean,
+            _ if planted(TARGET_TAIL_GREATEST) => total.greatest,
+            _ => total.value(),
+        };
+        if planted(TARGET_TAIL_WIDE) {
+            return tail;
+        }
+        f64::from(narrow(tail))
+    }
+
+    /// `with_tail` of a score that is divided by the temperature and clamped: "`ll` itself, bit for bit, when `tail` is 0", else
+    /// clamped once more. An f32 in f64, or not for a planted mistake.
+    fn with(&self, wide: f64, tail: f64) -> f32 {
+        let ll = clamp_log(wide);
+        let sum = f64::from(ll) + tail;
+        match () {
+            _ if planted(TAIL_BEFORE_CLAMP) => clamp_log(wide + tail),
+            _ if planted(TAIL_OVER_TEMPERATURE) => {
+                clamp_log(f64::from(ll) + tail / f64::from(self.source.settings().0))
+            }
+            _ if tail == 0.0 && !planted(TAIL_ZERO_ADDED) => ll,
+            _ if planted(TAIL_UNCLAMPED) => narrow(sum),
+            _ => clamp_log(sum),
+        }
+    }
 }
 
 /// Usable exactly when every contour point and weight is finite.
@@ -374,12 +479,20 @@ fn usable(shape: &Shape) -> bool {
     shape.contour.iter().chain(&shape.weights).all(|v| v.is_finite())
 }
 
-/// "not measured puts InvalidEvidence only"; every log-likelihood is the lower bound.
-fn not_measured(tones: usize, expected: u8, issues: u16) -> Record {
-    let mut record = Record { expected, tones: tones as u8, measured: 2, ..Record::default() };
-    record.loglik[..tones.min(8)].fill(narrow(-CLAMP));
-    record.issues =
-        if planted(NOT_MEASURED_UNION) { issues | INVALID_EVIDENCE } else { INVALID_EVIDENCE };
+/// "not measured puts InvalidEvidence only"; every log-likelihood is the lower bound, without a tail.
+fn not_measured<S: Source>(tails: &Tails<S>) -> Record {
+    let tones = tails.source.tones().len();
+    let (expected, measured) = (tails.query.tone, 2);
+    let mut record = Record { expected, tones: tones as u8, measured, ..Record::default() };
+    for (tone, ll) in record.loglik.iter_mut().enumerate().take(tones) {
+        let tail = if planted(TAIL_UNUSABLE) { tails.of(tone) } else { 0.0 };
+        *ll = tails.with(-CLAMP, tail);
+    }
+    record.issues = if planted(NOT_MEASURED_UNION) {
+        tails.issues | INVALID_EVIDENCE
+    } else {
+        INVALID_EVIDENCE
+    };
     record
 }
 
@@ -392,8 +505,9 @@ pub fn judge<S: Source>(source: &S, q: &Query) -> Result<Vec<u8>, Refusal> {
         return refuse(12, 0);
     }
     let shape = shape?;
+    let tails = Tails { source, query: q, issues: shape.issues };
     if planted(NOT_FINITE_FIRST) && !usable(&shape) {
-        return Ok(not_measured(source.tones().len(), q.tone, shape.issues).bytes());
+        return Ok(not_measured(&tails).bytes());
     }
     if planted(PREV_BEFORE_ACCENT) && q.prev != 0 && source.tone(q.prev).is_none() {
         return refuse(13, 0);
@@ -445,7 +559,7 @@ pub fn judge<S: Source>(source: &S, q: &Query) -> Result<Vec<u8>, Refusal> {
     }
 
     if !usable(&shape) {
-        return Ok(not_measured(tones.len(), q.tone, shape.issues).bytes());
+        return Ok(not_measured(&tails).bytes());
     }
     let target = source.tone(q.tone).unwrap_or(0);
     let mut record = Record { expected: q.tone, tones: tones.len() as u8, ..Record::default() };
@@ -453,22 +567,32 @@ pub fn judge<S: Source>(source: &S, q: &Query) -> Result<Vec<u8>, Refusal> {
 
     // The log-likelihood of every inventory tone, the background and the best score.
     let mut background = LogSumExp::EMPTY;
+    let mut plain_background = LogSumExp::EMPTY;
     let mut top: Option<(f64, usize)> = None;
     let mut target_alone = f64::NEG_INFINITY;
     for (tone, list) in lists.iter().enumerate() {
         let candidates: Vec<Candidate> = weighed(tone, list, 1.0).collect();
         let wide = judge.calibrated(&judge.mixture(&candidates));
-        let ll = clamp_log(wide);
+        let (plain, tail) = (clamp_log(wide), tails.of(tone));
+        let ll = tails.with(wide, tail);
         if tone == target {
             target_alone = wide;
         }
         if let Some(slot) = record.loglik.get_mut(tone) {
-            *slot = ll;
+            *slot = if planted(TAIL_NOT_WRITTEN) { plain } else { ll };
         }
         let prior = if planted(PRIORS_EQUAL) { 0.0 } else { ln(f64::from(tones[tone].prior)) };
         let score = prior
-            + if planted(BACKGROUND_UNROUNDED) { wide.clamp(-CLAMP, CLAMP) } else { f64::from(ll) };
-        background = background.with(score);
+            + if planted(BACKGROUND_UNROUNDED) {
+                wide.clamp(-CLAMP, CLAMP) + tail
+            } else {
+                f64::from(ll)
+            };
+        let plain_score = prior + f64::from(plain);
+        plain_background = plain_background.with(plain_score);
+        background =
+            background.with(if planted(BACKGROUND_NO_TAILS) { plain_score } else { score });
+        let score = if planted(HEARD_NO_TAILS) { plain_score } else { score };
         let better = match top {
             None => true,
             Some((most, _)) if planted(HEARD_LAST_EQUAL) => score >= most,
@@ -495,26 +619,22 @@ pub fn judge<S: Source>(source: &S, q: &Query) -> Result<Vec<u8>, Refusal> {
     }
     let mixture = judge.mixture(&candidates);
     let wide = judge.calibrated(&mixture);
-    let mut target_ll = clamp_log(wide);
-    if planted(RUST_TAIL) {
-        let tail = rust_tail(q, main, shape.issues);
-        if tail != 0.0 {
-            target_ll = clamp_log(f64::from(target_ll) + f64::from(tail));
-        }
-    }
+    let target_tail = tails.of_target(main);
+    let target_ll = tails.with(wide, target_tail);
     record.llr = if planted(LLR_UNROUNDED) {
-        clamp_log(wide.clamp(-CLAMP, CLAMP) - background)
+        clamp_log(wide.clamp(-CLAMP, CLAMP) + target_tail - background)
     } else if planted(LLR_BACKGROUND_NARROWED) {
         target_ll - narrow(background)
     } else if planted(LLR_MAIN_TONE_ONLY) {
-        clamp_log(f64::from(clamp_log(target_alone)) - background)
+        clamp_log(f64::from(tails.with(target_alone, tails.of(target))) - background)
     } else {
         clamp_log(f64::from(target_ll) - background)
     };
 
     // "heard u8 (0 none)": the best tone, if its posterior reaches the threshold.
     if let Some((score, tone)) = top {
-        let posterior = exp(score - background);
+        let over = if planted(HEARD_NO_TAILS) { plain_background.value() } else { background };
+        let posterior = exp(score - over);
         let threshold = f64::from(source.settings().1);
         let heard = if planted(HEARD_ABOVE) {
             posterior > threshold

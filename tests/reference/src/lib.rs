@@ -135,7 +135,8 @@ pub fn look_sheet(sheet: &[u8], accent: u8, tone: u8, prev: u8, fin: u8) -> Opti
     look(&Sheet::read(sheet).ok()?, accent, tone, prev, fin)
 }
 
-/// Demand 3's words: whether settings, tones in order and accents in any order agree, and every lookup of a held accent and
+/// Demand 3's words: whether settings, tones in order, each with its tail ("Two packs that differ in a tail value now have
+/// different settings"), and accents in any order agree, and every lookup of a held accent and
 /// tone, after a held tone or none, at the end of a phrase or not, gives the same components. For two packs that load.
 pub fn agree(one: &[u8], two: &[u8]) -> Result<bool, Refusal> {
     let packs = [Pack::read(one)?, Pack::read(two)?];
@@ -143,7 +144,10 @@ pub fn agree(one: &[u8], two: &[u8]) -> Result<bool, Refusal> {
         let tones: Vec<_> = p
             .tones
             .iter()
-            .map(|t| (t.number, t.prior.to_bits(), t.flag, t.from.to_bits(), t.to.to_bits()))
+            .map(|t| {
+                let [prior, from, to] = [t.prior, t.from, t.to].map(f32::to_bits);
+                (t.number, prior, t.flag, from, to, t.tail.map(f32::to_bits))
+            })
             .collect();
         let mut accents: Vec<_> =
             p.accents.iter().map(|a| (a.number, a.tolerances.map(f32::to_bits))).collect();

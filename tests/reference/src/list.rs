@@ -10,6 +10,8 @@ pub struct Tone {
     pub flag: u8,
     pub from: f32,
     pub to: f32,
+    /// "the tail value at phrase end and elsewhere"; "A tone without one has zeros."
+    pub tail: [f32; 2],
 }
 
 /// "Components carry owner, form, label, part number, weight and ten points". The part number is

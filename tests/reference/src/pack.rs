@@ -1,4 +1,4 @@
-//! Document 01, "Pack" and "Lookup", with change request 7 of document 02.
+//! Document 01, "Pack" and "Lookup", with change requests 2 and 7 of document 02.
 
 use crate::bytes::*;
 use crate::list::{List, Tone};
@@ -68,6 +68,8 @@ pub struct Pack {
     pub accents: Vec<Accent>,
     rules: Vec<Rule>,
     parts: Vec<Part>,
+    /// Tails read, for a planted mistake.
+    tails: usize,
     /// Whether some rule names a tone that is not held; a planted mistake keeps it for End.
     rule_loose: bool,
 }
@@ -88,6 +90,7 @@ fn length_of(kind: u8) -> Option<usize> {
         4 => 7,
         5 => 46,
         6 => 1,
+        7 => 9,
         _ => return None,
     })
 }
@@ -109,7 +112,7 @@ fn knots_at(bytes: &[u8], at: usize) -> Knots {
 }
 
 impl Pack {
-    /// "Order: Settings, Tones, then each Accent with its Rules, each Rule with its Parts, End."
+    /// "Order: Settings, Tones, then each Accent with its Rules, each Rule with its Parts, End." "Kind 7 may follow a Tone".
     pub fn read(bytes: &[u8]) -> Result<Pack, Refusal> {
         let mut walk = Walk::new(bytes, length_of);
         let mut pack = Pack {
@@ -120,6 +123,7 @@ impl Pack {
             accents: Vec::with_capacity(8),
             rules: Vec::new(),
             parts: Vec::new(),
+            tails: 0,
             rule_loose: false,
         };
         let mut last = 0;
@@ -135,6 +139,7 @@ impl Pack {
                 3 => pack.read_accent(&walk)?,
                 4 => pack.read_rule(&walk)?,
                 5 => pack.read_part(&walk)?,
+                7 => pack.read_tail(&walk)?,
                 _ => pack.read_end(&walk)?,
             }
             walk.step(kind);
@@ -151,9 +156,26 @@ impl Pack {
     fn due(&self, last: u8, kind: u8) -> bool {
         match last {
             0 => kind == 1,
-            1 => kind == 2 || planted(NO_TONE) && kind == 3,
+            1 => {
+                kind == 2
+                    || planted(NO_TONE) && kind == 3
+                    || planted(TAIL_AFTER_SETTINGS) && kind == 7
+            }
+            2 if kind == 7 => !(planted(TAIL_CITED_ONLY) && self.last_is_bare()),
             2 => kind == 2 || kind == 3 || planted(NO_ACCENT) && kind == 6,
-            3 => matches!(kind, 3 | 4 | 6) || planted(TONE_LATE) && kind == 2,
+            // "After 7 only 2 or 3": docs/DECISIONS.md.
+            7 => match kind {
+                2 => !planted(TAIL_ENDS_TONES),
+                3 => true,
+                6 => planted(NO_ACCENT),
+                7 => planted(TAIL_TWICE),
+                _ => false,
+            },
+            3 => {
+                matches!(kind, 3 | 4 | 6)
+                    || planted(TONE_LATE) && kind == 2
+                    || planted(TAIL_AFTER_ACCENT) && kind == 7
+            }
             4 => kind == 5 || planted(NO_PART) && matches!(kind, 3 | 4 | 6),
             5 => matches!(kind, 3..=6),
             _ => false,
@@ -172,7 +194,7 @@ impl Pack {
                 } else {
                     8
                 };
-                self.tones.len() >= most
+                self.tones.len() + if planted(TAIL_COUNTED) { self.tails } else { 0 } >= most
             }
             3 => {
                 let most = if planted(ACCENTS_9) {
@@ -249,8 +271,30 @@ impl Pack {
             flag: bytes[at + 47],
             from: f32_at(bytes, at + 48),
             to: f32_at(bytes, at + 52),
+            tail: [0.0; 2],
         });
         self.citations.push(knots_at(bytes, at + 6));
+        Ok(())
+    }
+
+    /// Whether the last tone has no citation.
+    fn last_is_bare(&self) -> bool {
+        self.citations.last().is_some_and(|knots| knots.count == 0)
+    }
+
+    /// "Kind 7 may follow a Tone: two f32, the tail value at phrase end and elsewhere".
+    fn read_tail(&mut self, walk: &Walk) -> Result<(), Refusal> {
+        let fine = tail_in_range(walk.bytes, walk.at);
+        if planted(TAIL_PLACE_TONE) && !fine {
+            return refuse(5, walk.at - 56);
+        }
+        walk.check(5, fine)?;
+        self.tails += 1;
+        if let Some(tone) = self.tones.last_mut() {
+            if !planted(PACK_TAIL_UNREAD) {
+                tone.tail = tail_at(walk.bytes, walk.at);
+            }
+        }
         Ok(())
     }
 

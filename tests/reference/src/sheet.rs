@@ -1,4 +1,4 @@
-//! Document 01, "Sheet": the reader and the writer.
+//! Document 01, "Sheet", with change request 2 of document 02: the reader and the writer.
 
 use crate::bytes::*;
 use crate::list::{List, Source, Tone};
@@ -48,6 +48,7 @@ fn length_of(kind: u8) -> Option<usize> {
         21 => 7,
         22 => 45,
         23 => 1,
+        24 => 9,
         _ => return None,
     })
 }
@@ -75,6 +76,7 @@ impl Sheet {
                 20 => sheet.read_row(&walk)?,
                 21 => sheet.read_list(&walk)?,
                 22 => sheet.read_component(&walk)?,
+                24 => sheet.read_tail(&walk)?,
                 _ => {}
             }
             walk.step(kind);
@@ -105,7 +107,9 @@ impl Sheet {
         match last {
             0 => kind == 17,
             17 => kind == 18,
-            18 => kind == 18 || kind == 19,
+            // "The sheet gains kind 24 … after each tone"; "one without them gets 1".
+            18 => kind == 24 || planted(SHEET_TAIL_MISSING) && matches!(kind, 18 | 19),
+            24 => matches!(kind, 18 | 19) || planted(SHEET_TAIL_TWICE) && kind == 24,
             19 => kind == 19 || kind == 20,
             20 if self.rows.len() < self.rows_due() => {
                 kind == 20 || planted(ROWS_FEWER) && kind == 21
@@ -175,7 +179,22 @@ impl Sheet {
             flag: bytes[at + 6],
             from: f32_at(bytes, at + 7),
             to: f32_at(bytes, at + 11),
+            tail: [0.0; 2],
         });
+        Ok(())
+    }
+
+    fn read_tail(&mut self, walk: &Walk) -> Result<(), Refusal> {
+        let fine = tail_in_range(walk.bytes, walk.at) || planted(SHEET_TAIL_ANY);
+        if planted(TAIL_PLACE_TONE) && !fine {
+            return refuse(5, walk.at - 15);
+        }
+        walk.check(5, fine)?;
+        if let Some(tone) = self.tones.last_mut() {
+            if !planted(SHEET_TAIL_UNREAD) {
+                tone.tail = tail_at(walk.bytes, walk.at);
+            }
+        }
         Ok(())
     }
 
@@ -398,12 +417,12 @@ impl Source for Sheet {
 
 /// The sheet of a pack.
 pub fn write(pack: &Pack) -> Vec<u8> {
-    let mut out = Vec::with_capacity(13_266);
+    let mut out = Vec::with_capacity(13_338);
     // 17 as Settings
     out.push(17);
     put_f32(&mut out, pack.temperature);
     put_f32(&mut out, pack.threshold);
-    // "18 tone, in pack order: number, prior, flag, from, to"
+    // "18 tone, in pack order: number, prior, flag, from, to"; "kind 24 with the same two values after each tone"
     let mut tones: Vec<usize> = (0..pack.tones.len()).collect();
     if planted(SHEET_TONES_SORTED) {
         tones.sort_by_key(|&i| pack.tones[i].number);
@@ -415,6 +434,14 @@ pub fn write(pack: &Pack) -> Vec<u8> {
         out.push(tone.flag);
         put_f32(&mut out, tone.from);
         put_f32(&mut out, tone.to);
+        if !planted(SHEET_TAILS_BEHIND) {
+            write_tail(tone, &mut out);
+        }
+    }
+    if planted(SHEET_TAILS_BEHIND) {
+        for &i in &tones {
+            write_tail(&pack.tones[i], &mut out);
+        }
     }
     // "19 accent: number, tolerances, ascending by number"
     let mut accents: Vec<usize> = (0..pack.accents.len()).collect();
@@ -482,6 +509,22 @@ pub fn write(pack: &Pack) -> Vec<u8> {
     }
     out.push(23);
     out
+}
+
+fn write_tail(tone: &Tone, out: &mut Vec<u8>) {
+    let mut values = tone.tail;
+    if planted(SHEET_TAIL_LEFT_OUT) && values == [0.0; 2] {
+        return;
+    }
+    if planted(SHEET_TAIL_EXCHANGED) {
+        values.reverse();
+    }
+    out.push(24);
+    for value in values {
+        let value = if planted(SHEET_TAIL_ZERO_SIGN) { value + 0.0 } else { value };
+        let lost = planted(SHEET_TAIL_SUBNORMAL) && value.is_subnormal();
+        put_f32(out, if lost { 0.0 } else { value });
+    }
 }
 
 /// "Lists equal in every bit are one, numbered from 1 by first use along the rows."
