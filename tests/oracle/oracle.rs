@@ -310,7 +310,7 @@ pub fn look(pack: &[u8], accent: u8, of: u8, prev: u8, fin: u8) -> Result<Vec<Co
 
 /// The length of a pack's record.
 fn length(kind: u8) -> usize {
-    [9, 56, 19, 7, 46, 1][usize::from(kind) - 1]
+    [9, 56, 19, 7, 46, 1, 9][usize::from(kind) - 1]
 }
 
 /// The sheet that document 01 fixes for a pack, with every lookup the Rust's.
@@ -327,6 +327,12 @@ pub fn sheet(pack: &[u8]) -> Vec<u8> {
                 out.extend([18, pack[at + 1]]);
                 out.extend(&pack[at + 2..at + 6]);
                 out.extend(&pack[at + 47..at + 56]);
+                // The two values as kind 7 has them, or zeros.
+                out.push(24);
+                match pack[at + 56] {
+                    7 => out.extend(&pack[at + 57..at + 65]),
+                    _ => out.extend([0; 8]),
+                }
             }
             3 => accents.push((pack[at + 1], &pack[at + 3..at + 19])),
             _ => {}

@@ -1,10 +1,15 @@
 //! Stands in for load.rs: a `LanguagePack` from the bytes of a pack that loads by document 01.
 //! Nothing is checked and nothing is changed on the way. A rule's label is written `form:label`,
 //! so that the Rust's own label of a component says which record it came from. A parent is looked
-//! for when all accents are there, as it may stand later (change request 7).
+//! for when all accents are there, as it may stand later (change request 7). The table of creaky
+//! tails names every tone, with two zeros where no kind 7 stands (change request 2). It is not put
+//! through `validate`, which wants logarithms of probabilities, and refuses a value above 0.
+
+use std::collections::BTreeMap;
 
 use tonekit_core::{AccentId, Lect, ToneId};
 
+use crate::calib::PlaceEvidence;
 use crate::{
     Accent, Calibration, Citation, LanguagePack, Realization, Rule, Tolerance, UnvoicedOk, When,
 };
@@ -43,6 +48,7 @@ impl LanguagePack {
             calibration: Calibration::default(),
         };
         let mut parents: Vec<AccentId> = Vec::new();
+        let (mut phrase_final, mut other) = (BTreeMap::new(), BTreeMap::new());
         let mut at = 0;
         loop {
             let body = at + 1;
@@ -65,7 +71,15 @@ impl LanguagePack {
                         let region = (f32_at(b, body + 47), f32_at(b, body + 51));
                         pack.unvoiced_ok.push(UnvoicedOk { tone, region });
                     }
+                    phrase_final.insert(number(b[body]), 0.0);
+                    other.insert(number(b[body]), 0.0);
                     at += 56;
+                }
+                7 => {
+                    let tone = &pack.inventory.last().expect("a tone").0;
+                    phrase_final.insert(tone.clone(), f32_at(b, body));
+                    other.insert(tone.clone(), f32_at(b, body + 4));
+                    at += 9;
                 }
                 3 => {
                     parents.push(AccentId(number(b[body + 1])));
@@ -119,6 +133,10 @@ impl LanguagePack {
                 _ => break,
             }
         }
+        pack.calibration.creaky_tail = Some(PlaceEvidence {
+            phrase_final,
+            other,
+        });
         let place = |of: &AccentId| pack.accents.iter().position(|a| a.id == *of);
         let places: Vec<Option<usize>> = parents.iter().map(place).collect();
         for (accent, parent) in pack.accents.iter_mut().zip(places) {
