@@ -1,4 +1,4 @@
-//! Document 01's records: their lengths and fields, and how a row of them is taken apart.
+//! Document 01's records, and those of change request 2: their lengths and fields, and how a row of them is taken apart.
 
 /// What a field may hold, which says where its boundaries lie.
 #[derive(Clone, Copy, PartialEq)]
@@ -29,6 +29,8 @@ pub enum Class {
     Knot,
     /// f32, of size at most 128.
     Point,
+    /// f32, of size at most 50.
+    Tail,
     /// f32, finite.
     End,
     /// f32, any.
@@ -61,7 +63,7 @@ pub fn f32_at(b: &[u8], at: usize) -> f32 {
 /// The length of a record of this kind, its kind included.
 pub fn record_length(kind: u8) -> Option<usize> {
     Some(match kind {
-        1 | 17 => 9,
+        1 | 7 | 17 | 24 => 9,
         2 => 56,
         3 => 19,
         4 => 7,
@@ -101,6 +103,7 @@ pub fn fields(kind: u8) -> Vec<Field> {
     let floats = |from: usize, n: usize, class: Class| (0..n).map(move |k| (from + 4 * k, class));
     let mut all: Vec<Field> = match kind {
         1 | 17 => vec![(1, Scale), (5, Share)],
+        7 | 24 => vec![(1, Tail), (5, Tail)],
         2 => vec![
             (1, Number),
             (2, Share),
@@ -226,6 +229,21 @@ pub fn boundaries(class: Class) -> &'static [u32] {
             MINUS | INF,
             NAN,
             0xFFFF_FFFF,
+        ],
+        Class::Tail => &[
+            0,
+            MINUS,
+            0x4248_0000,
+            0x4248_0001,
+            0xC248_0000,
+            0xC248_0001,
+            0x42C8_0000,
+            INF,
+            MINUS | INF,
+            NAN,
+            MINUS | NAN,
+            1,
+            MINUS | 1,
         ],
         Class::End => &[
             0,

@@ -6,8 +6,9 @@ use crate::pack::{self, Pack, Part, Rule};
 use crate::query::{self, Query};
 use crate::rng::Rng;
 use crate::sheet;
+use crate::tails;
 
-pub const KINDS: [&str; 9] = [
+pub const KINDS: [&str; 10] = [
     "pack that loads",
     "pack and query that load",
     "query that loads",
@@ -17,10 +18,11 @@ pub const KINDS: [&str; 9] = [
     "sheet of no pack",
     "two packs, alike or nearly",
     "single functions",
+    "two packs apart in one bit of a tail",
 ];
 
 /// How many cases in 100 are of each kind.
-const SHARES: [usize; 9] = [8, 39, 14, 13, 8, 9, 4, 2, 3];
+const SHARES: [usize; 10] = [8, 38, 13, 13, 8, 9, 4, 2, 3, 2];
 
 /// The calls, by the numbers that the fixed samples give them.
 pub const CALLS: [&str; 18] = [
@@ -43,6 +45,9 @@ pub const CALLS: [&str; 18] = [
     "min and max",
     "solve",
 ];
+/// The kind of the pairs that differ in one bit of a tail.
+pub const APART: usize = 9;
+
 pub const CHECK_PACK: u8 = 1;
 pub const CHECK_QUERY: u8 = 2;
 pub const CHECK_SHEET: u8 = 3;
@@ -419,7 +424,13 @@ pub fn case(seed: u64, index: u64) -> Case {
             match r.below(40) {
                 0 => overflow(r, &mut p, &mut q),
                 1 | 2 => balance(r, &mut p, &mut q),
-                3..=6 => (p, q) = exact(r),
+                3..=6 => {
+                    (p, q) = exact(r);
+                    if r.chance(1, 4) {
+                        tails::give(r, &mut p);
+                    }
+                }
+                7..=12 => tails::creaky(r, &mut p, &mut q),
                 _ => {}
             }
             let (bytes, q) = (p.bytes(), q.bytes());
@@ -435,10 +446,11 @@ pub fn case(seed: u64, index: u64) -> Case {
             let p = pack::pack(r);
             let mut q = query::query(r, Some(&p)).bytes();
             let mut bytes = p.bytes();
-            match r.below(16) {
+            match r.below(20) {
                 0..=3 => bytes = damage::crowded_pack(r, &p),
                 4 => bytes = damage::confused_pack(r, &p),
                 5..=7 => bytes = damage::misparented_pack(r, &p),
+                8..=11 => damage::mistailed(r, &mut bytes),
                 _ => damage::damage(r, &mut bytes),
             }
             if r.chance(1, 4) {
@@ -482,13 +494,15 @@ pub fn case(seed: u64, index: u64) -> Case {
                 }
             };
             let mut q = q.bytes();
-            if r.chance(1, 3) {
-                damage::disordered(r, &mut s);
-                if r.chance(1, 5) {
+            match r.below(12) {
+                0..=3 => {
                     damage::disordered(r, &mut s);
+                    if r.chance(1, 5) {
+                        damage::disordered(r, &mut s);
+                    }
                 }
-            } else {
-                damage::damage(r, &mut s);
+                4..=6 => damage::mistailed(r, &mut s),
+                _ => damage::damage(r, &mut s),
             }
             if r.chance(1, 4) {
                 damage::damage(r, &mut q);
@@ -522,6 +536,11 @@ pub fn case(seed: u64, index: u64) -> Case {
             }
             case.call(WRITE_SHEET, &p.bytes(), &[]);
             case.call(WRITE_SHEET, &other.bytes(), &[]);
+        }
+        9 => {
+            let (one, two, _) = tails::pair(r);
+            case.call(WRITE_SHEET, &one, &[]);
+            case.call(WRITE_SHEET, &two, &[]);
         }
         _ => functions(r, &mut case),
     }

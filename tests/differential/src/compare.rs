@@ -1,13 +1,13 @@
 //! Compares the oracle and the port with the reference, call by call.
 
 use crate::ask::{canonical, component, reference_answer, values, Answer};
-use crate::bytes::{f32_at, starts, u16_at, u32_at};
+use crate::bytes::{f32_at, starts, u32_at};
 use crate::case::*;
 use crate::chains;
 use crate::port;
-use crate::predict;
 use crate::rng::Rng;
 use crate::samples::{told, Sample};
+use crate::tails;
 use crate::tally::Tally;
 
 fn hex(b: &[u8]) -> String {
@@ -106,44 +106,11 @@ pub fn with_oracle(t: &mut Tally, case: u64, kind: usize, c: &Call, ours: &Answe
         }
         JUDGE if loads(ours) => {
             let theirs = from_oracle(caught(|| oracle::judge(&c.a, &c.b)));
-            let tail = u16_at(&c.b, 21) & 1 << 9 != 0 && c.b[23] > 0;
-            match ours {
-                Ok(record) if tail && record[61] != 2 => {
-                    let second = from_oracle(caught(|| oracle_even::judge(&c.a, &c.b)));
-                    t.same(
-                        "oracle's second build: judge, CreakyTail with variants",
-                        second == *ours,
-                        case,
-                        || words(c, &say(ours), &say(&second)),
-                    );
-                    let (plain, moved) = predict::llr(&c.a, &c.b, record);
-                    t.same(
-                        "predicted LLR without the tail = reference",
-                        plain.to_bits() == u32_at(record, 35),
-                        case,
-                        || words(c, &say(ours), &format!("{plain:?}")),
-                    );
-                    let mut predicted = record.clone();
-                    predicted[35..39].copy_from_slice(&moved.to_le_bytes());
-                    if predicted != *record {
-                        t.see("CreakyTail with variants: the Rust's LLR is another than document 01's");
-                    } else {
-                        t.see("CreakyTail with variants: the Rust's LLR is document 01's all the same");
-                    }
-                    let predicted = Ok(predicted);
-                    t.same(
-                        "oracle as it is: judge, CreakyTail with variants, as predicted",
-                        theirs == predicted,
-                        case,
-                        || words(c, &say(&predicted), &say(&theirs)),
-                    );
-                }
-                _ => t.same("oracle: judge", theirs == *ours, case, || {
-                    words(c, &say(ours), &say(&theirs))
-                }),
-            }
+            t.same("oracle: judge", theirs == *ours, case, || {
+                words(c, &say(ours), &say(&theirs))
+            });
         }
-        WRITE_SHEET if ours.is_ok() && (kind == 0 || kind == 7) => {
+        WRITE_SHEET if ours.is_ok() && [0, 7, 9].contains(&kind) => {
             let theirs = caught(|| oracle::sheet(&c.a)).ok_or((255, 255));
             t.same(
                 "oracle's lookups, all of a pack, put into a sheet: write_sheet",
@@ -367,12 +334,15 @@ fn extremes(t: &mut Tally, case: u64, c: &Call, ours: &Answer) {
     );
 }
 
-/// Counts what a record holds, to show which branches the cases reach; and what parents a pack has.
+/// Counts what a record holds, to show which branches the cases reach; what parents a pack has; and what is seen of tails.
 fn look_at(t: &mut Tally, c: &Call, ours: &Answer) {
     if c.call == CHECK_PACK {
         for words in chains::seen(&c.a, ours) {
             t.see(words);
         }
+    }
+    for words in tails::seen(c, ours) {
+        t.see(words);
     }
     let Ok(b) = ours else { return };
     match c.call {
@@ -434,12 +404,28 @@ fn look_at(t: &mut Tally, c: &Call, ours: &Answer) {
             if n == 128 {
                 t.see("sheet: 128 lists");
             }
-            if b.len() == 13_266 {
-                t.see("sheet: 13,266 bytes");
+            if b.len() == 13_338 {
+                t.see("sheet: 13,338 bytes");
             }
         }
         _ => {}
     }
+}
+
+/// Two packs that differ in one bit of one tail: so do their sheets.
+fn apart(t: &mut Tally, case: u64, calls: [&Call; 2], answers: &[Answer]) {
+    let [one, two] = calls;
+    let differing = (0..8 * one.a.len()).find(|bit| (one.a[bit / 8] ^ two.a[bit / 8]) >> (bit % 8) & 1 == 1);
+    if let Some(words) = tails::sign_of_zero(&one.a, differing.expect("a bit")) {
+        t.see(words);
+    }
+    let good = match answers {
+        [Ok(a), Ok(b)] => tails::one_bit_apart(a, b),
+        _ => false,
+    };
+    t.same("reference: packs apart in one bit of a tail, sheets too", good, case, || {
+        words(one, &say(&answers[0]), &say(&answers[1])) + "\n" + &words(two, "", "")
+    });
 }
 
 pub fn compare(t: &mut Tally, seed: u64, index: u64) {
@@ -464,6 +450,11 @@ pub fn compare(t: &mut Tally, seed: u64, index: u64) {
             lends(t, &mut r, index, c, &ours);
         }
         answers.push(ours);
+    }
+    if let [one, two] = &case.calls[..] {
+        if case.kind == APART {
+            apart(t, index, [one, two], &answers);
+        }
     }
     // Both stations agree; two packs have one sheet exactly when they agree; a sheet's lookups are its pack's.
     for i in 1..case.calls.len() {

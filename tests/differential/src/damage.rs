@@ -7,6 +7,7 @@ use crate::bytes::{
 use crate::pack::{Accent, Pack, Part, Rule, Tone};
 use crate::pick;
 use crate::rng::Rng;
+use crate::tails;
 
 /// One field of one record, to a boundary of its class mostly.
 fn field(r: &mut Rng, b: &mut [u8]) {
@@ -260,6 +261,78 @@ pub fn entangle(r: &mut Rng, p: &mut Pack) {
     }
 }
 
+/// Tails out of range, out of place, doubled, left out or cut: kind 7 of a pack, kind 24 of a sheet.
+pub fn mistailed(r: &mut Rng, b: &mut Vec<u8>) {
+    let (tone, tail) = if b[0] == 1 { (2, 7) } else { (18, 24) };
+    let all = starts(b);
+    let of = |b: &[u8], kind: u8| -> Vec<usize> {
+        let here = all[..all.len() - 1].iter().copied();
+        here.filter(|&at| b[at] == kind).collect()
+    };
+    let (tones, held) = (of(b, tone), of(b, tail));
+    let record = |kind: u8, values: [f32; 2]| {
+        let values = values.into_iter().flat_map(f32::to_le_bytes);
+        std::iter::once(kind).chain(values).collect::<Vec<u8>>()
+    };
+    let new = record(tail, [tails::value(r), tails::value(r)]);
+    let length = |at: usize, b: &[u8]| record_length(b[at]).expect("a kind");
+    let what = if held.is_empty() { r.below(2) } else { r.below(13) };
+    match what {
+        // Behind a tone, whose own is then the second; behind a record of any kind.
+        0 => {
+            let at = r.pick(&tones);
+            let at = at + length(at, b);
+            drop(b.splice(at..at, new));
+        }
+        1 | 2 => {
+            let mut kinds: Vec<u8> = all[..all.len() - 1].iter().map(|&at| b[at]).collect();
+            kinds.sort_unstable();
+            kinds.dedup();
+            let here = of(b, r.pick(&kinds));
+            let at = r.pick(&here);
+            let at = at + length(at, b);
+            drop(b.splice(at..at, new));
+        }
+        3 | 4 => {
+            let at = pick!(r, held[0], held[held.len() - 1], r.pick(&held));
+            b.drain(at..at + 9);
+        }
+        5 => {
+            let at = r.pick(&held) + r.range(0, 9);
+            b.truncate(at);
+        }
+        6 => {
+            let at = r.pick(&tones);
+            let at = at + length(at, b);
+            b.truncate(at);
+        }
+        // Another record in its place: mostly that of the other format.
+        7 | 8 => {
+            let (at, kind) = (r.pick(&held), r.pick(&[7, 24, 7, 24, 1, 17, 4, 20]));
+            let mut other = record(kind, [0.0; 2]);
+            other.truncate(record_length(kind).expect("a kind"));
+            drop(b.splice(at..at + 9, other));
+        }
+        9 => {
+            // An End behind it.
+            let at = r.pick(&held) + 9;
+            b.truncate(at);
+            b.push(if tail == 7 { 6 } else { 23 });
+        }
+        _ => {
+            let at = r.pick(&held) + r.pick(&[1, 5]);
+            let bits = match r.below(4) {
+                0 => r.bits32(),
+                _ => r.pick(boundaries(Class::Tail)),
+            };
+            put_u32(b, at, bits);
+        }
+    }
+    if r.chance(1, 10) {
+        damage(r, b);
+    }
+}
+
 /// A number that no accent has.
 fn fresh_accent(p: &Pack) -> u8 {
     let free = |&n: &u8| p.accents.iter().all(|a| a.number != n);
@@ -441,6 +514,7 @@ pub fn crowded_pack(r: &mut Rng, pack: &Pack) -> Vec<u8> {
                     prior: r.pick(&[0.5, 0.5, 2.0]),
                     knots: vec![1.0],
                     region: None,
+                    tail: r.chance(1, 2).then(|| [tails::value(r), tails::value(r)]),
                 });
             }
         }

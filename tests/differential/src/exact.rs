@@ -7,7 +7,7 @@ use crate::query::{Frame, Query};
 use crate::rng::Rng;
 
 /// A pitch that stays, and a tone whose curve it is, bit for bit; tolerances, temperature and prior 1.
-fn on_the_curve(r: &mut Rng) -> (Pack, Query) {
+pub fn on_the_curve(r: &mut Rng) -> (Pack, Query) {
     let (hz, semitones) = r.pick(&[(27.5, -12.0), (55.0, 0.0), (110.0, 12.0), (220.0, 24.0)]);
     let (width, height) = (r.pick(&[8.0, 12.0, 16.0, 24.0, 48.0]), r.below(5) as f32);
     let floor = semitones - width * height / 4.0;
@@ -16,6 +16,7 @@ fn on_the_curve(r: &mut Rng) -> (Pack, Query) {
         prior: 1.0,
         knots: vec![1.0 + height; r.range(1, 3)],
         region: None,
+        tail: None,
     };
     let accent = Accent {
         number: r.range(1, 255) as u8,

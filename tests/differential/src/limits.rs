@@ -44,6 +44,7 @@ fn pack(tones: u8, accents: u8) -> Pack {
         prior: 0.125,
         knots: vec![f32::from(number), 3.0],
         region: None,
+        tail: None,
     };
     let accent = |number: u8| Accent {
         number,

@@ -14,11 +14,11 @@ mod moved;
 mod orders;
 mod pack;
 mod port;
-mod predict;
 mod query;
 mod rng;
 mod samples;
 mod sheet;
+mod tails;
 mod tally;
 
 use std::io::Write;
@@ -28,6 +28,9 @@ use std::time::Instant;
 use tally::Tally;
 
 pub const THREADS: u64 = 2;
+
+/// From so many cases on a run has to see everything of tails.
+const ENOUGH: u64 = 50_000;
 
 /// With `plant` other than 0 the reference has that mistake, and the run should fail.
 fn run(cases: u64, seed: u64, plant: u32) -> bool {
@@ -70,8 +73,12 @@ fn run(cases: u64, seed: u64, plant: u32) -> bool {
             );
         }
     }
+    let unseen: Vec<&str> = tails::ALL.into_iter().filter(|words| !total.seen.contains_key(words)).collect();
+    for words in &unseen {
+        println!("never seen: {words}");
+    }
     println!("{} differ", total.differing());
-    total.differing() == 0
+    total.differing() == 0 && (unseen.is_empty() || cases < ENOUGH)
 }
 
 /// Prints one case and its answers.

@@ -2,6 +2,7 @@
 
 use crate::pick;
 use crate::rng::Rng;
+use crate::tails;
 
 pub const MAX: f32 = f32::MAX;
 /// The least f32 above 0.
@@ -16,6 +17,8 @@ pub struct Tone {
     /// Empty where the tone is context only.
     pub knots: Vec<f32>,
     pub region: Option<(f32, f32)>,
+    /// At phrase end and elsewhere; none where no kind 7 stands.
+    pub tail: Option<[f32; 2]>,
 }
 
 #[derive(Clone)]
@@ -66,6 +69,10 @@ impl Tone {
         let (from, to) = self.region.unwrap_or((0.0, 0.0));
         out.extend(from.to_le_bytes());
         out.extend(to.to_le_bytes());
+        if let Some(tail) = self.tail {
+            out.push(7);
+            out.extend(tail.into_iter().flat_map(f32::to_le_bytes));
+        }
         out
     }
 }
@@ -344,6 +351,7 @@ fn fullest(r: &mut Rng, style: Style) -> Pack {
             prior: fraction(r, style),
             knots: vec![knot(r, style)],
             region: None,
+            tail: None,
         })
         .collect();
     let accents = distinct(r, 8)
@@ -387,6 +395,7 @@ fn chained(r: &mut Rng, style: Style) -> Pack {
             prior: fraction(r, style),
             knots: knots(r, style),
             region: None,
+            tail: None,
         })
         .collect();
     let n = pick!(r, 8, 8, r.range(2, 8));
@@ -412,6 +421,13 @@ fn chained(r: &mut Rng, style: Style) -> Pack {
 
 /// A pack that loads.
 pub fn pack(r: &mut Rng) -> Pack {
+    let mut p = without_tails(r);
+    tails::give(r, &mut p);
+    p
+}
+
+/// A pack of document 01.
+fn without_tails(r: &mut Rng) -> Pack {
     let style = style(r);
     let size = r.below(100);
     match size {
@@ -453,6 +469,7 @@ pub fn pack(r: &mut Rng) -> Pack {
             } else {
                 None
             },
+            tail: None,
         });
     }
 
@@ -570,8 +587,8 @@ pub fn reordered(r: &mut Rng, pack: &Pack) -> Pack {
     other
 }
 
-/// The same lookups in other bytes: accents in any order, and a rule that another of its accent
-/// shadows.
+/// The same lookups in other bytes: accents in any order, a rule that another of its accent
+/// shadows, and kind 7 with two zeros in place of none.
 pub fn twin(r: &mut Rng, pack: &Pack) -> Pack {
     let mut accents = reordered(r, pack).accents;
     let (rules, parts) = (pack.rules(), pack.parts());
@@ -587,14 +604,24 @@ pub fn twin(r: &mut Rng, pack: &Pack) -> Pack {
         }];
         accents[at].rules.insert(i + 1, shadowed);
     }
+    let mut tones = pack.tones.clone();
+    let zeros = Some([0.0f32.to_bits(); 2]);
+    for t in tones.iter_mut().filter(|_| r.chance(1, 3)) {
+        match t.tail {
+            None => t.tail = Some([0.0; 2]),
+            Some(tail) if Some(tail.map(f32::to_bits)) == zeros => t.tail = None,
+            _ => {}
+        }
+    }
     Pack {
         accents,
-        ..pack.clone()
+        tones,
+        ..*pack
     }
 }
 
 /// One small change, which a lookup may show or not: another parent, a rule gone or moved, the label, a weight or the sign of a
-/// knot of a rule, a tone's curve, or what no lookup carries (a prior, a tolerance, a setting).
+/// knot of a rule, a tone's curve, or what no lookup carries (a prior, a tail, a tolerance, a setting).
 pub fn nudge(r: &mut Rng, pack: &mut Pack) {
     let at = r.below(pack.accents.len());
     let rules = pack.accents[at].rules.len();
@@ -634,7 +661,11 @@ pub fn nudge(r: &mut Rng, pack: &mut Pack) {
         }
         7 => {
             let i = r.below(pack.tones.len());
-            pack.tones[i].prior = pick!(r, 1.0, 0.5, LEAST);
+            match r.below(3) {
+                0 => pack.tones[i].tail = pick!(r, None, Some([0.0; 2]), Some([-0.0, 0.0])),
+                1 => pack.tones[i].tail = Some([tails::value(r), tails::value(r)]),
+                _ => pack.tones[i].prior = pick!(r, 1.0, 0.5, LEAST),
+            }
         }
         _ => match r.below(2) {
             0 => pack.temperature = pick!(r, 1.0, 2.0),

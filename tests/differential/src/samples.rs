@@ -43,7 +43,7 @@ fn longest(call: u8) -> usize {
     match call {
         WRITE_SHAPE => 124,
         JUDGE | JUDGE_SHEET => 64,
-        WRITE_SHEET => 13_266,
+        WRITE_SHEET => 13_338,
         _ => 0,
     }
 }

@@ -3,6 +3,7 @@
 use crate::pack::{self, Style, MAX, NORMAL};
 use crate::pick;
 use crate::rng::Rng;
+use crate::tails;
 
 fn put(out: &mut Vec<u8>, v: f32) {
     out.extend(v.to_le_bytes());
@@ -76,6 +77,10 @@ pub fn sheet(r: &mut Rng, past: bool) -> Vec<u8> {
         let (from, to) = [(0.0, 0.0), (0.25, 0.75), (-0.0, 0.0)][region];
         put(&mut out, from);
         put(&mut out, to);
+        out.push(24);
+        for _ in 0..2 {
+            put(&mut out, tails::value(r));
+        }
     }
     let mut held: Vec<u8> = Vec::new();
     while held.len() < accents {
