@@ -5,7 +5,7 @@ use std::path::Path;
 
 use crate::ask::Answer;
 use crate::case::*;
-use crate::limits;
+use crate::limits::{self, Asked};
 use crate::samples::{agreed, answer_anew, load, put, told, Sample, COVER, LONGEST};
 
 /// What samples are asked to tell apart: a mistake, where it matters by a call of one number.
@@ -31,13 +31,14 @@ impl Unit {
 }
 
 /// The calls that must tell a mistake apart each for itself: the readers, for what they share (ranges; places and order), a step
-/// of the arithmetic alone, for what change request 10 split a function alone and a whole record, and for how a lookup goes up the
-/// parents a sheet and a record. None stands for any call.
+/// of the arithmetic alone, for what change request 10 split a function alone and a whole record, for how a lookup goes up the
+/// parents a sheet and a record, and for tails the records of a pack and of a sheet. None stands for any call.
 fn callers(number: u32) -> &'static [Option<u8>] {
     const PACK: Option<u8> = Some(CHECK_PACK);
     const QUERY: Option<u8> = Some(CHECK_QUERY);
     const SHEET: Option<u8> = Some(CHECK_SHEET);
     const RECORD: Option<u8> = Some(JUDGE);
+    const SHEETS_RECORD: Option<u8> = Some(JUDGE_SHEET);
     match number {
         20 => &[None, Some(MIN_MAX)],
         21 => &[Some(MIN_MAX)],
@@ -53,6 +54,9 @@ fn callers(number: u32) -> &'static [Option<u8>] {
         389 => &[Some(LOG2), RECORD],
         390 => &[Some(LN), Some(EXP), RECORD],
         430..=433 => &[Some(WRITE_SHEET), RECORD],
+        434..=463 => &[RECORD, SHEETS_RECORD],
+        464..=473 => &[PACK, SHEET],
+        480 => &[Some(WRITE_SHEET), RECORD],
         _ => &[None],
     }
 }
@@ -206,35 +210,47 @@ pub fn table(units: &[Unit], found: &[Option<String>]) -> String {
     out
 }
 
-/// The samples that are there and those by hand, in `COVER`'s files, and the mistakes that neither they nor those of the other
-/// files tell apart.
-fn begun(dir: &Path, all: &[Unit]) -> (Vec<Sample>, Vec<Unit>) {
-    let (covers, mut files): (Vec<_>, Vec<_>) =
-        load(dir).into_iter().partition(|f| COVER.contains(&f.0));
-    let mut samples: Vec<Sample> = covers.into_iter().flat_map(|f| f.1).collect();
-    println!("{} samples kept", samples.len());
+/// Every file with its samples.
+type Files = Vec<(&'static str, Vec<Sample>)>;
+
+/// The file of `COVER` that takes a new sample: that of single steps, or the last.
+fn home(files: &mut Files, call: u8) -> &mut Vec<Sample> {
+    let name = COVER[if call >= MIN_MAX { 1 } else { COVER.len() - 1 }];
+    &mut files.iter_mut().find(|f| f.0 == name).expect("a file").1
+}
+
+/// The samples that are there and those by hand, and the mistakes that they don't tell apart.
+fn begun(dir: &Path, by_hand: Vec<Asked>, all: &[Unit]) -> (Files, Vec<Unit>) {
+    let mut files = load(dir);
+    for name in COVER {
+        if files.iter().all(|f| f.0 != name) {
+            files.push((name, Vec::new()));
+        }
+    }
     let mut more = 0;
-    for (call, room) in limits::all() {
-        if !samples.iter().any(|s| s.call == call && s.room == room) {
-            samples.push(agreed(call, room));
+    for (call, room) in by_hand {
+        let covers = files.iter().filter(|f| COVER.contains(&f.0));
+        let known = covers.flat_map(|f| &f.1).any(|s| s.call == call && s.room == room);
+        if !known {
+            home(&mut files, call.call).push(agreed(call, room));
             more += 1;
         }
     }
     println!("{more} more by hand");
-    files.push((COVER[0], samples));
     let open = found(&files, all);
     let open = units().into_iter().zip(open).filter(|(_, at)| at.is_none());
     let missed = open.map(|(unit, _)| unit).collect();
-    (files.pop().expect("the covers' samples").1, missed)
+    (files, missed)
 }
 
 /// Answers the samples anew, adds those by hand that are not there and such as tell apart what no sample does, and writes the
 /// table.
 pub fn write(dir: &Path, words: &Path, cases: u64, seed: u64) {
+    let by_hand = limits::all();
     std::panic::set_hook(Box::new(|_| {}));
     let all = units();
     answer_anew(dir);
-    let (mut samples, missed) = begun(dir, &all);
+    let (mut files, missed) = begun(dir, by_hand, &all);
     println!(
         "{} of {} lines not told apart by these and the other files",
         missed.len(),
@@ -252,16 +268,15 @@ pub fn write(dir: &Path, words: &Path, cases: u64, seed: u64) {
             missed[i].name()
         );
     }
-    samples.extend(calls.into_iter().map(|c| agreed(c, None)));
-    for (name, steps) in COVER.into_iter().zip([false, true]) {
-        let (mut out, mut count) = (Vec::new(), 0);
-        for s in samples.iter().filter(|s| (s.call.call >= MIN_MAX) == steps) {
-            put(&mut out, s);
-            count += 1;
-        }
+    for c in calls {
+        home(&mut files, c.call).push(agreed(c, None));
+    }
+    for (name, samples) in files.iter().filter(|f| COVER.contains(&f.0)) {
+        let mut out = Vec::new();
+        samples.iter().for_each(|s| put(&mut out, s));
         assert!(out.len() <= LONGEST, "{} bytes are too many", out.len());
         std::fs::write(dir.join(name), &out).expect("a samples' file");
-        println!("{name}: {count} samples, {} bytes", out.len());
+        println!("{name}: {} samples, {} bytes", samples.len(), out.len());
     }
     std::fs::write(words, table(&all, &found(&load(dir), &all))).expect("the table");
 }

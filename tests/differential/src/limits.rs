@@ -1,5 +1,5 @@
 //! Samples by hand: counts at their limits and past them, lent rooms around the needed length, refusals that meet in one call,
-//! parents wherever they stand, exact scores, and single steps of the arithmetic.
+//! parents wherever they stand, exact scores, creaky tails, and single steps of the arithmetic.
 
 use crate::bytes::{record_length, starts};
 use crate::case::*;
@@ -9,6 +9,7 @@ use crate::pack::{Accent, Pack, Part, Rule, Tone};
 use crate::query::{Frame, Query};
 use crate::rng::Rng;
 use crate::samples::told;
+use crate::tails::CREAKY;
 
 /// A call and the room it is lent, where that is not the longest.
 pub type Asked = (Call, Option<usize>);
@@ -147,19 +148,21 @@ fn pack_limits(all: &mut Asking) {
     }
 }
 
-/// The same in a sheet. A record past the limit is put in behind the last of its kind.
+/// The same in a sheet. A record past the limit is put in behind the last of its kind, a tone with its tail.
 fn sheet_limits(all: &mut Asking) {
     let sheet = reference::write_sheet(&fullest().bytes()).expect("a pack that loads");
     all.ask(0, WRITE_SHEET, &fullest().bytes(), &[]);
     all.ask(0, CHECK_SHEET, &sheet, &[]);
     all.ask(0, JUDGE_SHEET, &sheet, &query(8, 8).bytes());
     let small = reference::write_sheet(&pack(8, 8).bytes()).expect("a pack that loads");
-    for kind in [18, 19] {
-        let of_kind = starts(&small)
-            .into_iter()
-            .rfind(|&at| small.get(at) == Some(&kind));
-        let last = of_kind.expect("a record of the kind");
-        let end = last + record_length(kind).expect("a kind");
+    for (kind, end_kind) in [(18, 24), (19, 19)] {
+        let of_kind = |kind: u8| {
+            let all = starts(&small);
+            let last = all.into_iter().rfind(|&at| small.get(at) == Some(&kind));
+            last.expect("a record of the kind")
+        };
+        let last = of_kind(kind);
+        let end = of_kind(end_kind) + record_length(end_kind).expect("a kind");
         let mut more = small.clone();
         let mut ninth = small[last..end].to_vec();
         ninth[1] = 9;
@@ -441,6 +444,192 @@ fn steps(all: &mut Asking) {
     }
 }
 
+/// Three tones, each with its tail, the last without curves but by a rule.
+fn tailed(tails: [Option<[f32; 2]>; 3]) -> Pack {
+    let mut p = pack(3, 1);
+    for (t, tail) in p.tones.iter_mut().zip(tails) {
+        t.tail = tail;
+    }
+    p.tones[2].knots.clear();
+    let rule = rule(0, 2, 1);
+    p.accents[0].rules = vec![Rule {
+        tone: 3,
+        prev: 0,
+        ..rule
+    }];
+    p
+}
+
+/// A record of kind 7 or 24.
+fn tail(kind: u8, values: [f32; 2]) -> Vec<u8> {
+    let values = values.into_iter().flat_map(f32::to_le_bytes);
+    std::iter::once(kind).chain(values).collect()
+}
+
+/// Kind 7 in packs and kind 24 in sheets: where each is due, its range, and that it is kept bit for bit.
+fn tails(all: &mut Asking) {
+    const LEFT: [f32; 2] = [-1.5, 0.25];
+    let p = tailed([Some(LEFT), None, Some([-0.0, 50.0])]);
+    let (b, sheet) = (p.bytes(), reference::write_sheet(&p.bytes()).expect("a pack that loads"));
+    all.ask(0, CHECK_PACK, &b, &[]);
+    all.ask(0, WRITE_SHEET, &b, &[]);
+    all.ask(0, CHECK_SHEET, &sheet, &[]);
+    // Behind each record of the pack: a second one behind a tail, not due but behind a tone. In a sheet it is due nowhere.
+    for (b, check, kinds) in [(&b, CHECK_PACK, [7, 24]), (&sheet, CHECK_SHEET, [24, 7])] {
+        let (mut met, places) = (Vec::new(), starts(b));
+        for &at in &places[..places.len() - 1] {
+            let end = at + record_length(b[at]).expect("a kind");
+            let pair = (b[at], b.get(end).copied());
+            if met.contains(&pair) {
+                continue;
+            }
+            met.push(pair);
+            for kind in kinds {
+                let with = [&b[..end], &tail(kind, LEFT), &b[end..]].concat();
+                let number = match pair {
+                    (2, Some(2 | 3)) if kind == 7 => 0,
+                    (6 | 23, _) => 3,
+                    _ => 1,
+                };
+                all.ask(number, check, &with, &[]);
+            }
+        }
+        // Left out, cut, or the input's end behind it, or behind its tone; another kind behind it.
+        let tails: Vec<usize> = places.iter().copied().filter(|&at| b.get(at) == Some(&kinds[0])).collect();
+        let number = if kinds[0] == 7 { 0 } else { 1 };
+        for at in [tails[0], tails[tails.len() - 1]] {
+            all.ask(number, check, &[&b[..at], &b[at + 9..]].concat(), &[]);
+            for cut in [0, 1, 5, 8, 9] {
+                all.ask(2, check, &b[..at + cut], &[]);
+            }
+            for kind in [6, 23, 4, 20] {
+                all.ask(1, check, &[&b[..at + 9], &[kind]].concat(), &[]);
+            }
+            // Ranges.
+            let above = f32::from_bits(50f32.to_bits() + 1);
+            for (number, value) in [
+                (0, 50.0),
+                (0, -50.0),
+                (0, 0.0),
+                (0, -0.0),
+                (0, 1.0e-45),
+                (0, -1.0e-45),
+                (5, above),
+                (5, -above),
+                (5, f32::MAX),
+                (5, f32::NAN),
+                (5, f32::INFINITY),
+                (5, f32::NEG_INFINITY),
+            ] {
+                for values in [[value, 0.5], [0.5, value]] {
+                    let with = [&b[..at], &tail(kinds[0], values), &b[at + 9..]].concat();
+                    all.ask(number, check, &with, &[]);
+                    if number == 0 && check == CHECK_PACK {
+                        all.ask(0, WRITE_SHEET, &with, &[]);
+                    }
+                }
+            }
+        }
+    }
+    // One bit more or less.
+    let open = b[..65].to_vec();
+    for bit in [0, 22, 31, 32, 54, 63] {
+        let mut with = b.clone();
+        with[66 + bit / 8] ^= 1 << (bit % 8);
+        assert_eq!(b[65], 7);
+        all.ask(0, WRITE_SHEET, &with, &[]);
+    }
+    // Eight tones and eight tails; a ninth tone behind them.
+    let mut eight = fullest();
+    for t in &mut eight.tones {
+        t.tail = Some([-f32::from(t.number), 0.5]);
+    }
+    let longest = eight.bytes();
+    assert_eq!(longest.len(), 7_018);
+    all.ask(0, WRITE_SHEET, &longest, &[]);
+    let mut q = query(8, 8);
+    q.issues = CREAKY;
+    all.ask(0, JUDGE, &longest, &q.bytes());
+    let mut nine = pack(9, 1);
+    nine.tones.iter_mut().for_each(|t| t.tail = Some(LEFT));
+    let nine = nine.bytes();
+    all.ask(4, CHECK_PACK, &nine, &[]);
+    all.ask(2, CHECK_PACK, &nine[..9 + 8 * 65 + 2], &[]);
+    // Rooms of the sheet, and refusals before it.
+    for (room, number) in [(0, 9), (sheet.len() - 1, 9), (sheet.len(), 0), (sheet.len() + 1, 0)] {
+        all.lend(number, WRITE_SHEET, &b, &[], Some(room));
+    }
+    all.lend(1, WRITE_SHEET, &[&open[..], &[24]].concat(), &[], Some(0));
+}
+
+/// Judgements with tails, from the pack and from its sheet: without the issue and with it, in both places of the phrase, after
+/// another tone or none, with variants of many weights, clamped, and where the shape is not usable.
+fn creaky_judgements(all: &mut Asking) {
+    let mut both = |p: &Pack, q: &Query| {
+        let (p, q) = (p.bytes(), q.bytes());
+        all.ask(0, JUDGE, &p, &q);
+        all.ask(0, JUDGE_SHEET, &reference::write_sheet(&p).expect("a pack that loads"), &q);
+    };
+    let p = tailed([Some([-1.5, 0.25]), Some([-0.5, -3.0]), Some([2.0, 50.0])]);
+    let few = tailed([Some([-1.5, 0.25]), None, Some([-0.0, 0.0])]);
+    let none = tailed([None; 3]);
+    for fin in [0, 1] {
+        for (issues, prev) in [(0, 0), (CREAKY, 0), (CREAKY, 3), (CREAKY >> 1, 0), (0x3FF, 0)] {
+            let mut q = query(2, prev);
+            (q.fin, q.issues) = (fin, issues);
+            both(&p, &q);
+            both(&few, &q);
+        }
+    }
+    let one = 1.0f32;
+    for variants in [
+        vec![(1, 0.25)],
+        vec![(1, 0.25), (3, 0.5)],
+        vec![(2, 0.5)],
+        vec![(1, 0.0)],
+        vec![(1, -0.0)],
+        vec![(3, one)],
+        vec![(3, -0.0), (1, one)],
+        vec![(3, one - f32::EPSILON / 2.0), (1, 1.0e-45)],
+        vec![(1, 0.1), (2, 0.1), (3, 0.1), (1, 0.1)],
+        // 1 in f32, less in f64.
+        vec![(3, 0.7), (1, 0.3)],
+    ] {
+        for (p, issues) in [(&p, CREAKY), (&p, 0), (&few, CREAKY), (&none, CREAKY)] {
+            let mut q = query(2, 0);
+            (q.fin, q.issues, q.variants) = (1, issues, variants.clone());
+            both(p, &q);
+        }
+    }
+    // The least temperatures: next to the bounds, a tail that moves off them and one that does not.
+    for (temperature, onset) in [(1.0e-6, 1.0), (1.0e-9, 0.0625)] {
+        for tail in [50.0, -50.0, 0.0, -0.0] {
+            let mut p = pack(1, 1);
+            (p.temperature, p.tones[0].tail) = (temperature, Some([tail, 0.0]));
+            p.tones[0].knots = vec![if onset < 1.0 { 4.0 } else { 60.0 }];
+            p.accents[0].tolerances = [onset; 4];
+            let mut q = query(1, 0);
+            (q.ceil, q.fin, q.issues) = (16.0, 1, CREAKY);
+            q.frames.iter_mut().for_each(|f| f.hz = 110.0);
+            both(&p, &q);
+        }
+    }
+    // A log-likelihood of −0, to which no tail is added.
+    let mut least = pack(1, 1);
+    (least.temperature, least.tones[0].knots) = (f32::MAX, vec![4.0]);
+    least.accents[0].tolerances = [1.0 + f32::EPSILON, 1.0, 1.0, 1.0];
+    for tail in [None, Some([-0.0, 0.0])] {
+        least.tones[0].tail = tail;
+        let mut q = query(1, 0);
+        (q.fin, q.issues) = (1, CREAKY);
+        q.frames.iter_mut().for_each(|f| f.hz = 110.0);
+        both(&least, &q);
+    }
+    let mut q = query(2, 0);
+    (q.floor, q.issues) = (f32::NEG_INFINITY, CREAKY);
+    both(&p, &q);
+}
+
 /// All of them.
 pub fn all() -> Vec<Asked> {
     let mut all = Asking(Vec::new());
@@ -451,6 +640,8 @@ pub fn all() -> Vec<Asked> {
     meetings(&mut all);
     parents(&mut all);
     exact_scores(&mut all);
+    tails(&mut all);
+    creaky_judgements(&mut all);
     steps(&mut all);
     all.0
 }

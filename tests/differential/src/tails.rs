@@ -6,7 +6,6 @@ use crate::bytes::{f32_at, starts, u16_at};
 use crate::case::{Call, CHECK_PACK, CHECK_SHEET, JUDGE, JUDGE_SHEET, WRITE_SHEET};
 use crate::exact::on_the_curve;
 use crate::pack::{pack, Pack, LEAST, MAX, NORMAL};
-use crate::pick;
 use crate::query::Query;
 use crate::rng::Rng;
 

@@ -913,6 +913,35 @@ fn chosen() -> Vec<Case> {
     let mut ask = Ask::of(steady(8, 110.0));
     ask.issues = 1 << 10;
     cases.push(Case::Query(ask.bytes()));
+    // Six frames, of which two are filled, that show a point's position.
+    let frames = [220.0, 220.0, -1.0, 27.5, -1.0, 55.0].map(|hz| (u8::from(hz > 0.0), hz, 1.0));
+    let mut ask = Ask::of(frames.to_vec());
+    ask.register = (13.0, 17.0);
+    cases.push(Case::Query(ask.bytes()));
+    // Two accents in the wrong order.
+    let two = [&small[..84], &accent(2, 0, TOL), &[6]].concat();
+    let mut exchanged = write_sheet(&two).unwrap();
+    let (one, other) = exchanged[33..69].split_at_mut(18);
+    one.swap_with_slice(other);
+    cases.push(Case::Sheet(exchanged));
+    // Tails: a log-likelihood of −0 and a tail of 0; sums whose order shows, as they come to next to 0.
+    let mut ask = Ask::of(steady(8, 110.0));
+    ask.issues = CREAK;
+    let least = [
+        settings(1, f32::MAX, 0.25),
+        tone(1, 1.0, &[5.0], None),
+        accent(1, 0, [1.0 + f32::EPSILON, 1.0, 1.0, 1.0]),
+        vec![6],
+    ]
+    .concat();
+    cases.push(Case::Judge(least, ask.bytes()));
+    let on_the_curve =
+        [settings(1, 1.0, 0.25), tone(1, 1.0, &[5.0], None), accent(1, 0, TOL), vec![6]].concat();
+    for _ in 0..200 {
+        let (one, two) = (r.unit() as f32, r.unit() as f32);
+        ask.variants = [one * two, one - one * two].map(|weight| (1, weight)).to_vec();
+        cases.push(Case::Judge(on_the_curve.clone(), ask.bytes()));
+    }
     cases.extend((0..2000).map(|_| near_zero(&mut r)));
     cases.extend((0..2000).map(|_| through_zero(&mut r)));
     cases.push(Case::Pack(full));
