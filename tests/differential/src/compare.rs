@@ -415,7 +415,8 @@ fn look_at(t: &mut Tally, c: &Call, ours: &Answer) {
 /// Two packs that differ in one bit of one tail: so do their sheets.
 fn apart(t: &mut Tally, case: u64, calls: [&Call; 2], answers: &[Answer]) {
     let [one, two] = calls;
-    let differing = (0..8 * one.a.len()).find(|bit| (one.a[bit / 8] ^ two.a[bit / 8]) >> (bit % 8) & 1 == 1);
+    let differing =
+        (0..8 * one.a.len()).find(|bit| (one.a[bit / 8] ^ two.a[bit / 8]) >> (bit % 8) & 1 == 1);
     if let Some(words) = tails::sign_of_zero(&one.a, differing.expect("a bit")) {
         t.see(words);
     }
@@ -423,9 +424,12 @@ fn apart(t: &mut Tally, case: u64, calls: [&Call; 2], answers: &[Answer]) {
         [Ok(a), Ok(b)] => tails::one_bit_apart(a, b),
         _ => false,
     };
-    t.same("reference: packs apart in one bit of a tail, sheets too", good, case, || {
-        words(one, &say(&answers[0]), &say(&answers[1])) + "\n" + &words(two, "", "")
-    });
+    t.same(
+        "reference: packs apart in one bit of a tail, sheets too",
+        good,
+        case,
+        || words(one, &say(&answers[0]), &say(&answers[1])) + "\n" + &words(two, "", ""),
+    );
 }
 
 pub fn compare(t: &mut Tally, seed: u64, index: u64) {
@@ -461,10 +465,16 @@ pub fn compare(t: &mut Tally, seed: u64, index: u64) {
         let (one, two) = (&case.calls[i - 1], &case.calls[i]);
         let (name, alike) = match (one.call, two.call) {
             (JUDGE, JUDGE_SHEET) => ("reference: judge = judge_sheet on the pack's sheet", true),
-            (LOOK_PACK, LOOK_SHEET) => ("reference: look_pack = look_sheet on the pack's sheet", true),
+            (LOOK_PACK, LOOK_SHEET) => (
+                "reference: look_pack = look_sheet on the pack's sheet",
+                true,
+            ),
             (WRITE_SHEET, WRITE_SHEET) => match reference::agree(&one.a, &two.a) {
                 Ok(true) => ("reference: one sheet for two packs that agree", true),
-                _ => ("reference: two sheets for two packs that do not agree", false),
+                _ => (
+                    "reference: two sheets for two packs that do not agree",
+                    false,
+                ),
             },
             _ => continue,
         };

@@ -230,7 +230,9 @@ fn begun(dir: &Path, by_hand: Vec<Asked>, all: &[Unit]) -> (Files, Vec<Unit>) {
     let mut more = 0;
     for (call, room) in by_hand {
         let covers = files.iter().filter(|f| COVER.contains(&f.0));
-        let known = covers.flat_map(|f| &f.1).any(|s| s.call == call && s.room == room);
+        let known = covers
+            .flat_map(|f| &f.1)
+            .any(|s| s.call == call && s.room == room);
         if !known {
             home(&mut files, call.call).push(agreed(call, room));
             more += 1;

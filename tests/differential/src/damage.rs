@@ -276,7 +276,11 @@ pub fn mistailed(r: &mut Rng, b: &mut Vec<u8>) {
     };
     let new = record(tail, [tails::value(r), tails::value(r)]);
     let length = |at: usize, b: &[u8]| record_length(b[at]).expect("a kind");
-    let what = if held.is_empty() { r.below(2) } else { r.below(13) };
+    let what = if held.is_empty() {
+        r.below(2)
+    } else {
+        r.below(13)
+    };
     match what {
         // Behind a tone, whose own is then the second; behind a record of any kind.
         0 => {

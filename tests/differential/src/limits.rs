@@ -470,7 +470,10 @@ fn tail(kind: u8, values: [f32; 2]) -> Vec<u8> {
 fn tails(all: &mut Asking) {
     const LEFT: [f32; 2] = [-1.5, 0.25];
     let p = tailed([Some(LEFT), None, Some([-0.0, 50.0])]);
-    let (b, sheet) = (p.bytes(), reference::write_sheet(&p.bytes()).expect("a pack that loads"));
+    let (b, sheet) = (
+        p.bytes(),
+        reference::write_sheet(&p.bytes()).expect("a pack that loads"),
+    );
     all.ask(0, CHECK_PACK, &b, &[]);
     all.ask(0, WRITE_SHEET, &b, &[]);
     all.ask(0, CHECK_SHEET, &sheet, &[]);
@@ -495,7 +498,11 @@ fn tails(all: &mut Asking) {
             }
         }
         // Left out, cut, or the input's end behind it, or behind its tone; another kind behind it.
-        let tails: Vec<usize> = places.iter().copied().filter(|&at| b.get(at) == Some(&kinds[0])).collect();
+        let tails: Vec<usize> = places
+            .iter()
+            .copied()
+            .filter(|&at| b.get(at) == Some(&kinds[0]))
+            .collect();
         let number = if kinds[0] == 7 { 0 } else { 1 };
         for at in [tails[0], tails[tails.len() - 1]] {
             all.ask(number, check, &[&b[..at], &b[at + 9..]].concat(), &[]);
@@ -556,7 +563,12 @@ fn tails(all: &mut Asking) {
     all.ask(4, CHECK_PACK, &nine, &[]);
     all.ask(2, CHECK_PACK, &nine[..9 + 8 * 65 + 2], &[]);
     // Rooms of the sheet, and refusals before it.
-    for (room, number) in [(0, 9), (sheet.len() - 1, 9), (sheet.len(), 0), (sheet.len() + 1, 0)] {
+    for (room, number) in [
+        (0, 9),
+        (sheet.len() - 1, 9),
+        (sheet.len(), 0),
+        (sheet.len() + 1, 0),
+    ] {
         all.lend(number, WRITE_SHEET, &b, &[], Some(room));
     }
     all.lend(1, WRITE_SHEET, &[&open[..], &[24]].concat(), &[], Some(0));
@@ -568,13 +580,24 @@ fn creaky_judgements(all: &mut Asking) {
     let mut both = |p: &Pack, q: &Query| {
         let (p, q) = (p.bytes(), q.bytes());
         all.ask(0, JUDGE, &p, &q);
-        all.ask(0, JUDGE_SHEET, &reference::write_sheet(&p).expect("a pack that loads"), &q);
+        all.ask(
+            0,
+            JUDGE_SHEET,
+            &reference::write_sheet(&p).expect("a pack that loads"),
+            &q,
+        );
     };
     let p = tailed([Some([-1.5, 0.25]), Some([-0.5, -3.0]), Some([2.0, 50.0])]);
     let few = tailed([Some([-1.5, 0.25]), None, Some([-0.0, 0.0])]);
     let none = tailed([None; 3]);
     for fin in [0, 1] {
-        for (issues, prev) in [(0, 0), (CREAKY, 0), (CREAKY, 3), (CREAKY >> 1, 0), (0x3FF, 0)] {
+        for (issues, prev) in [
+            (0, 0),
+            (CREAKY, 0),
+            (CREAKY, 3),
+            (CREAKY >> 1, 0),
+            (0x3FF, 0),
+        ] {
             let mut q = query(2, prev);
             (q.fin, q.issues) = (fin, issues);
             both(&p, &q);

@@ -73,7 +73,10 @@ fn run(cases: u64, seed: u64, plant: u32) -> bool {
             );
         }
     }
-    let unseen: Vec<&str> = tails::ALL.into_iter().filter(|words| !total.seen.contains_key(words)).collect();
+    let unseen: Vec<&str> = tails::ALL
+        .into_iter()
+        .filter(|words| !total.seen.contains_key(words))
+        .collect();
     for words in &unseen {
         println!("never seen: {words}");
     }

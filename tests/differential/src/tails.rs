@@ -46,7 +46,11 @@ fn shared(r: &mut Rng, p: &Pack, q: &mut Query) {
         2 => vec![0.1; 4],
         _ => vec![one * two, one - one * two, 1.0 - one],
     };
-    q.variants = weights.iter().enumerate().map(|(i, &w)| (number(i), w)).collect();
+    q.variants = weights
+        .iter()
+        .enumerate()
+        .map(|(i, &w)| (number(i), w))
+        .collect();
 }
 
 /// A judgement in which tails count, mostly.
@@ -89,7 +93,9 @@ pub fn creaky(r: &mut Rng, p: &mut Pack, q: &mut Query) {
                 p.accents[0].tolerances[0] = r.pick(&[0.5, 0.25, 2.0]);
             }
             p.temperature = r.pick(&[LEAST, 1.0e-6, 1.0e-4]);
-            p.tones.iter_mut().for_each(|t| t.tail = Some([r.pick(&[50.0, -50.0]), value(r)]));
+            p.tones
+                .iter_mut()
+                .for_each(|t| t.tail = Some([r.pick(&[50.0, -50.0]), value(r)]));
         }
         // A shape that is not usable.
         6 => q.floor = r.pick(&[f32::NAN, f32::NEG_INFINITY]),
@@ -106,7 +112,10 @@ pub fn pair(r: &mut Rng) -> (Vec<u8>, Vec<u8>, usize) {
     let at = r.below(p.tones.len());
     p.tones[at].tail = Some([value(r), value(r)]);
     let one = p.bytes();
-    let tails: Vec<usize> = starts(&one).into_iter().filter(|&at| one.get(at) == Some(&7)).collect();
+    let tails: Vec<usize> = starts(&one)
+        .into_iter()
+        .filter(|&at| one.get(at) == Some(&7))
+        .collect();
     let signs = r.chance(1, 4);
     loop {
         let bit = r.below(64);
@@ -121,8 +130,14 @@ pub fn pair(r: &mut Rng) -> (Vec<u8>, Vec<u8>, usize) {
 
 /// Whether two sheets differ in one bit, and that stands in a record of kind 24.
 pub fn one_bit_apart(one: &[u8], two: &[u8]) -> bool {
-    let apart: Vec<usize> = (0..one.len().min(two.len())).filter(|&i| one[i] != two[i]).collect();
-    let of_tail = |i: usize| starts(one).iter().any(|&at| one.get(at) == Some(&24) && (at + 1..at + 9).contains(&i));
+    let apart: Vec<usize> = (0..one.len().min(two.len()))
+        .filter(|&i| one[i] != two[i])
+        .collect();
+    let of_tail = |i: usize| {
+        starts(one)
+            .iter()
+            .any(|&at| one.get(at) == Some(&24) && (at + 1..at + 9).contains(&i))
+    };
     one.len() == two.len()
         && apart.len() == 1
         && (one[apart[0]] ^ two[apart[0]]).count_ones() == 1
@@ -184,7 +199,11 @@ fn loaded_pack(b: &[u8], words: &mut Vec<&'static str>) {
 fn out_of_range(b: &[u8], at: usize, words: &mut Vec<&'static str>) {
     let fine = |v: f32| v.abs() <= 50.0;
     let [one, two] = [f32_at(b, at + 1), f32_at(b, at + 5)];
-    words.push(if !fine(one) { "tails: 5, the first value" } else { "tails: 5, the second value alone" });
+    words.push(if !fine(one) {
+        "tails: 5, the first value"
+    } else {
+        "tails: 5, the second value alone"
+    });
     let v = if fine(one) { two } else { one };
     words.push(match v {
         v if v.is_nan() => "tails: 5, NaN",
@@ -255,12 +274,16 @@ fn judged(pack: &[u8], query: &[u8], record: &[u8], words: &mut Vec<&'static str
             }
             1.0e6 if *v > 0.0 => words.push("creaky: clamped above"),
             -1.0e6 if *v < 0.0 => words.push("creaky: clamped below"),
-            ll if ll < -9.0e5 && ll > -1.0e6 => words.push("creaky: above the lower bound by a tail"),
+            ll if ll < -9.0e5 && ll > -1.0e6 => {
+                words.push("creaky: above the lower bound by a tail")
+            }
             ll if ll > 9.0e5 && ll < 1.0e6 => words.push("creaky: under the upper bound by a tail"),
             _ => {}
         }
     }
-    let weights: Vec<f32> = (0..usize::from(query[23])).map(|i| f32_at(query, 25 + 5 * i)).collect();
+    let weights: Vec<f32> = (0..usize::from(query[23]))
+        .map(|i| f32_at(query, 25 + 5 * i))
+        .collect();
     if weights.is_empty() {
         words.push("creaky: no variants");
         return;
@@ -360,7 +383,9 @@ pub const ALL: [&str; 57] = [
 
 /// The word of a pair that is apart in a zero's sign alone.
 pub fn sign_of_zero(pack: &[u8], bit: usize) -> Option<&'static str> {
-    let values = starts(pack).into_iter().filter(|&at| pack.get(at) == Some(&7));
+    let values = starts(pack)
+        .into_iter()
+        .filter(|&at| pack.get(at) == Some(&7));
     let mut values = values.flat_map(|at| [at + 1, at + 5]);
     let own = values.find(|&at| bit == 8 * at + 31)?;
     (f32_at(pack, own) == 0.0).then_some(ALL[56])

@@ -100,7 +100,9 @@ impl<S: Source> Judge<'_, S> {
             _ if planted(WIDEN_CANCELLED) => low ^ clipped ^ cold,
             _ if planted(WIDEN_BY_ALL) => low & clipped & cold,
             _ if planted(WIDEN_BY_VALUE) => issues & (LOW_SNR | CLIPPED | COLD_START),
-            _ if planted(WIDEN_BIT_EARLY) => set(LOW_SNR >> 1) | set(CLIPPED >> 1) | set(COLD_START >> 1),
+            _ if planted(WIDEN_BIT_EARLY) => {
+                set(LOW_SNR >> 1) | set(CLIPPED >> 1) | set(COLD_START >> 1)
+            }
             _ => low | clipped | cold,
         }
     }
