@@ -36,7 +36,7 @@ module _ (s : List ℕ) (d : Out SheetRead) (src : Source) (v : View) (sheetable
 
   -- after all tones and i accents
   abbrev after : ℕ → SheetRead
-  after i = read_to v (lists_of v) (last_of 18 19 i) (length v.tones) i 0 0 0 0
+  after i = read_to v (lists_of v) (last_of 24 19 i) (length v.tones) i 0 0 0 0
 
   due_accent : (i : ℕ) → due_next (after i) 19 ≡ true
   unfolding due_next
@@ -72,7 +72,7 @@ module _ (s : List ℕ) (d : Out SheetRead) (src : Source) (v : View) (sheetable
   accents_on zero h = stay s d (accent_at v 0) (after 0)
   accents_on (suc n) h = then (accents_on n (omega arith)) (accent_on n h)
 
-  last_some : (n : ℕ) → 1 ≤ n → last_of 18 19 n ≡ 19
+  last_some : (n : ℕ) → 1 ≤ n → last_of 24 19 n ≡ 19
   last_some zero h = absurd (omega arith)
   last_some (suc n) h = refl
 

@@ -1,9 +1,9 @@
 -- A station that was read from the sheet of a source holds what the source holds: settings, tones, accents, and every lookup of a held context. Assumes nothing.
 use Rattle.std.proofs.lemmas.List.{get_or-map}
-use Rattle.std.proofs.Common.{ℕ, suc, ◌≤◌, ◌<◌, ◌≡◌, ap, ◌∙◌, ⊎_elim, List, map, Bool, true, arith, length, get_or, ext_get_or}
+use Rattle.std.proofs.Common.{ℕ, suc, ◌+◌, ◌≤◌, ◌<◌, ◌≡◌, ap, ◌∙◌, ⊎_elim, List, map, Bool, true, arith, length, get_or, ext_get_or}
 use mathlib.Core.Option.{some}
 use lib.ListN.{length-map}
-use Rattle.spec_lookup.specs.Source.{Accent, Source, settings_at, accent_in, tone_in, tone_at as tone_is_read, accent_at as accent_is_read, absent_tone}
+use Rattle.spec_lookup.specs.Source.{Accent, Source, settings_at, accent_in, tone_in, tone_at as tone_is_read, tail_at, accent_at as accent_is_read, absent_tone}
 use Rattle.spec_arithmetic.specs.Places.{index_of}
 use Rattle.spec_lookup.specs.declared.Context.{Context}
 use Rattle.spec_sheet.specs.Sheet.{View, absent_accent, prev_number, row_context, ascending, view_of, rows_of, lists_of, sheet}
@@ -43,7 +43,9 @@ module _ (s : List ℕ) (d : Out SheetRead) (src : Source) (v : View) (sheetable
   tones_same =
       all_read (tone_is_read 6 24 s) tone_at v.tones absent_tone
       (λ k h. let w = tone_read s d src v sheetable laid k h in
-      λ i. record { number = w.number i; prior = w.prior i; flag = w.flag i; from = w.from i; to = w.to i })
+      let f : tail_at 24 1 s (tone_at k + 15) ≡ (get_or v.tones k absent_tone).tail_final = rw w.tail w.final in
+      let e : tail_at 24 5 s (tone_at k + 15) ≡ (get_or v.tones k absent_tone).tail_elsewhere = rw w.tail w.elsewhere in
+      λ i. record { number = w.number i; prior = w.prior i; flag = w.flag i; from = w.from i; to = w.to i; tail_final = f i; tail_elsewhere = e i })
 
   accents_same : map (accent_is_read 2 s) (up_to (accent_at v) (length v.accents)) ≡ v.accents
   accents_same =

@@ -1,7 +1,7 @@
 -- The sheets of two sources that have one are equal in every bit exactly when settings, tones, accents and the lookups of all held contexts agree. Assumes nothing.
-use Rattle.std.proofs.Common.{ℕ, zero, suc, ◌<◌, ◌≡◌, refl, sym, ap, ap₂, ◌∙◌, subst, ◌⊎◌, ◌↔◌, Bool, true, false, List, [], arith, length}
+use Rattle.std.proofs.Common.{ℕ, zero, suc, ◌<◌, ◌≡◌, refl, sym, ap, ap₂, ◌∙◌, subst, ◌⊎◌, ◌↔◌, Bool, true, false, cond, List, [], arith, length, get_or}
 use mathlib.Core.Option.{Option}
-use Rattle.spec_lookup.specs.Source.{Tone, Accent, Carried, Source, accent_in, tone_in}
+use Rattle.spec_lookup.specs.Source.{Tone, Accent, Carried, Source, accent_in, tone_in, absent_tone}
 use Rattle.spec_lookup.specs.declared.Context.{Context}
 use Rattle.spec_sheet.specs.Number.{noted, number_in}
 use Rattle.spec_sheet.specs.Pieces.{piecewise}
@@ -99,3 +99,11 @@ module _ (a b : Source) (fa : Sheetable a) (fb : Sheetable b) (e : sheet a ≡ s
 
 pub exactly : (a b : Source) → Sheetable a → Sheetable b → (sheet a ≡ sheet b) ↔ Agree a b
 exactly a b fa fb = (agrees a b fa fb, agree_same a b)
+
+-- the tail value of tone i, at a phrase's end or elsewhere
+abbrev pub tail_in : List Tone → ℕ → Bool → ℕ
+tail_in tones i last = cond last (get_or tones i absent_tone).tail_final (get_or tones i absent_tone).tail_elsewhere
+
+-- so a tail is told: sources of which some tone has another tail value, if only in a bit, have different sheets
+pub tails_told : (a b : Source) → Sheetable a → Sheetable b → (i : ℕ) (last : Bool) → (tail_in a.tones i last ≡ tail_in b.tones i last → ⊥) → sheet a ≡ sheet b → ⊥
+tails_told a b fa fb i last differ e = differ (ap (λ (tones : List Tone). tail_in tones i last) (tones_agree a b fa fb e))

@@ -4,7 +4,7 @@ use mathlib.Core.Option.{some}
 use lib.ListN.{get_or-replicate}
 use lib.Ieee.{of_bits, lt, le}
 use Rattle.tonekit_core.specs.Loop.{range, turns}
-use Rattle.spec_pack.specs.Ranges.{above_zero, probability_fine, weight_fine}
+use Rattle.spec_pack.specs.Ranges.{above_zero, probability_fine, weight_fine, tail_fine}
 use Rattle.spec_lookup.specs.Source.{Carried, Source, accent_in, absent_tone}
 use Rattle.spec_sheet.specs.Number.{same_carried, seen_in, place_in, noted, number_in, same_by}
 use Rattle.spec_sheet.specs.Pieces.{pieces, piecewise}
@@ -16,14 +16,14 @@ use Rattle.tonekit_sheet.specs.Sheetable.{f32, SettingsSheetable, ToneSheetable,
 abbrev one : ℕ
 one = 0x3f80_0000
 
--- one tone, one accent, and its citation in every context
+-- one tone with a tail of -1 and -0, one accent, and its citation in every context
 abbrev flat : Carried
 flat = record { owner = 7; form = 1; label = 0; part = 0; weight = one; points = replicate 10 0 }
 
 abbrev pub small : Source
 small = record {
   settings = record { temperature = one; threshold = 0x3f00_0000 };
-  tones = record { number = 3; prior = one; flag = 0; from = 0; to = 0 } ∷ [];
+  tones = record { number = 3; prior = one; flag = 0; from = 0; to = 0; tail_final = 0xbf80_0000; tail_elsewhere = 0x8000_0000 } ∷ [];
   accents = record { number = 7; contour = one; onset = one; offset = one; turning = one } ∷ [];
   look = λ c. some (flat ∷ []);
 }
@@ -31,6 +31,7 @@ small = record {
 pub small_bytes : sheet small ≡
     17 ∷ 0 ∷ 0 ∷ 128 ∷ 63 ∷ 0 ∷ 0 ∷ 0 ∷ 63
     ∷ 18 ∷ 3 ∷ 0 ∷ 0 ∷ 128 ∷ 63 ∷ 0 ∷ 0 ∷ 0 ∷ 0 ∷ 0 ∷ 0 ∷ 0 ∷ 0 ∷ 0
+    ∷ 24 ∷ 0 ∷ 0 ∷ 128 ∷ 191 ∷ 0 ∷ 0 ∷ 0 ∷ 128
     ∷ 19 ∷ 7 ∷ 0 ∷ 0 ∷ 128 ∷ 63 ∷ 0 ∷ 0 ∷ 128 ∷ 63 ∷ 0 ∷ 0 ∷ 128 ∷ 63 ∷ 0 ∷ 0 ∷ 128 ∷ 63
     ∷ 20 ∷ 7 ∷ 3 ∷ 0 ∷ 1 ∷ 1
     ∷ 20 ∷ 7 ∷ 3 ∷ 3 ∷ 1 ∷ 1
@@ -80,8 +81,8 @@ flat_list = record {
 }
 
 tone_sheetable : (i : ℕ) → i < 1 → ToneSheetable (get_or small.tones i absent_tone)
-unfolding probability_fine of_bits lt le
-tone_sheetable zero h = record { least = omega arith; byte = omega arith; prior_bits = omega arith; prior = refl; from_bits = omega arith; to_bits = omega arith; region = refl }
+unfolding probability_fine tail_fine of_bits lt le
+tone_sheetable zero h = record { least = omega arith; byte = omega arith; prior_bits = omega arith; prior = refl; from_bits = omega arith; to_bits = omega arith; region = refl; tail_final_bits = omega arith; tail_elsewhere_bits = omega arith; tail_final = refl; tail_elsewhere = refl }
 tone_sheetable (suc i) h = absurd (omega arith)
 
 accent_sheetable : (i : ℕ) → i < 1 → AccentSheetable (get_or small.accents i absent_accent)

@@ -46,8 +46,8 @@ module _ (v : View) (lists : List (List Carried)) (ten : (i : ℕ) → i < lengt
   abbrev listed : List ℕ
   listed = piecewise (list_piece lists) 0 (length lists)
 
-  tones_size : length tones ≡ 15 * length v.tones
-  tones_size = even (tone_piece v) 15 (length v.tones) (λ j. refl)
+  tones_size : length tones ≡ 24 * length v.tones
+  tones_size = even (tone_piece v) 24 (length v.tones) (λ j. refl)
 
   accents_size : length accents ≡ 18 * length v.accents
   accents_size = even (accent_piece v) 18 (length v.accents) (λ j. refl)
@@ -67,7 +67,7 @@ module _ (v : View) (lists : List (List Carried)) (ten : (i : ℕ) → i < lengt
       let at-lists : Stands s (list_at v lists 0) (listed ++ (23 ∷ [])) = stands_then rows _ (list_at v lists 0) (omega (arith, rows_size, before_none lists)) at_rows in
       record {
         settings = stands_first (settings_bytes v.settings) _ (subst (λ (x : List ℕ). Stands s 0 x) e (stands_whole s));
-        tone = λ i h. even_stands (tone_piece v) 15 (length v.tones) i (λ j. refl) h (stands_first tones _ at-tones);
+        tone = λ i h. even_stands (tone_piece v) 24 (length v.tones) i (λ j. refl) h (stands_first tones _ at-tones);
         accent = λ i h. stands_at _ (even_stands (accent_piece v) 18 (length v.accents) i (λ j. refl) h (stands_first accents _ at-accents)) (omega arith);
         row = λ r h. stands_at _ (even_stands (row_piece v lists) 6 (rows_of v) r (λ j. refl) h (stands_first rows _ at_rows)) (omega arith);
         list = λ i h. piece_stands (list_piece lists) (length lists) i (list_at v lists i) h (omega (arith, lists_length lists ten i (omega arith), before_none lists)) (stands_first listed _ at-lists);

@@ -32,15 +32,18 @@ module _ (s : List ℕ) (o : ℕ) where
 
   pub record ToneThere (t : Tone) : Type 0 where
     pub kind : byte_at s o ≡ 18
-    pub whole : o + 15 ≤ length s
+    pub whole : o + 24 ≤ length s
     pub number : number_at s o ≡ t.number
     pub prior : u32_at s (o + 2) ≡ t.prior
     pub flag : byte_at s (o + 6) ≡ t.flag
     pub from : u32_at s (o + 7) ≡ t.from
     pub to : u32_at s (o + 11) ≡ t.to
+    pub tail : byte_at s (o + 15) ≡ 24
+    pub final : u32_at s (o + 15 + 1) ≡ t.tail_final
+    pub elsewhere : u32_at s (o + 15 + 5) ≡ t.tail_elsewhere
 
-  pub tone_there : (t : Tone) → Bits t.prior → Bits t.from → Bits t.to → Stands s o (tone_bytes t) → ToneThere t
-  tone_there t p f u w = record {
+  pub tone_there : (t : Tone) → Bits t.prior → Bits t.from → Bits t.to → Bits t.tail_final → Bits t.tail_elsewhere → Stands s o (tone_bytes t) → ToneThere t
+  tone_there t p f u n e w = record {
     kind = kind w (omega arith);
     whole = w.fits;
     number = w.byte 1 (omega arith);
@@ -48,6 +51,9 @@ module _ (s : List ℕ) (o : ℕ) where
     flag = w.byte 6 (omega arith);
     from = field32 w 7 (omega arith) ∙ le32_back t.from f;
     to = field32 w 11 (omega arith) ∙ le32_back t.to u;
+    tail = w.byte 15 (omega arith);
+    final = let q : o + 15 + 1 ≡ o + 16 = omega arith in rw q (field32 w 16 (omega arith) ∙ le32_back t.tail_final n);
+    elsewhere = let q : o + 15 + 5 ≡ o + 20 = omega arith in rw q (field32 w 20 (omega arith) ∙ le32_back t.tail_elsewhere e);
   }
 
   pub record AccentThere (a : Accent) : Type 0 where

@@ -45,7 +45,7 @@ module _ (s : List ℕ) (src : Source) (v : View) (sheetable : ViewSheetable src
       let t = length v.tones in
       let a = length v.accents in
       then (through_tones s d src v sheetable laid)
-      (then (from (tone_at t) (read_to v lists 18 t 0 0 0 0 0) (through_accents s d src v sheetable laid) (omega arith) refl)
+      (then (from (tone_at t) (read_to v lists 24 t 0 0 0 0 0) (through_accents s d src v sheetable laid) (omega arith) refl)
       (then (from (accent_at v a) (read_to v lists 19 t a 0 0 0 0) (through_rows s d src v sheetable laid some_rows) (omega arith) refl)
       (from (row_at v (rows_of v)) (read_to v lists 20 t a (rows_of v) 0 0 0) (through_lists s d src v sheetable laid) (omega (arith, before_none lists)) (rw (before_none lists)))))
 
