@@ -2,6 +2,7 @@
 use Rattle.std.proofs.lemmas.List.{get_or-map}
 use Rattle.std.proofs.Common.{ℕ, ◌+◌, ◌*◌, ◌<◌, ◌≡◌, refl, sym, ap, ◌∙◌, true, false, List, map, arith, add-one, length, get_or}
 use lib.ListN.{length-map}
+use Rattle.spec_arithmetic.specs.Fields.{byte_at}
 use Rattle.spec_arithmetic.specs.Places.{number_at}
 use Rattle.tonekit_core.proofs.Split.{absurd_bool}
 use Rattle.spec_lookup.specs.Source.{Tone, Accent, settings_at, tone_at, accent_at, absent_tone}
@@ -66,25 +67,28 @@ module _ (s : List ℕ) (b : Bytes s) (st : SheetRead) (e : ℕ) (l : Loads s st
   lists_same = rw rows_are (lists_are s st different o (view_at s st).row (λ r h. look_row s st e l o r false h) (λ r h. look_row s st e l o r true h))
 
   -- ---- its pieces
-  tones_span : Spans s 9 (9 + 15 * length st.tones) (piecewise (tone_piece (view_at s st)) 0 (length (tones_of s st)))
+  tail_there : (i : ℕ) → i < length st.tones → byte_at s (get_or st.tones i 0 + 15) ≡ 24
+  tail_there i h = rw (l.tones i h).place (l.tails i h)
+
+  tones_span : Spans s 9 (9 + 24 * length st.tones) (piecewise (tone_piece (view_at s st)) 0 (length (tones_of s st)))
   tones_span =
       rw (length-map st.tones (tone_at 6 24 s))
-      (gather_spans s (tone_piece (view_at s st)) (λ i. 9 + 15 * i) (length st.tones)
+      (gather_spans s (tone_piece (view_at s st)) (λ i. 9 + 24 * i) (length st.tones)
       (λ i h. let t = l.tones i h in
-      let x : Spans s (get_or st.tones i 0) (9 + 15 * (i + 1)) (tone_bytes (tone_at 6 24 s (get_or st.tones i 0))) = tone_spans s b (get_or st.tones i 0) (9 + 15 * (i + 1)) (omega (arith, t.place)) t.kind in
+      let x : Spans s (get_or st.tones i 0) (9 + 24 * (i + 1)) (tone_bytes (tone_at 6 24 s (get_or st.tones i 0))) = tone_spans s b (get_or st.tones i 0) (9 + 24 * (i + 1)) (omega (arith, t.place)) t.kind (tail_there i h) in
       rw (get_or-map (tone_at 6 24 s) st.tones i 0 absent_tone h, ← t.place) x)
-      9 (9 + 15 * length st.tones) refl refl)
+      9 (9 + 24 * length st.tones) refl refl)
 
-  accents_span : Spans s (9 + 15 * length st.tones) (rows_from st) (piecewise (accent_piece (view_at s st)) 0 (length (accents_of s st)))
+  accents_span : Spans s (9 + 24 * length st.tones) (rows_from st) (piecewise (accent_piece (view_at s st)) 0 (length (accents_of s st)))
   accents_span =
       let t = length st.tones in
       rw (length-map st.accents (accent_at 2 s))
-      (gather_spans s (accent_piece (view_at s st)) (λ i. 9 + 15 * t + 18 * i) (length st.accents)
+      (gather_spans s (accent_piece (view_at s st)) (λ i. 9 + 24 * t + 18 * i) (length st.accents)
       (λ i h. let a = l.accents i h in
-      let x : Spans s (get_or st.accents i 0) (9 + 15 * t + 18 * (i + 1)) (accent_bytes (accent_at 2 s (get_or st.accents i 0))) =
-      accent_spans s b (get_or st.accents i 0) (9 + 15 * t + 18 * (i + 1)) (omega (arith, a.place)) a.kind in
+      let x : Spans s (get_or st.accents i 0) (9 + 24 * t + 18 * (i + 1)) (accent_bytes (accent_at 2 s (get_or st.accents i 0))) =
+      accent_spans s b (get_or st.accents i 0) (9 + 24 * t + 18 * (i + 1)) (omega (arith, a.place)) a.kind in
       rw (get_or-map (accent_at 2 s) st.accents i 0 absent_accent h, ← a.place) x)
-      (9 + 15 * t) (rows_from st) (omega arith) refl)
+      (9 + 24 * t) (rows_from st) (omega arith) refl)
 
   row_span : (r : ℕ) → r < st.rows → Spans s (row_at st r) (row_at st (r + 1)) (row_piece (view_at s st) (contents s st (length st.lists)) r)
   row_span r h =

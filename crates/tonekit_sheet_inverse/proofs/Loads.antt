@@ -1,5 +1,5 @@
 -- What a sheet that loads has: its records one behind the other up to its end, each of its kind, and nothing loose or out of order. Assumes nothing.
-use Rattle.std.proofs.Common.{ℕ, ◌+◌, ◌≤◌, ◌<◌, ◌≡◌, refl, List, arith, length, get_or, ltb, ltb-true, ltb-false}
+use Rattle.std.proofs.Common.{ℕ, ◌+◌, ◌≤◌, ◌<◌, ◌≡◌, refl, ap, List, arith, length, get_or, ltb, ltb-true, ltb-false}
 use Rattle.spec_arithmetic.specs.Fields.{byte_at}
 use Rattle.spec_arithmetic.specs.Places.{number_at}
 use Rattle.tonekit_core.proofs.Split.{split}
@@ -7,15 +7,17 @@ use Rattle.tonekit_pack.proofs.Numbers.{none_before}
 use Rattle.spec_sheet.specs.Reader.{SheetRead, rows_due, row_at, read_sheet, load_sheet, sheet_reader}
 use Rattle.tonekit_sheet_inverse.proofs.Place.{list_place, lists_from}
 use Rattle.spec_arithmetic.specs.Files.{loaded}
+use Rattle.tonekit_sheet.specs.Kinds.{reached}
 use Rattle.tonekit_sheet.proofs.Every.{Every}
 use Rattle.tonekit_sheet.proofs.Records.{Complete, rows_done, list_done, sound, closes}
 use Rattle.tonekit_bytes.proofs.Files.{read_keeps}
 use Rattle.tonekit_sheet.proofs.Turns.{Finished, finished_is, loads_alone}
-use Rattle.tonekit_sheet_inverse.proofs.Kept.{ToneThere, AccentThere, ListThere, PartThere, Kept, keep}
+use Rattle.tonekit_sheet_inverse.proofs.Kept.{ToneThere, TailThere, AccentThere, ListThere, PartThere, Kept, keep}
 
 pub record Loads (s : List ℕ) (st : SheetRead) (e : ℕ) : Type 0 where
   pub begins : byte_at s 0 ≡ 17
   pub tones : Every (ToneThere s) st.tones
+  pub tails : (i : ℕ) → i < length st.tones → TailThere s i
   pub tones_once : (i j : ℕ) → i < j → j < length st.tones → number_at s (get_or st.tones i 0) ≡ number_at s (get_or st.tones j 0) → ⊥
   pub accents : Every (AccentThere s (length st.tones)) st.accents
   pub rows : (r : ℕ) → r < st.rows → byte_at s (row_at st r) ≡ 20
@@ -29,17 +31,19 @@ pub record Loads (s : List ℕ) (st : SheetRead) (e : ℕ) : Type 0 where
 
 module _ (s : List ℕ) (at : ℕ) (st : SheetRead) (p : Kept s at st) where
   -- at the end no component is due
-  done : Complete st → (17 ≤ st.last) × (st.due ≡ 0) × (st.rows ≡ rows_due st)
-  done (rows_done z r) = (omega arith, p.none_due (omega arith), r)
-  done (list_done z d) = (omega arith, d, p.all_rows (omega arith))
+  done : Complete st → (20 ≤ reached st.last) × (st.due ≡ 0) × (st.rows ≡ rows_due st)
+  done (rows_done z r) = let w : reached st.last ≡ 20 = ap reached z in (omega arith, p.none_due (omega arith), r)
+  done (list_done z d) = let w : reached st.last ≡ 22 = ap reached z in (omega arith, d, p.all_rows (omega arith))
 
   close : byte_at s at ≡ 23 → at < length s → Complete st → Finished s st (at + 1) st (at + 1) → Loads s st (at + 1)
   close k l c f =
       let d = done c in
-      let h : at ≡ list_place s (lists_from st) (length st.lists) = omega (arith, p.place d.0, d.1) in
+      let m : st.last ≡ 18 → ⊥ = λ e. omega (arith, ap reached e, d.0) in
+      let h : at ≡ list_place s (lists_from st) (length st.lists) = omega (arith, p.place (omega (arith, d.0)) m, d.1) in
       record {
-        begins = p.begun d.0;
+        begins = p.begun (omega (arith, d.0));
         tones = p.tones;
+        tails = λ i b. p.tails i b (λ e. absurd (m e));
         tones_once = λ i j b g. none_before s st.tones (number_at s (get_or st.tones j 0)) j (omega arith) (p.tones_once j g) i b;
         accents = p.accents;
         rows = p.rows;
@@ -72,9 +76,11 @@ reads s st e h =
       no_rows = λ q. refl;
       no_lists = λ q. refl;
       none_due = λ q. refl;
-      place = λ q. absurd (omega arith);
+      place = λ q n. absurd (omega arith);
+      tail_place = λ q. absurd (omega arith);
       tones = λ i l. absurd (omega arith);
       tones_once = λ i l. absurd (omega arith);
+      tails = λ i l q. absurd (omega arith);
       accents = λ i l. absurd (omega arith);
       rows = λ i l. absurd (omega arith);
       all_rows = λ q. absurd (omega arith);

@@ -2,10 +2,10 @@
 use Rattle.std.proofs.Common.{ℕ, zero, suc, ◌+◌, ◌*◌, ◌≤◌, ◌<◌, ◌≡◌, refl, sym, ap, ◌∙◌, true, List, [], ◌∷◌, ◌++◌, arith, eqb, ltb, length, get_or, length-append, eq-eqb, ltb-true, ltb-false}
 use lib.ListN.{get_or-append}
 use lib.Seq.{get_or-append_seam}
-use Rattle.spec_arithmetic.specs.Fields.{byte_at}
+use Rattle.spec_arithmetic.specs.Fields.{byte_at, u32_at}
 use Rattle.spec_arithmetic.specs.Places.{number_at}
 use Rattle.tonekit_core.proofs.Split.{split}
-use Rattle.spec_lookup.specs.Source.{Carried, settings_at, tone_at, accent_at}
+use Rattle.spec_lookup.specs.Source.{Carried, settings_at, tail_at, tone_at, accent_at}
 use Rattle.spec_lookup.specs.declared.Context.{Context}
 use Rattle.spec_sheet.specs.Agree.{Bytes}
 use Rattle.spec_sheet.specs.Sheet.{settings_bytes, tone_bytes, accent_bytes, row_bytes, bits_bytes, components_bytes, absent_carried, list_bytes}
@@ -51,12 +51,19 @@ module _ (s : List ℕ) (b : Bytes s) where
   pub settings_spans : byte_at s 0 ≡ 17 → Spans s 0 9 (settings_bytes (settings_at s 0))
   settings_spans k = joined (one_spans s 0 1 17 refl k) (joined (word_spans s b 1 5 refl) (word_spans s b 5 9 refl))
 
-  pub tone_spans : (o e : ℕ) → e ≡ o + 15 → byte_at s o ≡ 18 → Spans s o e (tone_bytes (tone_at 6 24 s o))
-  tone_spans o e q k =
-      joined (joined (one_spans s o (o + 1) 18 refl k) (one_spans s (o + 1) (o + 2) (number_at s o) (omega arith) refl))
+  -- a tone with its tail behind it
+  pub tone_spans : (o e : ℕ) → e ≡ o + 24 → byte_at s o ≡ 18 → byte_at s (o + 15) ≡ 24 → Spans s o e (tone_bytes (tone_at 6 24 s o))
+  tone_spans o e q k t =
+      let f : tail_at 24 1 s (o + 15) ≡ u32_at s (o + 15 + 1) = rw t in
+      let g : tail_at 24 5 s (o + 15) ≡ u32_at s (o + 15 + 5) = rw t in
+      rw (f, g)
+      (joined (joined (one_spans s o (o + 1) 18 refl k) (one_spans s (o + 1) (o + 2) (number_at s o) (omega arith) refl))
       (joined (word_spans s b (o + 2) (o + 6) (omega arith))
       (joined (one_spans s (o + 6) (o + 7) (byte_at s (o + 6)) (omega arith) refl)
-      (joined (word_spans s b (o + 7) (o + 11) (omega arith)) (word_spans s b (o + 11) e (omega arith)))))
+      (joined (word_spans s b (o + 7) (o + 11) (omega arith))
+      (joined (word_spans s b (o + 11) (o + 15) (omega arith))
+      (joined (one_spans s (o + 15) (o + 15 + 1) 24 refl t)
+      (joined (word_spans s b (o + 15 + 1) (o + 15 + 5) (omega arith)) (word_spans s b (o + 15 + 5) e (omega arith)))))))))
 
   pub accent_spans : (o e : ℕ) → e ≡ o + 18 → byte_at s o ≡ 19 → Spans s o e (accent_bytes (accent_at 2 s o))
   accent_spans o e q k =
