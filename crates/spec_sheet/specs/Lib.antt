@@ -9,4 +9,3 @@ pub mod JudgeSheet
 pub mod Bench
 pub mod Written
 pub mod OutcomeBench
-pub mod AgreeBench

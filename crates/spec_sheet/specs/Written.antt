@@ -1,13 +1,13 @@
 -- Worked examples, computed: what is one list and what are two, and the sheet of a small source.
-use Rattle.std.specs.Prelude.{ℕ, ◌≡◌, refl, Bool, true, false, cond, List, [], ◌∷◌, ◌++◌, eqb, take, replicate}
+use Rattle.std.specs.Prelude.{ℕ, ◌≡◌, refl, Bool, true, false, cond, List, [], ◌∷◌, ◌++◌, eqb, take, get_or, replicate}
 use Rattle.std.proofs.Math.Option.{Option, none, some}
-use Rattle.std.proofs.Common.{inl, inr}
+use Rattle.std.proofs.Common.{inl, inr, subst, T}
 use Rattle.tonekit_core.specs.declared.layout.TheConstants.{SHEET_ACCENT_CONTOUR, SHEET_TONE_REGION, SHEET_TAIL_KIND}
 use Rattle.tonekit_core.specs.Loop.{turns, range, turns_to, range_to}
-use Rattle.spec_lookup.specs.Source.{Settings, Tone, Accent, Carried, Source, accent_in, tone_in, settings_at, tone_at, accent_at}
+use Rattle.spec_lookup.specs.Source.{Settings, Tone, Accent, Carried, Source, accent_in, tone_in, absent_tone, settings_at, tone_at, accent_at}
 use Rattle.spec_arithmetic.specs.Places.{index_of}
 use Rattle.spec_lookup.specs.declared.Context.{Context}
-use Rattle.spec_sheet.specs.Agree.{Held}
+use Rattle.spec_sheet.specs.Agree.{Held, Agree}
 use Rattle.spec_sheet.specs.Number.{same_carried, same, seen_in, place_in, noted, number_in, same_by}
 use Rattle.spec_sheet.specs.Pieces.{pieces, piecewise}
 use Rattle.spec_sheet.specs.Sheet.{asc_from, ascending, row_context, view_of, lists_of, bits_bytes, components_bytes, bytes_with, sheet}
@@ -279,3 +279,18 @@ held19 : ((source_of_sheet sheet19 read19).settings ≡ settings17)
     × ((source_of_sheet sheet19 read19).accents ≡ accent19 ∷ [])
 unfolding source_of_sheet
 held19 = (refl, refl, refl)
+
+-- ---- "Two packs that differ in a tail value now have different settings": a tail's last bit, and its sign, tell two sources apart
+abbrev ending : ℕ → ℕ → Source
+ending final elsewhere = record {
+  settings = record { temperature = 0; threshold = 0 };
+  tones = record { number = 1; prior = 0; flag = 0; from = 0; to = 0; tail_final = final; tail_elsewhere = elsewhere } ∷ [];
+  accents = accent 3 ∷ [];
+  look = looked;
+}
+
+another_final : Agree (ending 0 0) (ending 1 0) → ⊥
+another_final agree = subst (λ (tones : List Tone). T (eqb (get_or tones 0 absent_tone).tail_final 0)) agree.tones tt
+
+another_elsewhere : Agree (ending 0 0) (ending 0 0x8000_0000) → ⊥
+another_elsewhere agree = subst (λ (tones : List Tone). T (eqb (get_or tones 0 absent_tone).tail_elsewhere 0)) agree.tones tt
