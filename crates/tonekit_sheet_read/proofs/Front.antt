@@ -1,21 +1,21 @@
--- The reader looks at no more than a sheet can hold: inputs with the same first 13,400 bytes give the same answer. Assumes nothing.
-use Rattle.std.proofs.Common.{ℕ, zero, suc, ◌+◌, ◌-◌, ◌*◌, ◌≤◌, ◌<◌, ◌≡◌, refl, ap, ap₂, Bool, true, false, ◌&&◌, ◌||◌, List, arith, length, get_or, take, leb, ltb, leb-true, leb-false, ltb-true, ltb-false, None}
+-- The reader looks at no more than a sheet can hold: inputs with the same first 13,472 bytes give the same answer. Assumes nothing.
+use Rattle.std.proofs.Common.{ℕ, zero, suc, ◌+◌, ◌-◌, ◌*◌, ◌≤◌, ◌<◌, ◌≡◌, refl, ap, ap₂, Bool, true, false, ◌&&◌, ◌||◌, List, arith, length, get_or, take, ltb, ltb-true, ltb-false, None}
 use lib.Ieee.{Float}
 use Rattle.tonekit_core.proofs.LoopLaws.{range_same, to_same}
 use Rattle.spec_arithmetic.specs.Fields.{byte_at}
 use Rattle.tonekit_bytes.proofs.Agreeing.{Agree, taken_agrees, two, four, float}
 use Rattle.spec_arithmetic.specs.Places.{number_at}
-use Rattle.spec_pack.specs.Pack.{settings_verdict}
+use Rattle.spec_pack.specs.Pack.{settings_verdict, tail_verdict}
 use Rattle.tonekit_core.proofs.Split.{split}
 use Rattle.tonekit_bytes.proofs.Files.{Alike, read_same, read_keeps, single_same}
-use Rattle.tonekit_pack.proofs.Front.{region_same, tolerances_same, holds_same, zero_or_same}
+use Rattle.tonekit_pack.proofs.Front.{region_same, tails_same, tolerances_same, holds_same, zero_or_same}
 use Rattle.spec_sheet.specs.Sheet.{accent_place, tone_place, prev_place}
-use Rattle.spec_arithmetic.specs.Files.{loaded, said}
-use Rattle.spec_sheet.specs.Reader.{SheetRead, rows_due, due_next, size_of, tone_verdict, accent_verdict, row_verdict, list_verdict, point_fine, points_fine, component_verdict, body_verdict, record_verdict, added, row_at, loose_row, accent_down, prev_due, row_due, row_names, row_wrong, named, list_size, same_lists, repeated, list_wrong, finished, sheet_reader, read_sheet, load_sheet, check_sheet}
+use Rattle.spec_arithmetic.specs.Files.{loaded}
+use Rattle.spec_sheet.specs.Reader.{SheetRead, rows_due, due_next, size_of, tone_verdict, accent_verdict, row_verdict, list_verdict, point_fine, points_fine, component_verdict, body_verdict, record_verdict, added, row_at, loose_row, accent_down, prev_due, row_due, row_names, row_wrong, named, list_size, same_lists, repeated, list_wrong, finished, sheet_reader, read_sheet, load_sheet}
 use Rattle.tonekit_sheet.specs.Parts.{point_turn, loose_turn, accent_turn, row_turn, names_turn, same_turn, equal_turn, list_turn}
 use Rattle.tonekit_sheet.proofs.RowPlaces.{rows_few, some_tone, row_places}
-use Rattle.tonekit_sheet.proofs.Records.{Complete, Due, due_is, settings, tone, accent, row, list, component, finish, sound, closes}
-use Rattle.tonekit_sheet_read.proofs.Reading.{after_list}
+use Rattle.tonekit_sheet.proofs.Records.{Complete, Due, due_is, settings, tone, tail, accent, row, list, component, finish, sound, closes}
+use Rattle.tonekit_sheet_read.proofs.Reading.{placed_near, after_list}
 use Rattle.tonekit_sheet.proofs.Turns.{steady, finished_is}
 use Rattle.tonekit_sheet_read.proofs.Kept.{ListRead, Kept, kept_start, no_due, keep}
 
@@ -25,14 +25,12 @@ unfolding points_fine
 points_same n t s a o h = range_same (point_turn t o) (point_turn s o) 0 10 true (omega arith) (λ j y l. ap (λ (x : Float). y && point_fine x) (float n t s a (o + 4 * j) (omega arith)))
 
 -- no place is past the one that the limits of the counts give
-near : (s : List ℕ) (at : ℕ) (st : SheetRead) → Kept s at st → at ≤ 13265
+near : (s : List ℕ) (at : ℕ) (st : SheetRead) → Kept s at st → at ≤ 13337
 near s at st p =
     let r : rows_due st ≤ 576 = rows_few (length st.accents) (length st.tones) p.few_accents p.few_tones in
-    split (leb 1 st.last)
-    (λ a. omega (arith, p.placed.place (leb-true 1 st.last a), p.placed.few_rows, p.few_tones, p.few_accents, p.few_lists, p.few_in_all))
-    (λ a. omega (arith, p.placed.first (omega (arith, leb-false 1 st.last a))))
+    omega (arith, placed_near at st p.placed, p.placed.few_rows, p.few_tones, p.few_accents, p.few_lists, p.few_in_all)
 
-module _ (n : ℕ) (t s : List ℕ) (a : Agree n t s) (at : ℕ) (st : SheetRead) (p : Kept s at st) (low : at ≤ 13265) (room : 13400 ≤ n) where
+module _ (n : ℕ) (t s : List ℕ) (a : Agree n t s) (at : ℕ) (st : SheetRead) (p : Kept s at st) (low : at ≤ 13337) (room : 13472 ≤ n) where
   few_rows : st.rows ≤ 576
   few_rows = let r : rows_due st ≤ 576 = rows_few (length st.accents) (length st.tones) p.few_accents p.few_tones in omega (arith, p.placed.few_rows)
 
@@ -55,11 +53,12 @@ module _ (n : ℕ) (t s : List ℕ) (a : Agree n t s) (at : ℕ) (st : SheetRead
 
   -- a record of each kind that is due is the same in both
   body_same : {k : ℕ} → Due st k → body_verdict k t at st ≡ body_verdict k s at st
-  unfolding body_verdict settings_verdict tone_verdict accent_verdict row_verdict list_verdict component_verdict
+  unfolding body_verdict settings_verdict tone_verdict tail_verdict accent_verdict row_verdict list_verdict component_verdict
   body_same (settings e) = rw (four n t s a (at + 1) (omega arith), four n t s a (at + 5) (omega arith))
-  body_same (tone l u) =
+  body_same (tone l u m) =
       rw (a.bytes (at + 1) (omega arith), four n t s a (at + 2) (omega arith), region_same n t s a (at + 6) (omega arith), holds_same n t s a st.tones (number_at s at) tones_seen)
-  body_same (accent l u) =
+  body_same (tail e r) = rw (tails_same n t s a at (omega arith))
+  body_same (accent l u m) =
       rw (a.bytes (at + 1) (omega arith), tolerances_same n t s a (at + 2) (omega arith), holds_same n t s a st.accents (number_at s at) accents_seen)
   body_same (row l u d) =
       rw (a.bytes (at + 1) (omega arith), a.bytes (at + 2) (omega arith), a.bytes (at + 3) (omega arith), holds_same n t s a st.accents (byte_at s (at + 1)) accents_seen, holds_same n t s a st.tones (byte_at s (at + 2)) tones_seen, zero_or_same n t s a st.tones (byte_at s (at + 3)) tones_seen)
@@ -73,8 +72,9 @@ module _ (n : ℕ) (t s : List ℕ) (a : Agree n t s) (at : ℕ) (st : SheetRead
   room_for : {k : ℕ} → Due st k → at + size_of k ≤ n
   unfolding size_of
   room_for (settings e) = omega arith
-  room_for (tone l u) = omega arith
-  room_for (accent l u) = omega arith
+  room_for (tone l u m) = omega arith
+  room_for (tail e r) = omega arith
+  room_for (accent l u m) = omega arith
   room_for (row l u d) = omega arith
   room_for (list c) = omega arith
   room_for (component d) = omega arith
@@ -173,7 +173,7 @@ module _ (n : ℕ) (t s : List ℕ) (a : Agree n t s) (at : ℕ) (st : SheetRead
     unfolding finished
     finished_same e = rw (loose_same, down_same, wrong_same, lists_same)
 
-alike : (n : ℕ) (t s : List ℕ) → Agree n t s → 13400 ≤ n → Alike sheet_reader t s (Kept s)
+alike : (n : ℕ) (t s : List ℕ) → Agree n t s → 13472 ≤ n → Alike sheet_reader t s (Kept s)
 alike n t s a l =
     record {
       kind = λ at st p. a.bytes at (omega (arith, near s at st p));
@@ -183,11 +183,11 @@ alike n t s a l =
       goes = λ at st p v k. let ok = sound s at st v in keep s at st p ok.due ok.body k;
     }
 
-read_agrees : (n : ℕ) (t s : List ℕ) → Agree n t s → 13400 ≤ n → read_sheet t ≡ read_sheet s
+read_agrees : (n : ℕ) (t s : List ℕ) → Agree n t s → 13472 ≤ n → read_sheet t ≡ read_sheet s
 unfolding read_sheet
 read_agrees n t s a l = read_same sheet_reader t s (Kept s) (alike n t s a l) steady refl (kept_start s)
 
-end_near : (s : List ℕ) (st : SheetRead) (e : ℕ) → read_sheet s ≡ loaded st e → e ≤ 13266
+end_near : (s : List ℕ) (st : SheetRead) (e : ℕ) → read_sheet s ≡ loaded st e → e ≤ 13338
 unfolding read_sheet
 end_near s st e h =
     read_keeps sheet_reader s st e (Kept s)
@@ -195,8 +195,8 @@ end_near s st e h =
     (λ at x p v k g. omega (arith, near s at x p, (finished_is s x (at + 1) st e g).ends))
     h (kept_start s)
 
--- what stands past the first 13,400 bytes is no matter but that it is there
-pub front_alone : (s : List ℕ) (n : ℕ) → 13400 ≤ n → load_sheet (take n s) ≡ load_sheet s
+-- what stands past the first 13,472 bytes is no matter but that it is there
+pub front_alone : (s : List ℕ) (n : ℕ) → 13472 ≤ n → load_sheet (take n s) ≡ load_sheet s
 unfolding load_sheet
 front_alone s n l =
     let a = taken_agrees n s in

@@ -1,5 +1,5 @@
 -- What every Sheet keeps, for lemmas that take it as one fact. Assumes nothing.
-use Rattle.std.specs.Prelude.{ℕ, ◌≤◌, ◌≡◌, length}
+use Rattle.std.specs.Prelude.{◌≤◌, ◌≡◌, length}
 use Rattle.tonekit_sheet_read.specs.declared.Sheet.{Sheet}
 
 -- what every Sheet keeps: the format's limits, and the length of its array

@@ -1,7 +1,7 @@
 -- What the reader's struct and answer stand for.
-use Rattle.std.specs.Prelude.{ℕ, ◌≤◌, ◌<◌, ◌≡◌, List, length, Result}
+use Rattle.std.specs.Prelude.{ℕ, ◌≤◌, ◌<◌, ◌≡◌, Result}
 use Rattle.tonekit_core.specs.declared.Rejection.{Rejection}
-use Rattle.tonekit_core.specs.declared.layout.TheConstants.{SETTINGS_SIZE, SHEET_TONE_KIND, SHEET_TONE_SIZE, SHEET_ACCENT_KIND, SHEET_ACCENT_SIZE, SHEET_ROW_KIND}
+use Rattle.tonekit_core.specs.declared.layout.TheConstants.{SETTINGS_SIZE, SHEET_TONE_KIND, SHEET_TONE_STEP, SHEET_ACCENT_KIND, SHEET_ACCENT_SIZE, SHEET_ROW_KIND}
 use Rattle.tonekit_core.specs.declared.layout.TheConstants.{SHEET_LIST_KIND, SHEET_COMPONENT_KIND}
 use Rattle.tonekit_core.specs.Layout.{sheet_tone_at, sheet_accent_at}
 use Rattle.tonekit_bytes.specs.Places.{in_order, stepped}
@@ -9,14 +9,14 @@ use Rattle.tonekit_pack.specs.declared.Loaded.{Loaded}
 use Rattle.tonekit_pack.specs.Format.{answer}
 use Rattle.tonekit_sheet_read.specs.declared.Sheet.{Sheet}
 use Rattle.tonekit_sheet.specs.Kinds.{last_of}
-use Rattle.spec_arithmetic.specs.Files.{Out, loaded}
-use Rattle.spec_sheet.specs.Reader.{SheetRead, read_sheet}
+use Rattle.spec_arithmetic.specs.Files.{Out}
+use Rattle.spec_sheet.specs.Reader.{SheetRead}
 
--- tones and accents stand one behind the other, after the settings
+-- tones, each with its tail, and accents stand one behind the other, after the settings
 abbrev pub records_of : Sheet → SheetRead
 records_of p = record {
   last = last_of p.last;
-  tones = stepped SETTINGS_SIZE SHEET_TONE_SIZE p.tones;
+  tones = stepped SETTINGS_SIZE SHEET_TONE_STEP p.tones;
   accents = stepped (sheet_tone_at p.tones) SHEET_ACCENT_SIZE p.accents;
   rows = p.rows;
   lists = in_order p.lists.at p.lists.count;

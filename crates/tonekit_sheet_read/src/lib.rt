@@ -12,7 +12,7 @@ use tonekit_bytes::places::Offsets;
 use tonekit_sheet::Kind;
 
 // What was read of a sheet: the last kind, how many of each, and the offsets of the lists. Tones,
-// accents and rows stand one behind the other after the settings. The counts keep the format's limits.
+// each with its tail, accents and rows stand one behind the other after the settings. The counts keep the format's limits.
 #[derive(Clone, Copy)]
 pub struct Sheet {
     pub last: Option<Kind>,

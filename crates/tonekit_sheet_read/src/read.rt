@@ -11,7 +11,7 @@ use crate::{Sheet, SheetView};
 use tonekit_bytes::places::{Offsets, index_from};
 use tonekit_bytes::{byte_at, f32_at, u16_at, u32_at};
 use tonekit_core::{Refusal, layout, limits};
-use tonekit_pack::read::{in_turn, settings_verdict};
+use tonekit_pack::read::{in_turn, settings_verdict, tail_verdict};
 use tonekit_ranges::{probability_fine, region_fine, tolerances_fine, weight_fine, within};
 use tonekit_sheet::{Kind, row_count};
 
@@ -72,8 +72,9 @@ impl Sheet {
     {
         match k {
             Kind::Settings => self.last.is_none(),
-            Kind::Tone => matches!(self.last, Some(Kind::Settings | Kind::Tone)),
-            Kind::Accent => matches!(self.last, Some(Kind::Tone | Kind::Accent)),
+            Kind::Tone => matches!(self.last, Some(Kind::Settings | Kind::Tail)),
+            Kind::Tail => matches!(self.last, Some(Kind::Tone)),
+            Kind::Accent => matches!(self.last, Some(Kind::Tail | Kind::Accent)),
             Kind::Row => {
                 matches!(self.last, Some(Kind::Accent | Kind::Row)) & (self.rows < self.rows_due())
             }
@@ -90,7 +91,7 @@ impl Sheet {
     {
         self.last = Some(k);
         match k {
-            Kind::Settings | Kind::End => {}
+            Kind::Settings | Kind::Tail | Kind::End => {}
             Kind::Tone => self.tones += 1,
             Kind::Accent => self.accents += 1,
             Kind::Row => self.rows += 1,
@@ -113,7 +114,7 @@ impl SheetView<'_> {
         ensures { result ≡ index_of self.now.bytes.now (records_of self.now.sheet).tones n }
     {
         let at = layout::SETTINGS_SIZE;
-        index_from(self.bytes, at, layout::SHEET_TONE_SIZE, self.sheet.tones, n)
+        index_from(self.bytes, at, layout::SHEET_TONE_STEP, self.sheet.tones, n)
     }
 
     // The place of the accent with number n, or none.
@@ -234,6 +235,7 @@ impl SheetView<'_> {
         match k {
             Kind::Settings => settings_verdict(self.bytes, o),
             Kind::Tone => self.tone_verdict(o),
+            Kind::Tail => tail_verdict(self.bytes, o),
             Kind::Accent => self.accent_verdict(o),
             Kind::Row => self.row_verdict(o),
             Kind::List => self.list_verdict(o),
