@@ -1,7 +1,6 @@
 -- Bits of an f32 and back: a weight that is fine keeps its bits, and a point within its range has bits that are those of a point.
-use Rattle.std.proofs.Common.{ℕ, zero, suc, ◌+◌, ◌-◌, ◌*◌, ◌<◌, ◌≡◌, refl, sym, ◌∙◌, ap, subst, Bool, true, false, not, ◌&&◌, List, [], ◌∷◌, ◌++◌, map, mod-eq_of_lt, arith, T, eqb, ltb, pos, length, get_or, length-append, Float, to_bits, ltb-true, le-ltb}
+use Rattle.std.proofs.Common.{ℕ, zero, suc, ◌+◌, ◌-◌, ◌*◌, ◌<◌, ◌≡◌, sym, ◌∙◌, ap, subst, Bool, true, false, not, ◌&&◌, List, [], ◌∷◌, ◌++◌, mod-eq_of_lt, arith, T, eqb, ltb, pos, length, get_or, Float, to_bits, ltb-true, le-ltb}
 use Rattle.std.proofs.lemmas.List.{get_or-map}
-use lib.ListN.{length-map}
 use lib.Ieee.{nan, fin, binary32, le, fits, of_bits}
 use lib.Ieee.Bits.{is_true, of_bits-to_bits, to_bits-lt, of_bits-fits, to_bits-of_bits, nan_bits_is, nan_bits_above}
 use lib.Ieee.Fits.{and_i, cond-fits, nan-fits}

@@ -1,13 +1,13 @@
 -- Where a lookup's listing comes from in a pack that loads: a rule, under the accent that it stands behind, or a tone's citation, under a held accent.
 use Rattle.std.specs.Prelude.{Option}
 use Rattle.spec_lookup.specs.declared.Winner.{Winner}
-use Rattle.std.proofs.Common.{ℕ, zero, suc, ◌+◌, ◌≤◌, ◌<◌, ◌≡◌, refl, cond, List, arith, eqb, leb, ltb, length, get_or, eqb-true, ltb-true, lt-ltb, le-leb}
+use Rattle.std.proofs.Common.{ℕ, zero, suc, ◌+◌, ◌≤◌, ◌<◌, ◌≡◌, refl, cond, List, arith, eqb, leb, length, get_or, eqb-true, lt-ltb, le-leb}
 use borrow.Author.Tests.{eqb-false, lt-leb}
 use Rattle.spec_arithmetic.specs.Fields.{byte_at}
 use Rattle.spec_arithmetic.specs.Places.{index_of, number_at}
 use Rattle.spec_pack.specs.Pack.{PackRead}
 use Rattle.tonekit_core.proofs.Split.{split}
-use Rattle.tonekit_pack.proofs.Loads.{Loads, firsts_ascend, firsts_bound}
+use Rattle.tonekit_pack.proofs.Loads.{Loads, firsts_ascend}
 use Rattle.std.specs.Prelude.{Some, None}
 use Rattle.spec_lookup.specs.declared.Context.{Context}
 use Rattle.spec_lookup.specs.declared.Listing.{Listing}

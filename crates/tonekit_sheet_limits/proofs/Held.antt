@@ -3,17 +3,19 @@ use Rattle.std.proofs.Common.{ℕ, zero, suc, ◌+◌, ◌<◌, ◌≡◌, refl,
 use Rattle.std.proofs.lemmas.List.{get_or-map}
 use mathlib.Core.Option.{some}
 use lib.ListN.{length-map}
-use Rattle.spec_arithmetic.specs.Fields.{f32_at}
+use lib.Ieee.{le, of_bits}
+use Rattle.spec_arithmetic.specs.Fields.{byte_at, f32_at}
 use Rattle.tonekit_bytes.proofs.Fields.{u32_below}
 use Rattle.spec_arithmetic.specs.Places.{number_at}
-use Rattle.spec_pack.specs.Ranges.{above_zero, region_fine, tolerances_fine}
+use Rattle.spec_pack.specs.Ranges.{above_zero, region_fine, tail_fine, tails_fine, tolerances_fine}
 use Rattle.spec_pack.specs.Pack.{PackRead}
+use borrow.Author.Tests.{eqb-true}
 use Rattle.tonekit_core.proofs.Split.{split, both}
 use Rattle.tonekit_pack.proofs.Loads.{ToneFine, AccentFine, Loads, tones_once, accents_once}
-use Rattle.spec_lookup.specs.Source.{Tone, Accent, settings_at, tone_at, accent_at, accent_in, absent_tone}
+use Rattle.spec_lookup.specs.Source.{Tone, Accent, settings_at, tail_at, tone_at, accent_at, accent_in, absent_tone}
 use Rattle.spec_sheet.specs.Agree.{Bytes}
 use Rattle.spec_sheet.specs.Sheet.{absent_accent}
-use Rattle.tonekit_sheet.specs.Sheetable.{SettingsSheetable, region_sheetable, ToneSheetable, AccentSheetable}
+use Rattle.tonekit_sheet.specs.Sheetable.{Bits, f32, SettingsSheetable, region_sheetable, ToneSheetable, AccentSheetable}
 
 module _ (s : List ℕ) (b : Bytes s) where
   region_sheetable_lem : (o : ℕ) → region_fine s (o + 47) ≡ true → region_sheetable (tone_at 47 7 s o) ≡ true
@@ -22,6 +24,21 @@ module _ (s : List ℕ) (b : Bytes s) where
       let p : o + 47 + 1 ≡ o + 48 = omega arith in
       let q : o + 47 + 5 ≡ o + 52 = omega arith in
       rw (p, q) at h
+
+  -- a tail's values: those that stand there, else zeros
+  tail_bits : (v o : ℕ) → Bits (tail_at 7 v s o)
+  tail_bits v o = split (eqb (byte_at s o) 7) (λ t. rw t (u32_below s b (o + v))) (λ t. rw t (omega arith))
+
+  tail_zero : tail_fine (f32 0) ≡ true
+  unfolding tail_fine le of_bits
+  tail_zero = refl
+
+  tail_sheetable : (v o : ℕ) → (byte_at s o ≡ 7 → tail_fine (f32_at s (o + v)) ≡ true) → tail_fine (f32 (tail_at 7 v s o)) ≡ true
+  tail_sheetable v o h = split (eqb (byte_at s o) 7) (λ t. rw t (h (eqb-true (byte_at s o) 7 t))) (λ t. rw t tail_zero)
+
+  tails : (o : ℕ) → tails_fine s o ≡ true → (tail_fine (f32_at s (o + 1)) ≡ true) × (tail_fine (f32_at s (o + 5)) ≡ true)
+  unfolding tails_fine
+  tails o h = both (tail_fine (f32_at s (o + 1))) (tail_fine (f32_at s (o + 5))) h
 
   tone_sheetable : (before : List ℕ) (o : ℕ) → ToneFine s before o → ToneSheetable (tone_at 47 7 s o)
   tone_sheetable before o t = record {
@@ -32,6 +49,10 @@ module _ (s : List ℕ) (b : Bytes s) where
     from_bits = u32_below s b (o + 48);
     to_bits = u32_below s b (o + 52);
     region = region_sheetable_lem o t.region;
+    tail_final_bits = tail_bits 1 (o + 56);
+    tail_elsewhere_bits = tail_bits 5 (o + 56);
+    tail_final = tail_sheetable 1 (o + 56) (λ k. (tails (o + 56) (t.tail k)).0);
+    tail_elsewhere = tail_sheetable 5 (o + 56) (λ k. (tails (o + 56) (t.tail k)).1);
   }
 
   accent_sheetable : (before : List ℕ) (o : ℕ) → AccentFine s before o → AccentSheetable (accent_at 3 s o)

@@ -7,7 +7,8 @@ use Rattle.spec_arithmetic.specs.Fields.{byte_at}
 use Rattle.spec_arithmetic.specs.Files.{loaded}
 use Rattle.spec_pack.specs.Pack.{PackRead, size_of, body_verdict, added, parts_from, pack_reader, read_pack}
 use Rattle.tonekit_core.proofs.Split.{split}
-use Rattle.tonekit_pack.proofs.Records.{Due, settings, tone, accent, rule, part, finish, part_room, sound, end_loads}
+use Rattle.tonekit_pack.proofs.Records.{Due, settings, tone, tail, accent, rule, part, finish, part_room, sound, end_loads}
+use Rattle.tonekit_pack.specs.Going.{reached}
 use Rattle.tonekit_pack.proofs.Loads.{loads, parts_miss}
 use Rattle.tonekit_expect.proofs.Parts.{parts_hit}
 use Rattle.tonekit_bytes.proofs.Files.{read_keeps, same_loaded}
@@ -30,21 +31,22 @@ parts_snoc s rules o =
 
 -- what every turn keeps: behind a rule or a part the parts that stand here are still to be counted, else all are counted
 record Counted (s : List ℕ) (at : ℕ) (st : PackRead) : Type 0 where
-  open_rule : 4 ≤ st.last → parts_in s st.rules ≡ st.total + parts_from (4 - st.parts) s at
-  closed : st.last < 4 → parts_in s st.rules ≡ st.total
+  open_rule : 4 ≤ reached st.last → parts_in s st.rules ≡ st.total + parts_from (4 - st.parts) s at
+  closed : reached st.last < 4 → parts_in s st.rules ≡ st.total
 
 -- at a record that is no part all are counted
 all_counted : (s : List ℕ) (at : ℕ) (st : PackRead) → (byte_at s at ≡ 5 → ⊥) → Counted s at st → parts_in s st.rules ≡ st.total
 all_counted s at st n c =
-    split (ltb st.last 4)
-    (λ t. c.closed (ltb-true st.last 4 t))
-    (λ t. omega (arith, c.open_rule (ltb-false st.last 4 t), parts_miss (4 - st.parts) s at n))
+    split (ltb (reached st.last) 4)
+    (λ t. c.closed (ltb-true (reached st.last) 4 t))
+    (λ t. omega (arith, c.open_rule (ltb-false (reached st.last) 4 t), parts_miss (4 - st.parts) s at n))
 
 count : (s : List ℕ) (at : ℕ) (st : PackRead) {k : ℕ} → Due st.last k → byte_at s at ≡ k → body_verdict k s at st ≡ Ok tt → (k ≡ 6 → ⊥)
     → Counted s at st → Counted s (at + size_of k) (added k at st)
 unfolding added size_of
 count s at st (settings z) k b n c = record { open_rule = λ h. absurd (omega arith); closed = λ h. all_counted s at st (λ q. omega arith) c }
 count s at st (tone l u) k b n c = record { open_rule = λ h. absurd (omega arith); closed = λ h. all_counted s at st (λ q. omega arith) c }
+count s at st (tail e r) k b n c = record { open_rule = λ h. absurd (omega arith); closed = λ h. all_counted s at st (λ q. omega arith) c }
 count s at st (accent l u) k b n c = record { open_rule = λ h. absurd (omega arith); closed = λ h. all_counted s at st (λ q. omega arith) c }
 count s at st (rule l u) k b n c = record { open_rule = λ h. omega (arith, parts_snoc s st.rules at, all_counted s at st (λ q. omega arith) c); closed = λ h. absurd (omega arith) }
 count s at st (part l u) k b n c =

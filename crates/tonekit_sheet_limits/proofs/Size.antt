@@ -1,4 +1,4 @@
--- "13,266 bytes always suffice": the length of the sheet of a pack that loads.
+-- "13,338 bytes always suffice": the length of the sheet of a pack that loads.
 use Rattle.std.proofs.Common.{ℕ, zero, suc, ◌+◌, ◌-◌, ◌*◌, ◌/◌, ◌%◌, ◌≤◌, ◌<◌, ◌≡◌, refl, ◌∙◌, ap, List, [], ◌∷◌, ◌++◌, map, mul-le-mul, add-one, arith, eqb, length, drop, length-append, drop_of_length-le, drop-cons, eqb-true}
 use mathlib.Core.Option.{Option, none, some}
 use lib.ListN.{length-map}
@@ -12,9 +12,9 @@ use Rattle.spec_lookup.specs.Lookup.{component_of}
 use Rattle.spec_lookup.specs.Source.{Accent, Carried, accent_in, carried, components, tone_at, accent_at, source_of_pack}
 use Rattle.spec_sheet.specs.Pieces.{pieces, piecewise}
 use Rattle.tonekit_sheet.proofs.Gather.{gather_length}
-use Rattle.spec_sheet.specs.Sheet.{or_skip, asc_from, ascending, View, rows_of, view_of, lists_of, bits_bytes, components_bytes, bytes_with, sheet}
+use Rattle.spec_sheet.specs.Sheet.{or_skip, asc_from, ascending, View, rows_of, view_of, lists_of, components_bytes, bytes_with, sheet}
 use Rattle.tonekit_sheet.proofs.Components.{component_length, components_snoc}
-use Rattle.tonekit_sheet.specs.Parts.{bytes_of, tone_piece, accent_piece, row_piece, list_piece, component_bytes}
+use Rattle.tonekit_sheet.specs.Parts.{tone_piece, accent_piece, row_piece, list_piece, component_bytes}
 use Rattle.tonekit_sheet_limits.specs.Room.{Suffices}
 use Rattle.tonekit_sheet_limits.proofs.Budget.{sum_scaled, weigh}
 use Rattle.tonekit_expect.proofs.Carried.{carried_ten}
@@ -103,7 +103,7 @@ module _ (v : View) (lists : List (List Carried)) (few_tones : length v.tones �
         length-append accents (rows ++ (own ++ (23 ∷ []))),
         length-append rows (own ++ (23 ∷ [])),
         length-append own (23 ∷ []),
-        gather_length (tone_piece v) 15 (λ i. refl) 0 (length v.tones),
+        gather_length (tone_piece v) 24 (λ i. refl) 0 (length v.tones),
         gather_length (accent_piece v) 18 (λ i. refl) 0 (length v.accents),
         gather_length (row_piece v lists) 6 (λ i. refl) 0 (rows_of v),
       )
@@ -130,6 +130,6 @@ module _ (s : List ℕ) (st : PackRead) (e : ℕ) (p : read_pack s ≡ loaded st
       bytes_most v (lists_of v) (omega (arith, l.kept.few_tones, length-map st.tones (tone_at 47 7 s)))
       (omega (arith, l.kept.few_accents, length-map st.accents (accent_at 3 s), few_ascending (map (accent_at 3 s) st.accents))) lists_most
 
--- "13,266 bytes always suffice"
+-- "13,338 bytes always suffice"
 pub suffices : Suffices SHEET_MOST
 suffices = record { number = refl; enough = sheet_most_lem }
