@@ -1,10 +1,9 @@
 -- Lists of curves that are the same in every bit, compared step by step. Assumes nothing.
-use Rattle.std.proofs.Common.{ℕ, zero, suc, ◌+◌, ◌-◌, ◌<◌, ◌≡◌, refl, sym, ◌∙◌, ap, Bool, true, false, not, cond, ◌&&◌, List, [], ◌∷◌, ◌++◌, map, arith, add-one, eqb, length, length-append, Float, to_bits, eq-eqb, ne_eqb, eqb-true}
+use Rattle.std.proofs.Common.{ℕ, zero, suc, ◌+◌, ◌-◌, ◌<◌, ◌≡◌, refl, sym, ◌∙◌, ap, Bool, true, false, not, cond, ◌&&◌, List, [], ◌∷◌, ◌++◌, map, arith, add-one, eqb, length, Float, to_bits, eq-eqb, ne_eqb, eqb-true}
 use lib.Ieee.{binary32}
 use Rattle.tonekit_core.proofs.Split.{split, both}
 use Rattle.spec_lookup.specs.declared.Component.{Component}
 use Rattle.spec_lookup.specs.declared.Listing.{Listing}
-use Rattle.spec_lookup.specs.Knots.{first_points}
 use Rattle.spec_lookup.specs.Lookup.{component_of}
 use Rattle.spec_lookup.specs.Source.{Carried, carried, components}
 use Rattle.tonekit_expect.proofs.Carried.{named, part_number, components_length, component_ten}

@@ -1,18 +1,18 @@
 -- Every listing that a lookup in a pack that loads gives is found again from its owner and its record, and can be read. Assumes nothing.
 use Rattle.std.specs.Prelude.{Option}
 use Rattle.spec_lookup.specs.declared.Winner.{Winner}
-use Rattle.std.proofs.Common.{ℕ, ◌+◌, ◌-◌, ◌≤◌, ◌<◌, ◌≡◌, refl, subst, List, arith, eqb, ltb, length, get_or, eq-eqb, ne_eqb, ltb-true}
+use Rattle.std.proofs.Common.{ℕ, ◌+◌, ◌-◌, ◌≤◌, ◌<◌, ◌≡◌, refl, subst, List, arith, eqb, length, get_or, eq-eqb, ne_eqb}
 use Rattle.tonekit_core.specs.declared.layout.TheConstants.{TONE_KNOT_COUNT, RULE_KIND, RULE_SIZE, RULE_FORM}
 use Rattle.spec_arithmetic.specs.Fields.{byte_at}
 use Rattle.spec_arithmetic.specs.Places.{index_of, number_at}
 use Rattle.spec_arithmetic.specs.Files.{loaded}
 use Rattle.spec_pack.specs.Pack.{PackRead, read_pack}
 use Rattle.tonekit_core.proofs.Split.{split}
-use Rattle.tonekit_pack.proofs.Loads.{RuleFine, Loads, loads, firsts_bound}
+use Rattle.tonekit_pack.proofs.Loads.{RuleFine, Loads, loads}
 use Rattle.std.specs.Prelude.{Some, None}
 use Rattle.spec_lookup.specs.declared.Context.{Context}
 use Rattle.spec_lookup.specs.declared.Listing.{Listing}
-use Rattle.spec_lookup.specs.Lookup.{to_rule, find_rule, rule_listing, citation, listed, look_at, look_up}
+use Rattle.spec_lookup.specs.Lookup.{find_rule, rule_listing, citation, listed, look_at, look_up}
 use Rattle.tonekit_bytes.proofs.Searched.{index_found}
 use Rattle.tonekit_expect.proofs.Walk.{winner_is}
 use Rattle.tonekit_expect.proofs.Curves.{listed_fine, rule_fine}

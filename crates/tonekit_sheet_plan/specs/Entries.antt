@@ -5,7 +5,7 @@ use Rattle.spec_lookup.specs.declared.Listing.{Listing}
 use Rattle.spec_sheet.specs.Number.{seen_in, place_in}
 use Rattle.tonekit_sheet_plan.specs.declared.Entry.{Entry}
 use Rattle.tonekit_sheet_plan.specs.declared.Known.{Known}
-use Rattle.tonekit_sheet_plan.specs.Listings.{carried_by, record_of, listing_from, Kept}
+use Rattle.tonekit_sheet_plan.specs.Listings.{carried_by, listing_from, Kept}
 use Rattle.tonekit_sheet_plan.specs.Marks.{mark_of}
 
 -- the listing of each
