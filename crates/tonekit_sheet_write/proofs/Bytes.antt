@@ -26,7 +26,6 @@ use Rattle.tonekit_sheet_plan.specs.declared.Entry.{Entry}
 use Rattle.tonekit_sheet_plan.specs.Rows.{pack_view, tones_of, accents_at, Ordered}
 use Rattle.tonekit_sheet_plan.specs.Listings.{carried_by, Kept}
 use Rattle.tonekit_sheet_plan.specs.Entries.{list_at, planned}
-use Rattle.tonekit_sheet_plan.proofs.Alike.{points_ten}
 use Rattle.tonekit_sheet_plan.proofs.Memo.{planned_get}
 use Rattle.tonekit_sheet_plan.proofs.Views.{view_tones, view_sorted}
 use Rattle.tonekit_sheet_write.specs.Pieces.{head_of, component_piece, planned_list, components_part}

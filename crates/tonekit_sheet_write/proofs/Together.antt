@@ -1,6 +1,6 @@
 -- The whole sheet of a pack: its parts one behind the other, its length, and what the writer answers. Assumes nothing.
 use Rattle.std.proofs.Common.{ℕ, ◌+◌, ◌-◌, ◌*◌, ◌≤◌, ◌<◌, ◌≡◌, refl, ◌∙◌, ap, ap₂, List, [], ◌∷◌, ◌++◌, arith, length, get_or, length-append}
-use Rattle.tonekit_core.specs.declared.layout.TheConstants.{SHEET_TONE_SIZE, SHEET_ACCENT_SIZE, SHEET_ROW_SIZE, SHEET_END_KIND, SHEET_END_SIZE}
+use Rattle.tonekit_core.specs.declared.layout.TheConstants.{SHEET_TONE_STEP, SHEET_ACCENT_SIZE, SHEET_ROW_SIZE, SHEET_END_KIND, SHEET_END_SIZE}
 use Rattle.tonekit_core.specs.Layout.{sheet_row_at}
 use Rattle.tonekit_bytes.proofs.InOrder.{order_length}
 use Rattle.tonekit_pack.specs.Held.{records_of}
@@ -9,7 +9,7 @@ use Rattle.spec_lookup.specs.Source.{Carried, tone_at, accent_at, settings_at, s
 use Rattle.spec_sheet.specs.Pieces.{piecewise, Wrote}
 use Rattle.tonekit_sheet.proofs.Gather.{gather_length, gather_more, gather_none, joined, room_first, room_then}
 use Rattle.spec_sheet.specs.Sheet.{view_of, absent_accent, settings_bytes, tone_bytes, accent_bytes, row_count, rows_of, lists_of, bytes_with, sheet}
-use Rattle.tonekit_sheet.specs.Parts.{bytes_of, row_piece}
+use Rattle.tonekit_sheet.specs.Parts.{row_piece}
 use Rattle.tonekit_sheet_plan.specs.Rows.{pack_view, Ordered}
 use Rattle.tonekit_sheet_plan.proofs.Views.{view_tones, view_sorted, view_rows}
 use Rattle.tonekit_sheet_write.specs.Pieces.{settings_made, tone_made, accent_made, records_part, planned_list, lists_part}
@@ -59,7 +59,7 @@ module _ (s : List ℕ) (p : Pack) (os : List ℕ) (n : ℕ) (its : List (List C
     pub sheet_length : (r o z : ℕ) → r ≡ row_count n p.tones.count → o ≡ sheet_row_at p.tones.count n r → z ≡ length E → o + z + SHEET_END_SIZE ≡ length Whole
     sheet_length r o z h at k =
         let t = order_length p.tones.at p.tones.count in
-        let b : length B ≡ SHEET_TONE_SIZE * (length (records_of p).tones - 0) = gather_length (λ i. tone_made s (get_or (records_of p).tones i 0)) SHEET_TONE_SIZE (λ i. refl) 0 (length (records_of p).tones) in
+        let b : length B ≡ SHEET_TONE_STEP * (length (records_of p).tones - 0) = gather_length (λ i. tone_made s (get_or (records_of p).tones i 0)) SHEET_TONE_STEP (λ i. refl) 0 (length (records_of p).tones) in
         let c : length C ≡ SHEET_ACCENT_SIZE * (length os - 0) = gather_length (λ i. accent_made s (get_or os i 0)) SHEET_ACCENT_SIZE (λ i. refl) 0 (length os) in
         let d : length D ≡ SHEET_ROW_SIZE * (row_count n p.tones.count - 0) = gather_length (row_piece (pack_view s (records_of p)) its) SHEET_ROW_SIZE (λ i. refl) 0 (row_count n p.tones.count) in
         omega

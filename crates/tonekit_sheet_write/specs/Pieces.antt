@@ -1,13 +1,13 @@
 -- The pieces of a pack's sheet, as they are written.
 use Rattle.std.specs.Prelude.{ℕ, ◌+◌, ◌*◌, ◌≤◌, ◌≡◌, List, [], ◌∷◌, ◌++◌, length, get_or}
 use Rattle.std.proofs.lemmas.List.Edits.{sets}
-use Rattle.tonekit_core.specs.declared.layout.TheConstants.{ACCENT_CONTOUR, TONE_REGION}
+use Rattle.tonekit_core.specs.declared.layout.TheConstants.{ACCENT_CONTOUR, TONE_REGION, TAIL_KIND}
 use Rattle.tonekit_core.specs.declared.layout.TheConstants.{SHEET_LIST_KIND, SHEET_LIST_SIZE, SHEET_COMPONENT_SIZE}
 use Rattle.spec_arithmetic.specs.Fields.{le16}
 use Rattle.spec_lookup.specs.Lookup.{component_of}
 use Rattle.spec_lookup.specs.Source.{Carried, carried, settings_at, tone_at, accent_at}
 use Rattle.spec_lookup.specs.declared.Listing.{Listing}
-use Rattle.spec_sheet.specs.Sheet.{settings_bytes, tone_bytes, accent_bytes}
+use Rattle.spec_sheet.specs.Sheet.{settings_bytes, tail_bytes, tone_bytes, accent_bytes}
 use Rattle.tonekit_sheet.specs.Parts.{list_piece, component_bytes}
 use Rattle.spec_sheet.specs.Pieces.{piecewise}
 
@@ -28,6 +28,10 @@ tone_made s o = tone_bytes (tone_at TONE_REGION TAIL_KIND s o)
 
 abbrev pub accent_made : List ℕ → ℕ → List ℕ
 accent_made s o = accent_bytes (accent_at ACCENT_CONTOUR s o)
+
+-- and of the tail that may follow the tone that stands there
+abbrev pub tail_made : List ℕ → ℕ → List ℕ
+tail_made s o = tail_bytes (tone_at TONE_REGION TAIL_KIND s o)
 
 -- what is made of the records at these offsets, one behind the other
 abbrev pub records_part : (List ℕ → ℕ → List ℕ) → List ℕ → List ℕ → List ℕ

@@ -1,9 +1,9 @@
 // The records of a sheet, each written to the front of what is lent.
-ghost use Rattle.std.specs.Prelude.{◌≡◌, ◌≤◌, List, ℕ, length};
-ghost use Rattle.tonekit_core.specs.declared.layout.TheConstants.{SHEET_ROW_SIZE, SHEET_LIST_SIZE, SHEET_COMPONENT_SIZE};
+ghost use Rattle.std.specs.Prelude.{◌≡◌, ◌+◌, ◌≤◌, ◌<◌, List, ℕ, length};
+ghost use Rattle.tonekit_core.specs.declared.layout.TheConstants.{TONE_SIZE, TAIL_KIND, TAIL_SIZE, SHEET_ROW_SIZE, SHEET_LIST_SIZE, SHEET_COMPONENT_SIZE};
 ghost use Rattle.spec_sheet.specs.Sheet.{row_bytes};
-ghost use Rattle.spec_lookup.specs.Source.{carried};
-ghost use Rattle.tonekit_sheet_write.specs.Pieces.{Fronted, head_of, settings_made, tone_made, accent_made};
+ghost use Rattle.spec_lookup.specs.Source.{carried, tail_at};
+ghost use Rattle.tonekit_sheet_write.specs.Pieces.{Fronted, head_of, settings_made, tail_made, tone_made, accent_made};
 ghost use Rattle.tonekit_sheet.specs.Parts.{component_bytes};
 
 use tonekit_bytes::{byte_at, put_f32, put_f32s, put_u8, put_u16, put_u32, u32_at};
@@ -39,7 +39,33 @@ impl Record for Settings {
     }
 }
 
-// A tone: number, prior and region.
+// A value of the tail that may follow the pack's tone at o, by its bits: 0 where none follows.
+fn tail_bits(s: &[u8], o: usize, value: usize) -> u32
+    requires { value < TAIL_SIZE }
+    ensures { result ≡ tail_at TAIL_KIND value s.now (o + TONE_SIZE) }
+{
+    if byte_at(s, o, layout::TONE_SIZE) == layout::TAIL_KIND {
+        u32_at(s, o, layout::TONE_SIZE + value)
+    } else {
+        0
+    }
+}
+
+// The tail of the pack's tone at o: both values, bit for bit.
+fn put_tail(s: &[u8], o: usize, out: &mut [u8])
+    requires { TAIL_SIZE ≤ length out.old }
+    ensures { Fronted (tail_made s.now o) out.old out.new }
+{
+    put_u8(out, 0, layout::SHEET_TAIL_KIND);
+    put_u32(out, layout::TAIL_FINAL, tail_bits(s, o, layout::TAIL_FINAL));
+    put_u32(
+        out,
+        layout::TAIL_ELSEWHERE,
+        tail_bits(s, o, layout::TAIL_ELSEWHERE),
+    );
+}
+
+// A tone: number, prior and region, and its tail.
 #[derive(Drop)]
 pub struct Tone;
 
@@ -65,7 +91,8 @@ impl Record for Tone {
             u32_at(s, o, layout::TONE_FROM),
         );
         put_u32(out, layout::SHEET_TONE_TO, u32_at(s, o, layout::TONE_TO));
-        layout::SHEET_TONE_SIZE
+        put_tail(s, o, &mut out[layout::SHEET_TONE_SIZE..]);
+        layout::SHEET_TONE_STEP
     }
 }
 
