@@ -1,4 +1,4 @@
--- The turns of `targets_of` by a name, and that a target that is placed leaves all of them placed. Assumes nothing.
+-- The turns of `targets_of` by a name, and that targets of which each is placed are held. Assumes nothing.
 use Rattle.std.specs.Prelude.{Option, None}
 use Rattle.std.specs.Option.{option_map_or}
 use Rattle.std.specs.Float.{nan}
@@ -21,23 +21,33 @@ no_targets = record { items = [] }
 abbrev no_target : Target
 no_target = record { place = 0; weight = nan }
 
-pub placed_none : (tones : ℕ) → TargetsHeld tones no_targets
-placed_none tones = record { few = omega arith; each = λ k h. absurd (omega arith) }
-
-module _ (tones : ℕ) (t : Target) (g : Targets) (p : TargetsHeld tones g) (room : length g.items < 5) (inside : t.place < tones) where
-  here : (k : ℕ) → k ≡ length g.items → (get_or (g.items ++ t ∷ []) k no_target).place < tones
-  here k q = rw (q, get_or-append_seam g.items t [] no_target) inside
-
-  before : (k : ℕ) → k < length g.items → (get_or (g.items ++ t ∷ []) k no_target).place < tones
-  before k h = rw (get_or-append g.items (t ∷ []) no_target k h) (p.each k h)
-
-  pub placed_more : (r : Targets) → r.items ≡ g.items ++ t ∷ [] → TargetsHeld tones r
-  placed_more r e = record {
-    few = rw (e, length-append) (omega (arith, room));
+module _ (tones : ℕ) (t : Target) (inside : t.place < tones) where
+  -- the main tone alone
+  pub placed_first : (r : Targets) → r.items ≡ t ∷ [] → TargetsHeld tones r
+  placed_first r e = record {
+    some = rw e (omega arith);
+    few = rw e (omega arith);
     each = λ k h.
-        let l : k < length (g.items ++ t ∷ []) = rw e at h in
-        rw e (⊎_elim (λ q. here k q) (λ q. before k q) (eq-or-lt_of_le {n = k} {m = length g.items} (omega (arith, simp length-append at l))));
+        let l : k < 1 = rw e at h in
+        let q : k ≡ 0 = omega arith in
+        rw (e, q) inside;
   }
+
+  module _ (g : Targets) (p : TargetsHeld tones g) (room : length g.items < 5) where
+    here : (k : ℕ) → k ≡ length g.items → (get_or (g.items ++ t ∷ []) k no_target).place < tones
+    here k q = rw (q, get_or-append_seam g.items t [] no_target) inside
+
+    before : (k : ℕ) → k < length g.items → (get_or (g.items ++ t ∷ []) k no_target).place < tones
+    before k h = rw (get_or-append g.items (t ∷ []) no_target k h) (p.each k h)
+
+    pub placed_more : (r : Targets) → r.items ≡ g.items ++ t ∷ [] → TargetsHeld tones r
+    placed_more r e = record {
+      some = rw (e, length-append) (omega arith);
+      few = rw (e, length-append) (omega (arith, room));
+      each = λ k h.
+          let l : k < length (g.items ++ t ∷ []) = rw e at h in
+          rw e (⊎_elim (λ q. here k q) (λ q. before k q) (eq-or-lt_of_le {n = k} {m = length g.items} (omega (arith, simp length-append at l))));
+    }
 
 -- a vector that ends with one more target is the targets with it
 pub with_pushed : (t : Target) (g r : Targets) → length g.items < 5 → r.items ≡ g.items ++ t ∷ [] → with_target t g ≡ r

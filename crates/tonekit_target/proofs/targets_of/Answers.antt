@@ -2,7 +2,7 @@
 use Rattle.std.proofs.Common.{rules, refl, add-one, arith, ◌+◌, ◌≤◌, ◌<◌, length}
 use Rattle.tonekit_core.proofs.LoopLaws.{to_again, to_stop, to_ended}
 use Rattle.spec_judgement.specs.Target.{main_weight, targets_of}
-use Rattle.tonekit_target.proofs.Places.{placed_none, placed_more, with_pushed, no_targets, aim_turn}
+use Rattle.tonekit_target.proofs.Places.{placed_first, placed_more, with_pushed, no_targets, aim_turn}
 use Rattle.tonekit_target.proofs.targets_of.Goals as goal
 
 pub returns-in_err-target_of : goal.returns-in_err-target_of
@@ -22,7 +22,7 @@ loop-i-init c =
     record {
       few = omega arith;
       so_many = rw c.new-g.ensures at c.push.ensures.len;
-      placed = placed_more _ c.in_ok-target_of.field-0 no_targets (placed_none _) (omega arith) inside c.push.new.self items;
+      placed = placed_first _ c.in_ok-target_of.field-0 inside c.push.new.self items;
       left =
           to_again (aim_turn c.args.inventory.now c.args.query.now c.args.tone (main_weight c.args.query.now c.args.variants)) _ refl (omega arith)
           (rw (← c.main_weight.ensures, ← c.greater-main.ensures, ← c.target_of.ensures.0, c.in_ok-target_of.was, with_pushed c.in_ok-target_of.field-0 no_targets c.push.new.self (omega arith) items));
@@ -46,7 +46,7 @@ loop-i-preserved c =
     record {
       few = few;
       so_many = omega (arith, c.push-in-loop-i.ensures.len, l.so_many);
-      placed = placed_more _ c.in_ok-target_of-2.field-0 c.loop-i.g l.placed room inside c.push-in-loop-i.new.self c.push-in-loop-i.ensures.items;
+      placed = placed_more _ c.in_ok-target_of-2.field-0 inside c.loop-i.g l.placed room c.push-in-loop-i.new.self c.push-in-loop-i.ensures.items;
       left =
           to_again _ _ l.left (search rules)
           (rw (add-one, ← c.variant_tone-variant.ensures, ← c.variant_weight.ensures, ← c.target_of-in-loop-i.ensures.0, c.in_ok-target_of-2.was, is));
