@@ -8,9 +8,10 @@ use Rattle.spec_judgement.specs.declared.Mixture.{Mixture}
 use Rattle.spec_judgement.specs.declared.Tolerance.{Tolerance}
 use Rattle.spec_shape.specs.declared.ToneShape.{ToneShape}
 use Rattle.tonekit_core.proofs.LoopLaws.{range_same}
-use Rattle.spec_judgement.specs.Inventory.{Inventory, Targets, Listings}
+use Rattle.spec_judgement.specs.Inventory.{Inventory, Targets, Listings, entry_at, target_at}
+use Rattle.spec_judgement.specs.Tail.{tail_loglik, target_tail_loglik, with_tail}
 use Rattle.spec_judgement.specs.Judge.{component_at, plain_of, judged_of, tone_mixing, loglik_at, logliks, part_mixing, target_mixing}
-use Rattle.tonekit_judge.specs.Terms.{count_at, target_at}
+use Rattle.tonekit_judge.specs.Terms.{count_at}
 use Rattle.spec_judgement.specs.Asked.{Counted, TargetsHeld}
 use Rattle.tonekit_judge.specs.Terms.{Filled, cell, tone_turn, part_turn}
 use Rattle.tonekit_judge.proofs.Turns.{loglik_turn, target_turn}
@@ -29,11 +30,11 @@ module _ (s : Scoring) (i : Inventory) (d e : ℕ → ℕ → Component)
   unfolding loglik_at
   loglik_same t h = ap (λ (m : Mixing). calibrate s (mixture_log (mixture_of m))) (tone_same t h)
 
-  pub logliks_same : logliks s i d ≡ logliks s i e
+  pub logliks_same : (issues : ℕ) → logliks s i d issues ≡ logliks s i e issues
   unfolding logliks
-  logliks_same =
-      range_same (loglik_turn s i d) (loglik_turn s i e) 0 (length i.items) (replicate 8 zero32) (omega arith)
-      (λ t ll h. ap (λ (v : Float). set ll t v) (loglik_same t h))
+  logliks_same issues =
+      range_same (loglik_turn s i d issues) (loglik_turn s i e issues) 0 (length i.items) (replicate 8 zero32) (omega arith)
+      (λ t ll h. ap (λ (v : Float). set ll t (with_tail v (tail_loglik (entry_at i t) issues))) (loglik_same t h))
 
   part_same : (t : ℕ) (w : Float) (m : Mixing) → t < length i.items → part_mixing s d (count_at i t) t w m ≡ part_mixing s e (count_at i t) t w m
   unfolding part_mixing
@@ -52,10 +53,10 @@ pub filled_same : (d : ℕ → ℕ → Component) (i : Inventory) (ds : List Com
     → (t j : ℕ) → t < length i.items → j < count_at i t → cell ds t j ≡ d t j
 filled_same d i ds n f t j h k = f.at t j (omega (arith, n.each t h)) k (omega (arith, n.each t h))
 
-plain_same : (s : Scoring) (threshold : Float) (i : Inventory) (d e : ℕ → ℕ → Component) (m : Mixture) (issues : ℕ)
-    → ((t j : ℕ) → t < length i.items → j < count_at i t → d t j ≡ e t j) → plain_of s threshold i d m issues ≡ plain_of s threshold i e m issues
+plain_same : (s : Scoring) (threshold : Float) (i : Inventory) (d e : ℕ → ℕ → Component) (m : Mixture) (tail : Float) (issues : ℕ)
+    → ((t j : ℕ) → t < length i.items → j < count_at i t → d t j ≡ e t j) → plain_of s threshold i d m tail issues ≡ plain_of s threshold i e m tail issues
 unfolding plain_of
-plain_same s threshold i d e m issues same = rw (logliks_same s i d e same)
+plain_same s threshold i d e m tail issues same = rw (logliks_same s i d e same issues)
 
 -- a judgement from the list of components is the judgement
 pub judged_same : (x : ToneShape) (s : Scoring) (threshold : Float) (t : Tolerance) (l : Listings) (ds : List Component) (g : Targets) (issues : ℕ) {r : ToneJudgement}
@@ -67,4 +68,4 @@ judged_same x s threshold t l ds g issues n p f e =
     let i = l.inventory in
     let d = component_at x s i l.slots in
     let same = filled_same d i ds n f in
-    e ∙ rw (target_same s i (cell ds) d same g p, plain_same s threshold i (cell ds) d _ issues same)
+    e ∙ rw (target_same s i (cell ds) d same g p, plain_same s threshold i (cell ds) d _ (target_tail_loglik i g issues) issues same)

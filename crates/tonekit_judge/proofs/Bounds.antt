@@ -23,7 +23,9 @@ use Rattle.spec_judgement.specs.declared.Scoring.{Scoring}
 use Rattle.spec_judgement.specs.declared.Mixture.{Mixture}
 use Rattle.spec_judgement.specs.declared.Mixture.TheVariants.{Scored, Nothing}
 use Rattle.tonekit_score.proofs.Bounds.{Bounded, bounded_zero, bounded_lowest, clamp_bounded, clamp_fits}
-use Rattle.spec_judgement.specs.Inventory.{Inventory, Targets, Listings}
+use Rattle.spec_judgement.specs.Inventory.{Inventory, Targets, Listings, entry_at}
+use Rattle.spec_judgement.specs.Tail.{tail_loglik, target_tail_loglik, with_tail}
+use Rattle.tonekit_tail.proofs.Bounds.{with_tail_keeps}
 use Rattle.spec_judgement.specs.Judge.{component_at, loglik_at, logliks, target_mixing, llr_of, plain_of, with_best, judged_of, usable, not_measured, judgement_of}
 use Rattle.tonekit_judge.specs.Terms.{count_at}
 use Rattle.tonekit_judge.proofs.Turns.{loglik_turn, lowest_turn}
@@ -64,22 +66,25 @@ module _ (P : Float → Type 0) (p-zero : P zero32) (p-lowest : P (narrowed (neg
   unfolding loglik_at calibrate
   loglik_holds s d n t = p-clamp _
 
-  logliks_eight : (s : Scoring) (i : Inventory) (d : ℕ → ℕ → Component) → Eight (logliks s i d)
+  tailed_holds : (s : Scoring) (d : ℕ → ℕ → Component) (n t : ℕ) (tail : Float) → P (with_tail (loglik_at s d n t) tail)
+  tailed_holds s d n t tail = with_tail_keeps P p-clamp (loglik_at s d n t) (loglik_holds s d n t) tail
+
+  logliks_eight : (s : Scoring) (i : Inventory) (d : ℕ → ℕ → Component) (issues : ℕ) → Eight (logliks s i d issues)
   unfolding logliks
-  logliks_eight s i d =
-      range_keeps (loglik_turn s i d) (λ j ll. Eight ll) 0 (length i.items) (replicate 8 zero32) (omega arith)
-      (λ t ll h p. eight_set t (loglik_at s d (count_at i t) t) ll (loglik_holds s d (count_at i t) t) p) zeros
+  logliks_eight s i d issues =
+      range_keeps (loglik_turn s i d issues) (λ j ll. Eight ll) 0 (length i.items) (replicate 8 zero32) (omega arith)
+      (λ t ll h p. eight_set t _ ll (tailed_holds s d (count_at i t) t (tail_loglik (entry_at i t) issues)) p) zeros
 
   lowest_eight : (tones : ℕ) → Eight (range lowest_turn 0 tones (replicate 8 zero32))
   lowest_eight tones =
       range_keeps lowest_turn (λ j ll. Eight ll) 0 tones (replicate 8 zero32) (omega arith)
       (λ t ll h p. eight_set t _ ll p-lowest p) zeros
 
-  plain_holds : (s : Scoring) (threshold : Float) (i : Inventory) (d : ℕ → ℕ → Component) (m : Mixture) (issues : ℕ)
-      → Throughout P (plain_of s threshold i d m issues)
+  plain_holds : (s : Scoring) (threshold : Float) (i : Inventory) (d : ℕ → ℕ → Component) (m : Mixture) (tail : Float) (issues : ℕ)
+      → Throughout P (plain_of s threshold i d m tail issues)
   unfolding plain_of llr_of
-  plain_holds s threshold i d m issues =
-      let p = logliks_eight s i d in
+  plain_holds s threshold i d m tail issues =
+      let p = logliks_eight s i d issues in
       record { eight = p.1; logliks = p.0; llr = p-clamp _ }
 
   best_holds : (x : ToneShape) (s : Scoring) (t : Tolerance) (l : Listings) (j : ToneJudgement) (m : Mixture)
@@ -93,8 +98,9 @@ module _ (P : Float → Type 0) (p-zero : P zero32) (p-lowest : P (narrowed (neg
   unfolding judged_of
   judged_holds x s threshold t l d g issues =
       let m = mixture_of (target_mixing s l.inventory d g) in
-      best_holds x s t l (plain_of s threshold l.inventory d m issues) m
-      (plain_holds s threshold l.inventory d m issues)
+      let tail = target_tail_loglik l.inventory g issues in
+      best_holds x s t l (plain_of s threshold l.inventory d m tail issues) m
+      (plain_holds s threshold l.inventory d m tail issues)
 
   lowest_holds : (tones : ℕ) → Throughout P (not_measured tones)
   unfolding not_measured

@@ -15,9 +15,9 @@ use Rattle.spec_judgement.specs.declared.LogSumExp.{LogSumExp}
 use Rattle.spec_judgement.specs.declared.Lead.{Lead}
 use Rattle.spec_judgement.specs.declared.Mixing.{Mixing}
 use Rattle.spec_judgement.specs.declared.Mixture.TheVariants.{Scored}
-use Rattle.spec_judgement.specs.Inventory.{Inventory, Targets, Listings, entry_at}
+use Rattle.spec_judgement.specs.Inventory.{Inventory, Targets, Listings, entry_at, target_at}
 use Rattle.spec_judgement.specs.Judge.{weighed, part_mixing, target_mixing, component_at, nearest_at, with_best, judged_of, usable, judgement_of}
-use Rattle.tonekit_judge.specs.Terms.{count_at, target_at}
+use Rattle.tonekit_judge.specs.Terms.{count_at}
 use Rattle.spec_judgement.specs.Asked.{TargetsHeld}
 use Rattle.tonekit_judge.specs.Terms.{part_turn}
 use Rattle.tonekit_judge.proofs.Turns.{target_turn}

@@ -7,22 +7,17 @@ use Rattle.tonekit_core.specs.declared.Name.{Name}
 use Rattle.tonekit_core.specs.declared.layout.TheConstants.{MIXTURE_FORM}
 use Rattle.spec_arithmetic.specs.Constants.{zero32}
 use Rattle.spec_judgement.specs.Score.{mix_turn}
-use Rattle.spec_judgement.specs.Inventory.{Inventory, Targets, count_in, entry_at}
+use Rattle.spec_judgement.specs.Inventory.{Inventory, count_in, entry_at}
 use Rattle.spec_judgement.specs.Judge.{weighed}
 use Rattle.tonekit_score.specs.Terms.{term_of}
 use Rattle.spec_judgement.specs.declared.Scoring.{Scoring}
 use Rattle.spec_judgement.specs.declared.Mixing.{Mixing}
-use Rattle.spec_judgement.specs.declared.Target.{Target}
 use Rattle.spec_judgement.specs.declared.Term.{Term}
 use Rattle.spec_judgement.specs.declared.Component.{Component}
 
 -- how many components tone t has
 abbrev pub count_at : Inventory → ℕ → ℕ
 count_at i t = count_in (entry_at i t).listing
-
--- target k
-abbrev pub target_at : Targets → ℕ → Target
-target_at g k = get_or g.items k (record { place = 0; weight = nan })
 
 -- the place in its rule of the component at a slot, where that is a mixture
 abbrev pub slot_part : Name → ℕ → ℕ

@@ -154,12 +154,13 @@ fn heard_of(inventory: &Inventory, threshold: f32, r: Ranking) -> Option<u8>
     None
 }
 
-// The target against the background, both calibrated.
+// The target, with its tail's, against the background, both calibrated.
 #[tactic(auto, unfolding(spec_judgement::specs::Judge::llr_of))]
-fn llr_of(s: Scoring, m: Mixture, background: LogSumExp) -> f32
-    ensures { result ≡ llr_of s m background }
+fn llr_of(s: Scoring, m: Mixture, tail: f32, background: LogSumExp) -> f32
+    ensures { result ≡ llr_of s m tail background }
 {
-    let target = f64::from(tonekit_score::calibrate(s, tonekit_score::mixture_log(m)));
+    let ll = tonekit_score::calibrate(s, tonekit_score::mixture_log(m));
+    let target = f64::from(tonekit_tail::with_tail(ll, tail));
     tonekit_score::clamp_log(target - tonekit_score::value_of(background))
 }
 
@@ -227,14 +228,15 @@ impl Components {
         tonekit_score::calibrate(self.scoring, tonekit_score::mixture_log(m))
     }
 
-    // The calibrated log-likelihoods under every tone.
-    fn logliks(&self, inventory: &Inventory) -> [f32; 8]
+    // The calibrated log-likelihoods under every tone, each with its tail's.
+    fn logliks(&self, inventory: &Inventory, issues: u16) -> [f32; 8]
         requires { Counted inventory.now }
-        ensures { result ≡ logliks self.now.scoring inventory.now (cell self.now.list) }
+        ensures { result ≡ logliks self.now.scoring inventory.now (cell self.now.list) issues }
     {
         let mut ll = [0.0f32; 8];
         for (t, entry) in inventory.iter().enumerate() {
-            ll[t] = self.loglik_at(count_of(entry), t);
+            let tail = tonekit_tail::tail_loglik(entry, issues);
+            ll[t] = tonekit_tail::with_tail(self.loglik_at(count_of(entry), t), tail);
         }
         ll
     }
@@ -261,23 +263,24 @@ impl Components {
         m
     }
 
-    // What is said of a usable shape where the target has no best component.
+    // What is said of a usable shape where the target, whose tail is given, has no best component.
     #[tactic(auto, unfolding(spec_judgement::specs::Judge::plain_of))]
     fn plain_of(
         &self,
         threshold: f32,
         inventory: &Inventory,
         m: Mixture,
+        tail: f32,
         issues: u16,
     ) -> ToneJudgement
         requires { Counted inventory.now }
-        ensures { result ≡ plain_of self.now.scoring threshold inventory.now (cell self.now.list) m issues }
+        ensures { result ≡ plain_of self.now.scoring threshold inventory.now (cell self.now.list) m tail issues }
     {
-        let loglik = self.logliks(inventory);
+        let loglik = self.logliks(inventory, issues);
         let r = ranking_of(inventory, &loglik);
         ToneJudgement {
             loglik,
-            llr: llr_of(self.scoring, m, r.background),
+            llr: llr_of(self.scoring, m, tail, r.background),
             nearest: None,
             heard: heard_of(inventory, threshold, r),
             deltas: tonekit_deltas::no_deltas(),
@@ -351,7 +354,8 @@ fn judged_of(
         list: fill(x, s, inventory, slots),
     };
     let m = tonekit_score::mixture_of(c.target_mixing(inventory, g));
-    let j = c.plain_of(threshold, inventory, m, issues);
+    let tail = tonekit_tail::target_tail_loglik(inventory, g, issues);
+    let j = c.plain_of(threshold, inventory, m, tail, issues);
     match m {
         Mixture::Scored(_, slot, d2) => ToneJudgement {
             nearest: Some(nearest_at(&inventory[slot / 4], slot, d2)),

@@ -13,14 +13,14 @@ unfolding judged_of with_best
 returns-in-Scored c =
     judged_same c.args.x c.args.s c.args.threshold c.args.t (listing c.args.inventory.now c.args.slots.now) _ c.args.g.now c.args.issues
     c.requires.0 c.requires.1 c.fill.ensures
-    (rw (← c.target_mixing.ensures, ← c.mixture_of-m.ensures, ← c.plain_of-j.ensures, c.in-Scored.is, c.nearest_at.ensures, c.advice_of.ensures, c.deref.ensures.0) refl)
+    (rw (← c.target_mixing.ensures, ← c.mixture_of-m.ensures, ← c.target_tail_loglik-tail.ensures, ← c.plain_of-j.ensures, c.in-Scored.is, c.nearest_at.ensures, c.advice_of.ensures, c.deref.ensures.0) refl)
 
 pub returns-in-Nothing : goal.returns-in-Nothing
 unfolding judged_of with_best
 returns-in-Nothing c =
     judged_same c.args.x c.args.s c.args.threshold c.args.t (listing c.args.inventory.now c.args.slots.now) _ c.args.g.now c.args.issues
     c.requires.0 c.requires.1 c.fill.ensures
-    (rw (← c.target_mixing.ensures, ← c.mixture_of-m.ensures, ← c.plain_of-j.ensures, c.in-Nothing.is))
+    (rw (← c.target_mixing.ensures, ← c.mixture_of-m.ensures, ← c.target_tail_loglik-tail.ensures, ← c.plain_of-j.ensures, c.in-Nothing.is))
 
 -- the slot is a component's of one of the tones
 among : (c : In-Scored) → Among c.args.inventory.now c.in-Scored.slot

@@ -9,7 +9,7 @@ unfolding logliks
 loop-t-init c = (search rules, refl)
 
 pub loop-t-preserved : goal.loop-t-preserved
-loop-t-preserved c = (search rules, again _ c.loop-t.invariant.1 (search rules) (rw (c.loglik_at.ensures, c.count_of.ensures, c.deref-entry-items.ensures.0) refl))
+loop-t-preserved c = (search rules, again _ c.loop-t.invariant.1 (search rules) (rw (c.with_tail.ensures, c.loglik_at.ensures, c.count_of.ensures, c.tail_loglik-tail.ensures, c.deref-entry-items.ensures.0) refl))
 
 pub returns : goal.returns
 returns c = ended _ c.loop-t.invariant.1 (search rules)

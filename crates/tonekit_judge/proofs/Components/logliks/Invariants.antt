@@ -8,4 +8,4 @@ use Rattle.tonekit_judge.proofs.Components.logliks.Given as goal
 
 abbrev pub invariant-loop-t : goal.invariant-loop-t
 invariant-loop-t l =
-    (length l.ll ≡ 8) × (range (loglik_turn l.self.scoring l.inventory (cell l.self.list)) l.t (length l.inventory.items) l.ll ≡ logliks l.self.scoring l.inventory (cell l.self.list))
+    (length l.ll ≡ 8) × (range (loglik_turn l.self.scoring l.inventory (cell l.self.list) l.issues) l.t (length l.inventory.items) l.ll ≡ logliks l.self.scoring l.inventory (cell l.self.list) l.issues)
