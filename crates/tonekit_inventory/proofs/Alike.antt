@@ -1,13 +1,12 @@
 -- The components of a listing have one owner, form and label, and in a mixture each its place as its part number. Assumes nothing.
 use Rattle.std.specs.Prelude.{Option}
-use Rattle.std.proofs.Common.{ℕ, ◌≤◌, ◌<◌, ◌≡◌, refl, ◌∙◌, cond, List, [], ◌∷◌, arith, eqb, length, get_or}
+use Rattle.std.proofs.Common.{ℕ, ◌≤◌, ◌<◌, ◌≡◌, refl, cond, List, [], ◌∷◌, arith, eqb, length, get_or}
 use mathlib.Core.Option.{some}
 use Rattle.std.specs.Prelude.{Some, None}
-use lib.ListN.{length-map}
 use Rattle.spec_arithmetic.specs.Files.{loaded}
 use Rattle.spec_pack.specs.Pack.{PackRead, read_pack}
-use Rattle.spec_lookup.specs.Lookup.{look_up, component_of}
-use Rattle.spec_lookup.specs.Source.{Carried, carried, components, carried_of, source_of_pack}
+use Rattle.spec_lookup.specs.Lookup.{look_up}
+use Rattle.spec_lookup.specs.Source.{Carried, components, carried_of, source_of_pack}
 use Rattle.spec_lookup.specs.declared.Context.{Context}
 use Rattle.spec_lookup.specs.declared.Listing.{Listing}
 use Rattle.tonekit_expect.proofs.Carried.{named, part_number, components_length, components_at, carried_ten}

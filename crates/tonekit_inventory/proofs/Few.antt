@@ -1,5 +1,5 @@
 -- What a lookup in a pack that loads lists: one to four components that can be read. Assumes nothing.
-use Rattle.std.proofs.Common.{ℕ, ◌+◌, ◌≤◌, ◌<◌, ◌≡◌, refl, sym, ap, ◌∙◌, subst, List, arith, eqb, ltb, length, get_or, ltb-true}
+use Rattle.std.proofs.Common.{ℕ, ◌+◌, ◌≤◌, ◌<◌, ◌≡◌, refl, sym, ap, ◌∙◌, subst, List, arith, eqb, length, get_or}
 use Rattle.spec_arithmetic.specs.Fields.{byte_at}
 use Rattle.spec_arithmetic.specs.Files.{Out, loaded, refused}
 use Rattle.spec_pack.specs.Pack.{PackRead, read_pack, parts_from}
@@ -7,7 +7,7 @@ use Rattle.spec_arithmetic.specs.Places.{number_at, index_of}
 use Rattle.tonekit_pack.specs.declared.Pack.{Pack}
 use Rattle.tonekit_pack.specs.Held.{records_of}
 use Rattle.tonekit_core.proofs.Split.{split}
-use Rattle.tonekit_pack.proofs.Loads.{Loads, loads, firsts_bound, parts_few}
+use Rattle.tonekit_pack.proofs.Loads.{Loads, loads, parts_few}
 use Rattle.std.specs.Prelude.{Option, Some, None}
 use Rattle.spec_lookup.specs.declared.Winner.{Winner}
 use Rattle.spec_lookup.specs.declared.Context.{Context}

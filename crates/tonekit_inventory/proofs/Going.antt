@@ -1,6 +1,6 @@
 -- The loop over the tones of whatever a station holds: from each tone on the definition gives what it gives of the whole. Assumes nothing.
 use Rattle.std.specs.Prelude.{Option, Some, None}
-use Rattle.std.proofs.Common.{ℕ, zero, suc, ◌+◌, ◌≤◌, ◌<◌, ◌≡◌, refl, List, [], ◌∷◌, ◌++◌, map, length, length-append, get_or, arith, ltb, lt-ltb, true}
+use Rattle.std.proofs.Common.{ℕ, zero, suc, ◌+◌, ◌≤◌, ◌<◌, ◌≡◌, refl, List, [], ◌∷◌, ◌++◌, length, length-append, get_or, arith, ltb, lt-ltb, true}
 use Rattle.tonekit_core.specs.Loop.{range}
 use Rattle.tonekit_core.proofs.LoopLaws.{again, ended}
 use Rattle.spec_lookup.specs.Source.{Carried, Source, absent_tone}
@@ -56,9 +56,9 @@ module _ (src : Source) (n : ℕ) (c : Context) where
     going_ends h few_tones = record { is = ended (list_tone src c) g.same h; counted = record { few = omega (arith, g.many, g.inside, few_tones); each = λ k l. g.few k } }
 
     -- the tone as it was read, what was put for it, the inventory with both, and the slots after
-    module _ (h : t < n) (few_tones : n ≤ 8) (e : ToneEntry) (tone : e ≡ entry_of (get_or src.tones t absent_tone) None)
+    module _ (h : t < n) (few_tones : n ≤ 8) (e : ToneEntry) (tone : e ≡ entry_of c.last (get_or src.tones t absent_tone) None)
         (l : Option ToneListing) (named : l ≡ named_of (given_of (src.look (record c { tone = e.number })))) (few : count_in l ≤ 4)
-        (i' : Inventory) (pushed : i'.items ≡ i.items ++ (record { number = e.number; prior = e.prior; region = e.region; listing = l } ∷ []))
+        (i' : Inventory) (pushed : i'.items ≡ i.items ++ (record { number = e.number; prior = e.prior; region = e.region; tail = e.tail; listing = l } ∷ []))
         (s' : Slots) (put : s' ≡ put_in t (given_of (src.look (record c { tone = e.number }))) s) where
       kept : ltb (length i.items) 8 ≡ true
       kept = lt-ltb (length i.items) 8 (omega (arith, g.many))

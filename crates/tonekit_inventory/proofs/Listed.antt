@@ -1,5 +1,5 @@
 -- What the listings of a source hold of each tone: its components' number and name, and each in its slot. Assumes nothing.
-use Rattle.std.proofs.Common.{ℕ, zero, suc, ◌+◌, ◌*◌, ◌≤◌, ◌<◌, ◌≡◌, refl, true, ap, ◌∙◌, ⊎_elim, List, [], ◌∷◌, map, le_of_suc-le-suc, not-suc-le-zero, eq-or-lt_of_le, arith, ltb, lt-ltb, length, get_or, set, length-set, length-append, get_or-set_same, get_or-set_other}
+use Rattle.std.proofs.Common.{ℕ, zero, suc, ◌+◌, ◌*◌, ◌≤◌, ◌<◌, ◌≡◌, refl, Bool, true, ap, ◌∙◌, ⊎_elim, List, [], ◌∷◌, map, le_of_suc-le-suc, not-suc-le-zero, eq-or-lt_of_le, arith, ltb, lt-ltb, length, get_or, set, length-set, length-append, get_or-set_same, get_or-set_other}
 use Rattle.std.specs.Float.{nan}
 use Rattle.std.proofs.lemmas.List.{get_or_push}
 use lib.ListN.{length-map, get_or-append}
@@ -48,8 +48,8 @@ pub record Entered (d : Carried) (cs : List Carried) (t : ℕ) (l : Listings) : 
   pub listing : (entry_at l.inventory t).listing ≡ named_of cs
   pub slot : (k : ℕ) → k < length cs → slot_at l.slots (4 * t + k) ≡ slot_of (get_or cs k d)
 
-module _ (d : Carried) (t : ℕ) (tone : Tone) (cs : List Carried) (l : Listings) (r : Room t l) where
-  slotted_room : Room (t + 1) (slotted t tone cs l)
+module _ (d : Carried) (t : ℕ) (last : Bool) (tone : Tone) (cs : List Carried) (l : Listings) (r : Room t l) where
+  slotted_room : Room (t + 1) (slotted t last tone cs l)
   unfolding slotted with_tone put_in
   slotted_room = record {
     entries = rw length-append (omega (arith, r.entries));
@@ -60,11 +60,11 @@ module _ (d : Carried) (t : ℕ) (tone : Tone) (cs : List Carried) (l : Listings
     kept : ltb (length l.inventory.items) 8 ≡ true
     kept = lt-ltb (length l.inventory.items) 8 (omega (arith, r.entries))
 
-    its_entry : entry_at (slotted t tone cs l).inventory t ≡ entry_of tone (named_of cs)
+    its_entry : entry_at (slotted t last tone cs l).inventory t ≡ entry_of last tone (named_of cs)
     unfolding slotted with_tone
     its_entry = get_or_push l.inventory.items _ no_entry t r.entries ∙ rw kept refl
 
-    entered_here : Entered d cs t (slotted t tone cs l)
+    entered_here : Entered d cs t (slotted t last tone cs l)
     unfolding slotted put_in
     entered_here = record {
       listing = ap (λ (e : ToneEntry). e.listing) its_entry;
@@ -75,11 +75,11 @@ module _ (d : Carried) (t : ℕ) (tone : Tone) (cs : List Carried) (l : Listings
 
   -- what was entered before stays
   module _ (u : ℕ) (ds : List Carried) (before : u < t) (few : length ds ≤ 4) (e : Entered d ds u l) where
-    its_entry_before : entry_at (slotted t tone cs l).inventory u ≡ entry_at l.inventory u
+    its_entry_before : entry_at (slotted t last tone cs l).inventory u ≡ entry_at l.inventory u
     unfolding slotted with_tone
     its_entry_before = get_or-append l.inventory.items _ no_entry u (omega (arith, r.entries))
 
-    entered_before : Entered d ds u (slotted t tone cs l)
+    entered_before : Entered d ds u (slotted t last tone cs l)
     unfolding slotted put_in
     entered_before = record {
       listing = ap (λ (x : ToneEntry). x.listing) its_entry_before ∙ e.listing;
@@ -101,10 +101,10 @@ module _ (d : Carried) (src : Source) (c : Context) where
     so_far =
         range_keeps (list_tone src c) So 0 (length src.tones) nothing_yet (omega arith)
         (λ t l h p. record {
-          room = slotted_room d t _ (components_at t) l p.room;
+          room = slotted_room d t c.last _ (components_at t) l p.room;
           each = λ u g. ⊎_elim
-              (λ e. rw e (entered_here d t _ (components_at t) l p.room (omega arith) (few t h)))
-              (λ b. entered_before d t _ (components_at t) l p.room u (components_at u) b (few u (omega arith)) (p.each u b))
+              (λ e. rw e (entered_here d t c.last _ (components_at t) l p.room (omega arith) (few t h)))
+              (λ b. entered_before d t c.last _ (components_at t) l p.room u (components_at u) b (few u (omega arith)) (p.each u b))
               (eq-or-lt_of_le (let k : u ≤ t = omega arith in k));
         })
         (record { room = nothing_room; each = λ t h. absurd (not-suc-le-zero h) })
@@ -114,13 +114,13 @@ module _ (d : Carried) (src : Source) (c : Context) where
 
 -- ---- the listings count the source's tones
 module _ (src : Source) (c : Context) where
-  one_more : (t : ℕ) (tone : Tone) (cs : List Carried) (l : Listings) → length (slotted t tone cs l).inventory.items ≡ length l.inventory.items + 1
+  one_more : (t : ℕ) (last : Bool) (tone : Tone) (cs : List Carried) (l : Listings) → length (slotted t last tone cs l).inventory.items ≡ length l.inventory.items + 1
   unfolding slotted with_tone
-  one_more t tone cs l = rw length-append refl
+  one_more t last tone cs l = rw length-append refl
 
   pub listed_tones : length (listings src c).inventory.items ≡ length src.tones
   unfolding listings
   listed_tones =
       range_keeps (list_tone src c) (λ (n : ℕ) (l : Listings). length l.inventory.items ≡ n) 0 (length src.tones) nothing_yet (omega arith)
-      (λ t l h p. one_more t _ _ l ∙ ap (λ (n : ℕ). n + 1) p)
+      (λ t l h p. one_more t c.last _ _ l ∙ ap (λ (n : ℕ). n + 1) p)
       refl

@@ -1,11 +1,9 @@
 -- A search by number among a pack's or a sheet's records finds what a station holds under that number. Assumes nothing.
 use Rattle.std.specs.Prelude.{Option}
-use Rattle.std.proofs.Common.{ℕ, zero, suc, ◌+◌, ◌-◌, ◌<◌, ◌≡◌, refl, ◌∙◌, ap, is_some, Bool, true, false, cond, ◌||◌, List, [], ◌∷◌, map, arith, add-one, eqb, length, get_or, drop, drop_of_length-le, drop-cons}
+use Rattle.std.proofs.Common.{ℕ, ◌+◌, ◌<◌, ◌≡◌, refl, ◌∙◌, ap, is_some, true, false, List, map, arith, eqb, get_or}
 use Rattle.std.specs.Prelude.{Some, None}
 use mathlib.Core.Option.{none, some}
-use Rattle.tonekit_core.specs.Loop.{Turn, next, stop, turns_to, range_to}
 use Rattle.spec_arithmetic.specs.Places.{number_at, index_of}
-use Rattle.tonekit_bytes.specs.Places.{index_turn}
 use Rattle.tonekit_pack.specs.declared.Pack.{Pack}
 use Rattle.tonekit_pack.specs.Held.{records_of}
 use Rattle.tonekit_core.proofs.Split.{or_cond}

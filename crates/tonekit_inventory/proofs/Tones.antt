@@ -1,6 +1,6 @@
 -- A pack's tones and listings, as what a station holds: its tones are its records', and a listing's name is that of its first component. Assumes nothing.
 use Rattle.std.specs.Prelude.{Some, None}
-use Rattle.std.proofs.Common.{ℕ, ◌+◌, ◌≤◌, ◌<◌, ◌≡◌, ap, ◌∙◌, List, [], length, get_or, arith}
+use Rattle.std.proofs.Common.{Bool, ℕ, ◌+◌, ◌≤◌, ◌<◌, ◌≡◌, ap, ◌∙◌, List, [], length, get_or, arith}
 use Rattle.std.proofs.lemmas.List.{length-map}
 use Rattle.spec_arithmetic.specs.Fields.{byte_at, f32_at}
 use Rattle.tonekit_pack.specs.declared.Pack.{Pack}
@@ -9,7 +9,7 @@ use Rattle.tonekit_bytes.proofs.InOrder.{order_length, order_get}
 use Rattle.spec_lookup.specs.Source.{Carried, components, tone_at, source_of_pack, absent_tone}
 use Rattle.spec_lookup.specs.declared.Listing.{Listing}
 use Rattle.tonekit_expect.proofs.Carried.{named, components_at, components_length}
-use Rattle.tonekit_inventory.specs.Fields.{region_at}
+use Rattle.tonekit_inventory.specs.Fields.{region_at, tail_at}
 use Rattle.tonekit_inventory.specs.OfPack.{source_in}
 use Rattle.spec_judgement.specs.Gather.{region_of, entry_of, named_of}
 use Rattle.std.proofs.lemmas.List.{get_or-map}
@@ -38,7 +38,7 @@ module _ (s : List ℕ) (p : Pack) where
   unfolding source_of_pack
   tones_many = length-map (in_order p.tones.at p.tones.count) (tone_at 47 7 s) ∙ order_length p.tones.at p.tones.count
 
-  module _ (t : ℕ) (h : t < p.tones.count) where
+  module _ (t : ℕ) (h : t < p.tones.count) (last : Bool) where
     abbrev at : ℕ
     at = get_or p.tones.at t 0
 
@@ -48,6 +48,7 @@ module _ (s : List ℕ) (p : Pack) where
         get_or-map (tone_at 47 7 s) (in_order p.tones.at p.tones.count) t 0 absent_tone (rw order_length h)
         ∙ ap (tone_at 47 7 s) (order_get p.tones.at p.tones.count t h)
 
-    pub entry_is : record { number = byte_at s (at + 1); prior = f32_at s (at + 2); region = region_at s (at + 47); listing = None }
-        ≡ entry_of (get_or (source_in s p).tones t absent_tone) None
+    pub entry_is : record { number = byte_at s (at + 1); prior = f32_at s (at + 2); region = region_at s (at + 47); tail = tail_at 7 last s (at + 56); listing = None }
+        ≡ entry_of last (get_or (source_in s p).tones t absent_tone) None
+    unfolding tail_at
     entry_is = rw (tone_is, region_is)

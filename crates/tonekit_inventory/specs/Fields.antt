@@ -1,6 +1,6 @@
--- Regions and tolerances as they stand in a pack's records and in a sheet's: the same fields, one behind the other.
-use Rattle.std.specs.Prelude.{ℕ, ◌+◌, cond, eqb, Option, Some, None, List, map}
-use Rattle.tonekit_core.specs.declared.layout.TheConstants.{REGION_FROM, REGION_TO, TOLERANCE_ONSET, TOLERANCE_OFFSET, TOLERANCE_TURNING, SETTINGS_TEMPERATURE, SETTINGS_THRESHOLD}
+-- Regions, tails and tolerances as they stand in a pack's records and in a sheet's: the same fields, one behind the other.
+use Rattle.std.specs.Prelude.{ℕ, ◌+◌, Bool, cond, eqb, Option, Some, None, List, map, Float}
+use Rattle.tonekit_core.specs.declared.layout.TheConstants.{REGION_FROM, REGION_TO, TAIL_FINAL, TAIL_ELSEWHERE, TOLERANCE_ONSET, TOLERANCE_OFFSET, TOLERANCE_TURNING, SETTINGS_TEMPERATURE, SETTINGS_THRESHOLD}
 use Rattle.spec_arithmetic.specs.Fields.{byte_at, f32_at}
 use Rattle.spec_lookup.specs.Source.{Accent, Carried}
 use Rattle.spec_lookup.specs.Source as source
@@ -13,6 +13,10 @@ use Rattle.spec_judgement.specs.declared.Tolerance.{Tolerance}
 -- "region flag u8, from f32, to f32"
 unfoldable pub region_at : List ℕ → ℕ → Option Region
 region_at s o = cond (eqb (byte_at s o) 0) None (Some (record { from = f32_at s (o + REGION_FROM); to = f32_at s (o + REGION_TO) }))
+
+-- "at phrase end f32, elsewhere f32": the one for a place in the phrase, of a record of that kind; where none stands there, 0
+unfoldable pub tail_at : ℕ → Bool → List ℕ → ℕ → Float
+tail_at kind last s o = f32 (cond last (source.tail_at kind TAIL_FINAL s o) (source.tail_at kind TAIL_ELSEWHERE s o))
 
 -- "tolerances contour, onset, offset, turning f32"
 unfoldable pub tolerance_at : List ℕ → ℕ → Tolerance

@@ -5,7 +5,7 @@
 ghost use Rattle.std.specs.Prelude.{◌≡◌, ◌≤◌, ◌<◌, ℕ, List, Result, None, Ok, Err, IfOk, IfErr, length, get_or};
 ghost use Rattle.tonekit_core.specs.declared.Rejection.{Rejection};
 ghost use Rattle.spec_lookup.specs.Source.{Source, accent_in, tone_in, absent_tone};
-ghost use Rattle.tonekit_inventory.specs.Fields.{region_at, tolerance_at, settings_at};
+ghost use Rattle.tonekit_inventory.specs.Fields.{region_at, tail_at, tolerance_at, settings_at};
 ghost use Rattle.spec_judgement.specs.Gather.{entry_of, named_of, given_of, graded_of, put_in, no_slots};
 ghost use Rattle.tonekit_inventory.specs.Fields.{settings_of};
 ghost use Rattle.tonekit_inventory.specs.Gathers.{Lists, Gathers};
@@ -37,10 +37,11 @@ pub trait Held<'a>: Drop {
         ensures count { result ≡ length (source self.now).tones }
         ensures few { result ≤ 8 };
 
-    // The tone at a place, as an inventory has it before its listing is there.
-    fn tone(&self, t: usize) -> ToneEntry
+    // The tone at a place, as an inventory has it before its listing is there: its tail is the one at the
+    // phrase's end if `last`, else the one elsewhere.
+    fn tone(&self, t: usize, last: bool) -> ToneEntry
         requires { t < length (source self.now).tones }
-        ensures { result ≡ entry_of (get_or (source self.now).tones t absent_tone) None };
+        ensures { result ≡ entry_of last (get_or (source self.now).tones t absent_tone) None };
 
     // Whether a tone of this number is held.
     fn holds_tone(&self, number: u8) -> bool
@@ -78,6 +79,20 @@ pub fn region_at(s: &[u8], o: usize) -> Option<Region>
     })
 }
 
+// The tail's value for a place in the phrase, where a record of that kind stands at an offset; else 0.
+#[tactic(auto, unfolding(crate::specs::Fields::tail_at))]
+pub fn tail_at(s: &[u8], o: usize, kind: u8, last: bool) -> f32
+    ensures { result ≡ tail_at kind last s.now o }
+{
+    if byte_at(s, o, 0) != kind {
+        return 0.0;
+    }
+    if last {
+        return f32_at(s, o, layout::TAIL_FINAL);
+    }
+    f32_at(s, o, layout::TAIL_ELSEWHERE)
+}
+
 // The four tolerances from an offset on; of bytes that are not there, 0.
 pub fn tolerance_at(s: &[u8], o: usize) -> Tolerance
     ensures { result ≡ tolerance_at s.now o }
@@ -110,7 +125,7 @@ fn listings<'a, H: Held<'a>>(held: &H, c: Context, slots: &mut Slots) -> Invento
     let mut inventory = Inventory::new();
     // Stays: t is a tone's place among what is held and among the slots, and what is held lends no list of tones.
     for t in 0..held.tones() {
-        let tone = held.tone(t);
+        let tone = held.tone(t, c.last);
         let here = Context {
             tone: tone.number,
             ..c

@@ -59,13 +59,14 @@ impl<'a> Held<'a> for HeldPack<'a> {
         self.view.pack.tones.len()
     }
 
-    fn tone(&self, t: usize) -> ToneEntry {
+    fn tone(&self, t: usize, last: bool) -> ToneEntry {
         let s = self.view.bytes;
         let o = usize::from(self.view.pack.tones.at[t]);
         ToneEntry {
             number: byte_at(s, o, layout::OWN_NUMBER),
             prior: f32_at(s, o, layout::TONE_PRIOR),
             region: crate::region_at(s, o + layout::TONE_REGION),
+            tail: crate::tail_at(s, o + layout::TONE_SIZE, layout::TAIL_KIND, last),
             listing: None,
         }
     }

@@ -14,4 +14,5 @@ pub bounds-self-t : goal.bounds-self-t
 bounds-self-t c = omega (arith, below (goal.at.bounds-self-t c).Start, c.args.self.now.view.pack.tones.few)
 
 pub returns : goal.returns
-returns c = rw (c.region_at.ensures, c.f32_at.ensures, c.byte_at.ensures, c.from-o.ensures) (entry_is c.args.self.now.view.bytes.now c.args.self.now.view.pack c.args.t (below (goal.at.returns c).Start))
+returns c =
+    rw (c.tail_at.ensures, c.region_at.ensures, c.f32_at.ensures, c.byte_at.ensures, c.from-o.ensures) (entry_is c.args.self.now.view.bytes.now c.args.self.now.view.pack c.args.t (below (goal.at.returns c).Start) c.args.last)
