@@ -40,7 +40,7 @@ module _ (s : List ℕ) (st : SheetRead) (n : ℕ) where
 -- ---- what is found is there
 module _ (s : List ℕ) (st : Sheet) (n : ℕ) where
   pub accent_held : (a : ℕ) → index_of s (records_of st).accents n ≡ Some a → a < st.accents
-  accent_held a e = omega (arith, (index_found s (records_of st).accents n a e).inside, stepped_length (9 + 15 * st.tones) 18 st.accents)
+  accent_held a e = omega (arith, (index_found s (records_of st).accents n a e).inside, stepped_length (9 + 24 * st.tones) 18 st.accents)
 
   pub tone_held : (t : ℕ) → index_of s (records_of st).tones n ≡ Some t → t < st.tones
   tone_held t e = omega (arith, (index_found s (records_of st).tones n t e).inside, stepped_length 9 15 st.tones)

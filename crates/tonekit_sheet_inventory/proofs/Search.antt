@@ -29,7 +29,7 @@ module _ (s : List ℕ) (st : Sheet) (n : ℕ) where
       → Some t ≡ graded_of (accent_in (source_of_sheet s (records_of st)).accents n)
   unfolding source_of_sheet
   graded_found i h e o o_is t q =
-      rw (accent_found s (records_of st).accents n (accent_at 2 s) (λ o. refl) i e, stepped_get (9 + 15 * st.tones) 18 st.accents i h)
+      rw (accent_found s (records_of st).accents n (accent_at 2 s) (λ o. refl) i e, stepped_get (9 + 24 * st.tones) 18 st.accents i h)
       (ap Some (q ∙ (tolerance s o ∙ ap (λ (y : ℕ). tolerance_of (accent_at 2 s y)) o_is)))
 
   pub graded_none : index_of s (records_of st).accents n ≡ None → None ≡ graded_of (accent_in (source_of_sheet s (records_of st)).accents n)

@@ -156,12 +156,18 @@ impl<'a> Held<'a> for HeldSheet<'a> {
         self.view.sheet.tones
     }
 
-    fn tone(&self, t: usize) -> ToneEntry {
+    fn tone(&self, t: usize, last: bool) -> ToneEntry {
         let o = layout::sheet_tone_at(t);
         ToneEntry {
             number: byte_at(self.view.bytes, o, layout::OWN_NUMBER),
             prior: f32_at(self.view.bytes, o, layout::SHEET_TONE_PRIOR),
             region: tonekit_inventory::region_at(self.view.bytes, o + layout::SHEET_TONE_REGION),
+            tail: tonekit_inventory::tail_at(
+                self.view.bytes,
+                o + layout::SHEET_TONE_SIZE,
+                layout::SHEET_TAIL_KIND,
+                last,
+            ),
             listing: None,
         }
     }

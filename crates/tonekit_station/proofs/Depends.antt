@@ -58,7 +58,7 @@ module _ (a b : Source) (agree : Agree a b) where
     turn_same t l h =
         let tone = get_or a.tones t absent_tone in
         let asks : Held a (record c { tone = tone.number }) = record { accent = (x, accent); tone = tone_found a.tones t absent_tone h; prev = prev_held a.tones c.prev prev } in
-        rw (← agree.tones) (ap (λ (k : Option (List Carried)). slotted t tone (given_of k) l) (agree.lookups (record c { tone = tone.number }) asks))
+        rw (← agree.tones) (ap (λ (k : Option (List Carried)). slotted t c.last tone (given_of k) l) (agree.lookups (record c { tone = tone.number }) asks))
 
     listings_same : listings a c ≡ listings b c
     unfolding listings

@@ -38,7 +38,7 @@ weighing n = variants.variants (0 ∷ 0 ∷ 0 ∷ 0x3f ∷ []) (n ∷ 0 ∷ 0 �
 
 -- two tones that are as likely before anything is heard
 abbrev toned : ℕ → ToneEntry
-toned number = record { number = number; prior = bits 0x3f00_0000; region = None; listing = None }
+toned number = record { number = number; prior = bits 0x3f00_0000; region = None; tail = bits 0; listing = None }
 
 abbrev two_tones : Inventory
 two_tones = record { items = toned 7 ∷ toned 9 ∷ [] }

@@ -15,4 +15,5 @@ overflow_add-o c = record { fits = omega (arith, c.sheet_tone_at-o.ensures, belo
 
 pub returns : goal.returns
 returns c =
-    rw (c.region_at.ensures, c.f32_at.ensures, c.byte_at.ensures) (entry_is c.args.self.now.view.bytes.now c.args.self.now.view.sheet c.args.t (below (goal.at.returns c).Start) _ c.sheet_tone_at-o.ensures)
+    rw (c.tail_at.ensures, c.region_at.ensures, c.f32_at.ensures, c.byte_at.ensures)
+    (entry_is c.args.self.now.view.bytes.now c.args.self.now.view.sheet c.args.t (below (goal.at.returns c).Start) c.args.last _ c.sheet_tone_at-o.ensures)
