@@ -4,9 +4,9 @@ use lib.Ieee.{binary32, of_bits}
 use Rattle.tonekit_core.proofs.LoopLaws.{range_same}
 use Rattle.spec_arithmetic.specs.Fields.{byte_at, u32_at, f32_at}
 use Rattle.tonekit_bytes.proofs.Stands.{Stands, field32}
-use Rattle.spec_pack.specs.Ranges.{slot_fine, knots_fine, region_fine, tolerances_fine}
+use Rattle.spec_pack.specs.Ranges.{slot_fine, knots_fine, region_fine, tails_fine, tolerances_fine}
 use Rattle.tonekit_ranges.proofs.SlotTurn.{slot_turn}
-use Rattle.spec_pack.specs.Pack.{size_of, settings_verdict, tone_fine, accent_fine, rule_fine, part_fine}
+use Rattle.spec_pack.specs.Pack.{size_of, settings_verdict, tone_fine, tail_verdict, accent_fine, rule_fine, part_fine}
 
 module _ (s : List ℕ) (at : ℕ) (r : List ℕ) (h : Stands s at r) where
   -- the field at k of r; o is its offset in s, in whatever way that is written
@@ -57,6 +57,10 @@ module _ (s : List ℕ) (at : ℕ) (r : List ℕ) (h : Stands s at r) where
         knots_same (at + 7) 7 (byte_at r 6) refl (omega arith),
         region_same (at + 47) 47 refl (omega arith),
       )
+
+  pub tail_same : length r ≡ size_of 7 → tail_verdict s at ≡ tail_verdict r 0
+  unfolding tail_verdict tails_fine size_of
+  tail_same n = rw (u32_same (at + 1) 1 refl (omega arith), u32_same (at + 5) 5 refl (omega arith))
 
   pub accent_same : length r ≡ size_of 3 → accent_fine 3 s at ≡ accent_fine 3 r 0
   unfolding size_of

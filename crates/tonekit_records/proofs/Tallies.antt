@@ -9,10 +9,11 @@ use Rattle.spec_arithmetic.specs.Fields.{byte_at}
 use Rattle.spec_arithmetic.specs.Places.{number_at}
 use Rattle.spec_pack.specs.Pack.{PackRead, in_turn, due_after, size_of, holds, zero_or_held, tone_verdict, accent_verdict, rule_verdict, part_verdict, body_verdict, record_verdict, part_fine, added, pack_reader}
 use Rattle.tonekit_core.proofs.Split.{split}
-use Rattle.tonekit_pack.proofs.Records.{Due, due_is, settings, tone, accent, rule, part, finish}
+use Rattle.tonekit_pack.specs.Going.{reached}
+use Rattle.tonekit_pack.proofs.Records.{Due, due_is, settings, tone, tail, accent, rule, part, finish}
 use Rattle.tonekit_records.specs.Records.{Tally, no_tally, among, zero_or_among, kind, tone_verdict_of, accent_verdict_of, rule_verdict_of, last_single, part_verdict_of, body_verdict_of, record_verdict_of, tallied}
 use Rattle.tonekit_bytes.proofs.Stands.{Stands}
-use Rattle.tonekit_records.proofs.OwnBytes.{byte_same, settings_same, tone_same, accent_same, rule_same, part_same}
+use Rattle.tonekit_records.proofs.OwnBytes.{byte_same, settings_same, tone_same, tail_same, accent_same, rule_same, part_same}
 
 -- t is the tally of what the reader has read
 pub record TallyOf (s : List ℕ) (st : PackRead) (t : Tally) : Type 0 where
@@ -20,7 +21,7 @@ pub record TallyOf (s : List ℕ) (st : PackRead) (t : Tally) : Type 0 where
   pub tones : map (number_at s) st.tones ≡ t.tones
   pub accents : map (number_at s) st.accents ≡ t.accents
   pub rules : length st.rules ≡ t.rules
-  pub some_rule : 4 ≤ st.last → 1 ≤ length st.rules
+  pub some_rule : 4 ≤ reached st.last → 1 ≤ length st.rules
   pub form : 1 ≤ length st.rules → byte_at s (get_or st.rules (length st.rules - 1) 0 + 6) ≡ t.form
   pub parts : st.parts ≡ t.parts
   pub total : st.total ≡ t.total
@@ -75,7 +76,7 @@ module _ (s : List ℕ) (at : ℕ) (st : PackRead) (r : List ℕ) (t : Tally) (h
       (ap₂ (λ x y. x && y) (zero_same s st.tones (byte_at s (at + 3)) ∙ ap₂ zero_or_among f.tones (byte_same s at r h (at + 3) 3 refl (omega arith)))
       (zero_same s st.tones (byte_at s (at + 4)) ∙ ap₂ zero_or_among f.tones (byte_same s at r h (at + 4) 4 refl (omega arith))))
 
-  part_verdict_lem : 4 ≤ st.last → length r ≡ size_of 5 → part_verdict s at st ≡ part_verdict_of r t
+  part_verdict_lem : 4 ≤ reached st.last → length r ≡ size_of 5 → part_verdict s at st ≡ part_verdict_of r t
   unfolding part_verdict size_of
   part_verdict_lem l n =
       let form = f.form (f.some_rule l) in
@@ -88,6 +89,7 @@ module _ (s : List ℕ) (at : ℕ) (st : PackRead) (r : List ℕ) (t : Tally) (h
   unfolding body_verdict body_verdict_of
   body_same (settings e) q = rw (sym q) (settings_same s at r h (size_at r whole 1 q))
   body_same (tone l u) q = rw (sym q) (tone_verdict_lem (size_at r whole 2 q))
+  body_same (tail e u) q = rw (sym q) (tail_same s at r h (size_at r whole 7 q))
   body_same (accent l u) q = rw (sym q) (accent_verdict_lem (size_at r whole 3 q))
   body_same (rule l u) q = rw (sym q) (rule_verdict_lem (size_at r whole 4 q))
   body_same (part l u) q = rw (sym q) (part_verdict_lem l (size_at r whole 5 q))
@@ -128,6 +130,7 @@ module _ (s : List ℕ) (at : ℕ) (st : PackRead) (r : List ℕ) (t : Tally) (h
         parts = f.parts;
         total = f.total;
       })
+  next (tail e u) q n = rw (sym q) (record { last = refl; tones = f.tones; accents = f.accents; rules = f.rules; some_rule = λ l. absurd (omega arith); form = f.form; parts = f.parts; total = f.total })
   next (accent l u) q n =
       rw (sym q) (record {
         last = refl;

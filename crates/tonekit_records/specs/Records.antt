@@ -1,13 +1,13 @@
 -- A pack as a list of records, each by its own bytes. The verdict on a record turns on those bytes and on a tally of the records before it, not on where
 -- it stands.
 use Rattle.std.specs.Prelude.{ℕ, ◌+◌, ◌≡◌, Bool, true, false, cond, not, ◌&&◌, ◌||◌, List, [], ◌∷◌, ◌++◌, eqb, leb, ltb, length, Result, Ok, Err}
-use Rattle.tonekit_core.specs.declared.layout.TheConstants.{SETTINGS_KIND, TONE_KIND, TONE_KNOT_COUNT, ACCENT_KIND, ACCENT_CONTOUR}
+use Rattle.tonekit_core.specs.declared.layout.TheConstants.{SETTINGS_KIND, TONE_KIND, TONE_KNOT_COUNT, TAIL_KIND, ACCENT_KIND, ACCENT_CONTOUR}
 use Rattle.tonekit_core.specs.declared.layout.TheConstants.{RULE_KIND, RULE_TONE, RULE_PREV, RULE_FORM, PART_KIND, PART_KNOT_COUNT, END_KIND}
 use Rattle.tonekit_core.specs.declared.Refusal.TheVariants.{Misplaced}
 use Rattle.tonekit_core.specs.declared.Refusal.{Refusal}
 use Rattle.spec_arithmetic.specs.Fields.{byte_at}
 use Rattle.spec_arithmetic.specs.Places.{number_at}
-use Rattle.spec_pack.specs.Pack.{PackRead, in_turn, due_after, size_of, settings_verdict, tone_fine, accent_fine, rule_fine, part_fine, added}
+use Rattle.spec_pack.specs.Pack.{PackRead, in_turn, due_after, size_of, settings_verdict, tone_fine, tail_verdict, accent_fine, rule_fine, part_fine, added}
 
 -- all that the reader asks of the records before: the last kind; the numbers of tones and accents, in order; how many rules, the form of the last one and
 -- how many parts it has; all parts
@@ -63,16 +63,17 @@ unfoldable pub body_verdict_of : List ℕ → Tally → Result Unit Refusal
 body_verdict_of r t =
     cond (eqb (kind r) SETTINGS_KIND) (settings_verdict r 0)
     (cond (eqb (kind r) TONE_KIND) (tone_verdict_of r t)
+    (cond (eqb (kind r) TAIL_KIND) (tail_verdict r 0)
     (cond (eqb (kind r) ACCENT_KIND) (accent_verdict_of r t)
     (cond (eqb (kind r) RULE_KIND) (rule_verdict_of r t)
-    (cond (eqb (kind r) PART_KIND) (part_verdict_of r t) (Ok tt)))))
+    (cond (eqb (kind r) PART_KIND) (part_verdict_of r t) (Ok tt))))))
 
 -- the verdict on any whole record
 unfoldable pub record_verdict_of : List ℕ → Tally → Result Unit Refusal
 unfolding body_verdict_of
 record_verdict_of r t = cond (not (due_after t.last (kind r))) (Err Misplaced) (body_verdict_of r t)
 
--- the tally once r is fine
+-- the tally once r is fine; settings and a tail leave nothing but their kind
 unfoldable pub tallied : List ℕ → Tally → Tally
 tallied r t =
     cond (eqb (kind r) TONE_KIND) (record { last = kind r; tones = t.tones ++ (number_at r 0 ∷ []); accents = t.accents; rules = t.rules; form = t.form; parts = t.parts; total = t.total })
