@@ -35,9 +35,9 @@ record ToCome (s : List ℕ) (fin : PackRead) (a q : ℕ) (g : Groups) (bytes : 
   over : byte_at rest 0 ≡ 5 → ⊥
 
 -- no record is left
-nothing_left : (s : List ℕ) (st : PackRead) (tail : List ℕ) → ToCome s st (length st.accents) (length st.rules) (record { parts = []; rules = []; accents = [] }) (6 ∷ tail)
+nothing_left : (s : List ℕ) (st : PackRead) (beyond : List ℕ) → ToCome s st (length st.accents) (length st.rules) (record { parts = []; rules = []; accents = [] }) (6 ∷ beyond)
 unfolding records_bytes
-nothing_left s st tail =
+nothing_left s st beyond =
     let None-more = le-ltb (length st.accents) (length st.accents) (omega arith) in
     let e : before st (length st.accents) ≡ length st.rules = rw None-more in
     record {
@@ -45,7 +45,7 @@ nothing_left s st tail =
       rules = λ owner. tabulate_none _ _ _ (omega arith);
       reach = omega arith;
       parts = tt;
-      rest = 6 ∷ tail;
+      rest = 6 ∷ beyond;
       front = refl;
       over = λ z. omega arith;
     }
@@ -55,7 +55,7 @@ not_first : (r bytes : List ℕ) (k : ℕ) → byte_at r 0 ≡ k → (k ≡ 5 �
 not_first r bytes k e n l z = n (sym e ∙ sym (get_or-append r bytes 0 0 l) ∙ z)
 
 module _ (s : List ℕ) (at : ℕ) (fin : PackRead) (a q : ℕ) (r : List ℕ) (g : Groups) (bytes : List ℕ) where
-  -- settings and tones
+  -- settings, tones and their tails
   other_step : (k : ℕ) → byte_at r 0 ≡ k → (k ≡ 5 → ⊥) → 0 < length r → ToCome s fin a q g bytes
       → ToCome s fin a q (record { parts = []; rules = g.rules; accents = g.accents }) (r ++ bytes)
   unfolding records_bytes
@@ -158,18 +158,18 @@ paired k at st b =
     (λ u. let g = rule_grew k at st (eqb-true k 4 u) in ap length g.firsts_are ∙ b ∙ sym (ap length g.accents_are))
     (λ u. let g = other_grew k at st t u in ap length g.firsts_are ∙ b ∙ sym (ap length g.accents_are)))
 
-module _ (s tail : List ℕ) where
+module _ (s beyond : List ℕ) where
   counts : {a b q p : ℕ} (fin : PackRead) (g : Groups) (bytes : List ℕ) → a ≡ b → q ≡ p → ToCome s fin a q g bytes → ToCome s fin b p g bytes
   counts {a} {b} {q} {p} fin g bytes e f x = subst (λ (n : ℕ). ToCome s fin b n g bytes) f (subst (λ (n : ℕ). ToCome s fin n q g bytes) e x)
 
   from_records : {t u : Tally} {rs : List (List ℕ)} → ReadsOn t rs u → (at : ℕ) (st : PackRead) → length st.firsts ≡ length st.accents
-      → drop at s ≡ records_bytes rs ++ (6 ∷ tail) → at ≤ length s
-      → ToCome s (added_all st at rs) (length st.accents) (length st.rules) (grouped rs) (records_bytes rs ++ (6 ∷ tail))
+      → drop at s ≡ records_bytes rs ++ (6 ∷ beyond) → at ≤ length s
+      → ToCome s (added_all st at rs) (length st.accents) (length st.rules) (grouped rs) (records_bytes rs ++ (6 ∷ beyond))
   unfolding added_all grouped records_bytes size_of
-  from_records none at st b c l = nothing_left s st tail
+  from_records none at st b c l = nothing_left s st beyond
   from_records {t} (more {r = r} {rs = rs} w n fine x) at st b c l =
-      let bytes = records_bytes rs ++ (6 ∷ tail) in
-      let c1 : drop at s ≡ r ++ bytes = c ∙ append_assoc r (records_bytes rs) (6 ∷ tail) in
+      let bytes = records_bytes rs ++ (6 ∷ beyond) in
+      let c1 : drop at s ≡ r ++ bytes = c ∙ append_assoc r (records_bytes rs) (6 ∷ beyond) in
       let h = stands_front s at r bytes c1 l in
       let st1 = added (kind r) at st in
       let fin = added_all st1 (at + length r) rs in
@@ -178,7 +178,7 @@ module _ (s tail : List ℕ) where
       let la = lasts rs (at + length r) st1 in
       let body = fine_body r t fine in
       let after : Groups → Type 0 = λ y. ToCome s fin (length st.accents) (length st.rules) y (r ++ bytes) in
-      subst (λ (y : List ℕ). ToCome s fin (length st.accents) (length st.rules) (grouped_with r (grouped rs)) y) (sym (append_assoc r (records_bytes rs) (6 ∷ tail)))
+      subst (λ (y : List ℕ). ToCome s fin (length st.accents) (length st.rules) (grouped_with r (grouped rs)) y) (sym (append_assoc r (records_bytes rs) (6 ∷ beyond)))
       (split (eqb (kind r) 3)
       (λ k3. let k = eqb-true (kind r) 3 k3 in
       let v = accent_grew (kind r) at st k in
@@ -204,11 +204,11 @@ module _ (s tail : List ℕ) where
       (λ k5. subst after (sym (rw (k3, k4, k5)))
       (other_step s at fin (length st.accents) (length st.rules) r (grouped rs) bytes (kind r) refl (eqb-false (kind r) 5 k5) some x1)))))
 
-pub accents_own : {u : Tally} {rs : List (List ℕ)} (tail : List ℕ) → ReadsOn no_tally rs u
-    → (book_of (records_bytes rs ++ (6 ∷ tail)) (added_all pack_reader.start.st 0 rs)).accents ≡ map accent_of_group (grouped rs).accents
+pub accents_own : {u : Tally} {rs : List (List ℕ)} (beyond : List ℕ) → ReadsOn no_tally rs u
+    → (book_of (records_bytes rs ++ (6 ∷ beyond)) (added_all pack_reader.start.st 0 rs)).accents ≡ map accent_of_group (grouped rs).accents
 unfolding book_of
-accents_own {rs = rs} tail x =
+accents_own {rs = rs} beyond x =
     let fin = added_all pack_reader.start.st 0 rs in
-    let come = from_records (records_bytes rs ++ (6 ∷ tail)) tail x 0 pack_reader.start.st refl refl (omega arith) in
+    let come = from_records (records_bytes rs ++ (6 ∷ beyond)) beyond x 0 pack_reader.start.st refl refl (omega arith) in
     let z : length fin.accents ≡ length fin.accents - 0 = omega arith in
-    ap (λ n. tabulate (pack_accent (records_bytes rs ++ (6 ∷ tail)) fin) n 0) z ∙ come.accents
+    ap (λ n. tabulate (pack_accent (records_bytes rs ++ (6 ∷ beyond)) fin) n 0) z ∙ come.accents

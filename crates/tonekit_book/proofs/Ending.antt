@@ -8,7 +8,7 @@ use Rattle.spec_arithmetic.specs.Places.{number_at}
 use Rattle.spec_pack.specs.Pack.{PackRead, due_after, parents_held, parent_of, or_ends, chain_ends, chains_end, end_verdict, pack_reader}
 use Rattle.tonekit_records.specs.Records.{Tally, no_tally, ReadsOn, records_bytes, added_all}
 use Rattle.tonekit_records.proofs.Tallies.{zero_same}
-use Rattle.tonekit_book.specs.Book.{BookAccent, book_accent_in, accent_numbers, accent_parents, parents_among, or_reaches, reaches_end, all_reach_end, ending_of, tabulate, pack_accent, book_of}
+use Rattle.tonekit_book.specs.Book.{BookAccent, accent_numbers, accent_parents, parents_among, or_reaches, reaches_end, all_reach_end, ending_of, tabulate, pack_accent, book_of}
 use Rattle.tonekit_book.specs.Groups.{book_of_records}
 use Rattle.tonekit_book.proofs.Tabulate.{tabulate_length, map_tabulate, tabulate_all}
 use Rattle.tonekit_book.proofs.PackSource.{at_found, parent_same}
@@ -59,7 +59,7 @@ module _ (s : List ℕ) (st : PackRead) where
   unfolding end_verdict ending_of book_of
   ending_same = λ i. cond (not (parents_same i)) (Err Loose) (cond (not (chains_from (length st.accents) 0 i)) (Err EndlessChain) (Ok tt))
 
-pub records_ending : {u : Tally} {rs : List (List ℕ)} (tail : List ℕ) → ReadsOn no_tally rs u → due_after u.last 6 ≡ true
-    → end_verdict (records_bytes rs ++ (6 ∷ tail)) (added_all pack_reader.start.st 0 rs) ≡ ending_of (book_of_records rs).accents
-records_ending {rs = rs} tail x due =
-    ending_same (records_bytes rs ++ (6 ∷ tail)) (added_all pack_reader.start.st 0 rs) ∙ ap (λ b. ending_of b.accents) (book_of_records_lem tail x due)
+pub records_ending : {u : Tally} {rs : List (List ℕ)} (beyond : List ℕ) → ReadsOn no_tally rs u → due_after u.last 6 ≡ true
+    → end_verdict (records_bytes rs ++ (6 ∷ beyond)) (added_all pack_reader.start.st 0 rs) ≡ ending_of (book_of_records rs).accents
+records_ending {rs = rs} beyond x due =
+    ending_same (records_bytes rs ++ (6 ∷ beyond)) (added_all pack_reader.start.st 0 rs) ∙ ap (λ b. ending_of b.accents) (book_of_records_lem beyond x due)

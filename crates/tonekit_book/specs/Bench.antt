@@ -7,17 +7,17 @@ use Rattle.tonekit_core.specs.Loop.{fold, range, turns, range_to, turns_to, loop
 use Rattle.spec_arithmetic.specs.Whole.{whole_part}
 use Rattle.spec_arithmetic.specs.Narrow.{narrowed}
 use Rattle.spec_arithmetic.specs.Position.{position}
-use Rattle.spec_pack.specs.Ranges.{above_zero, probability_fine, knot_fine, weight_fine, slot_fine, knots_fine, region_fine, tolerances_fine}
+use Rattle.spec_pack.specs.Ranges.{above_zero, probability_fine, knot_fine, weight_fine, slot_fine, knots_fine, region_fine, tail_fine, tails_fine, tolerances_fine}
 use Rattle.spec_arithmetic.specs.Files.{loaded}
 use Rattle.spec_arithmetic.specs.Places.{index_of}
-use Rattle.spec_pack.specs.Pack.{PackRead, due_after, size_of, holds, zero_or_held, settings_verdict, tone_verdict, accent_verdict, rule_verdict, part_verdict, body_verdict, record_verdict, added, parents_held, chain_ends, chains_end, end_verdict, parts_from, read_pack}
+use Rattle.spec_pack.specs.Pack.{PackRead, due_after, size_of, holds, zero_or_held, settings_verdict, tone_verdict, tail_verdict, accent_verdict, rule_verdict, part_verdict, body_verdict, record_verdict, added, parents_held, chain_ends, chains_end, end_verdict, parts_from, read_pack}
 use Rattle.spec_lookup.specs.declared.Context.{Context}
 use Rattle.spec_lookup.specs.Knots.{segment, past_knot, on_line, point_at, first_points, knots_at}
 use Rattle.spec_lookup.specs.Lookup.{meets, component_of}
 use Rattle.spec_lookup.specs.Source.{Accent, Carried, carried, components}
 use Rattle.tonekit_records.specs.Records.{among, zero_or_among, records_bytes}
-use Rattle.tonekit_records.specs.Bench.{settings, tone, accent, rule, part, second_part}
-use Rattle.tonekit_book.specs.Book.{Rule, BookAccent, Book, first_with, rule_matches, conditions, better_rule, best_of, climb, look_in, parents_among, reaches_end, all_reach_end, ending_of, tabulate, book_of}
+use Rattle.tonekit_records.specs.Bench.{settings, tone, tail, context_tone, accent, rule, part, second_part, tailed, tailed_kept}
+use Rattle.tonekit_book.specs.Book.{Rule, BookAccent, BookTone, Book, first_with, rule_matches, conditions, better_rule, best_of, climb, look_in, parents_among, reaches_end, all_reach_end, ending_of, tabulate, book_of}
 use Rattle.tonekit_book.specs.Groups.{grouped, tone_records, book_of_records}
 
 -- ---- a pack of one tone and two accents: the records of tonekit_records/specs/Bench, a second rule of accent 7, and accent 8, its child, with a rule
@@ -40,7 +40,7 @@ abbrev kept : PackRead
 kept = record { last = 5; tones = 9 ∷ []; accents = 65 ∷ 236 ∷ []; firsts = 0 ∷ 2 ∷ []; rules = 84 ∷ 183 ∷ 255 ∷ []; parts = 1; total = 4 }
 
 reads : read_pack pack ≡ loaded kept 309
-unfolding records_bytes read_pack record_verdict due_after size_of body_verdict settings_verdict tone_verdict accent_verdict rule_verdict part_verdict holds zero_or_held added parents_held chain_ends chains_end end_verdict index_of range_to turns_to above_zero probability_fine knot_fine weight_fine slot_fine knots_fine region_fine tolerances_fine range turns loop_to loop_on lt le of_bits
+unfolding records_bytes read_pack record_verdict due_after size_of body_verdict settings_verdict tone_verdict tail_verdict accent_verdict rule_verdict part_verdict holds zero_or_held added parents_held chain_ends chains_end end_verdict index_of range_to turns_to above_zero probability_fine knot_fine weight_fine slot_fine knots_fine region_fine tail_fine tails_fine tolerances_fine range turns loop_to loop_on lt le of_bits
 reads = refl
 
 -- ---- its book
@@ -72,10 +72,17 @@ level owner label = record { owner = owner; form = 2; label = label; part = 0; w
 abbrev rule_for : ℕ → ℕ → List Carried → Rule
 rule_for prev final gives = record { tone = 4; prev = prev; final = final; gives = gives }
 
+-- tone 4 with a tail of these values
+abbrev tone_four : ℕ → ℕ → BookTone
+tone_four final elsewhere = record {
+  tone = record { number = 4; prior = 0x3e80_0000; flag = 1; from = 0x3e80_0000; to = 0x3f00_0000; tail_final = final; tail_elsewhere = elsewhere };
+  cited = λ n. some (cited_under n);
+}
+
 abbrev book : Book
 book = record {
   settings = record { temperature = 0x3f00_0000; threshold = 0x3f40_0000 };
-  tones = record { tone = record { number = 4; prior = 0x3e80_0000; flag = 1; from = 0x3e80_0000; to = 0x3f00_0000 }; cited = λ n. some (cited_under n) } ∷ [];
+  tones = tone_four 0 0 ∷ [];
   accents =
       record { accent = accent_numbered 7; parent = 0; rules = rule_for 0 2 mixture ∷ rule_for 4 0 (level 7 8) ∷ [] }
       ∷ record { accent = accent_numbered 8; parent = 7; rules = rule_for 4 0 (level 8 9) ∷ [] } ∷ [];
@@ -88,6 +95,29 @@ by_bytes = refl
 by_records : book_of_records records ≡ book
 unfolding book_of_records grouped tone_records records_bytes components component_of carried parts_from knots_at first_points point_at on_line past_knot segment position add sub mul div of_int of_bits to_bits whole_part narrowed
 by_records = refl
+
+-- of a pack whose first tone has a tail: -1 at phrase end, 0.5 elsewhere. The second one has none, and is for contexts only
+abbrev tailed_book : Book
+tailed_book = record {
+  settings = book.settings;
+  tones =
+      tone_four 0xbf80_0000 0x3f00_0000
+      ∷ record { tone = record { number = 5; prior = 0x3e80_0000; flag = 0; from = 0; to = 0; tail_final = 0; tail_elsewhere = 0 }; cited = λ n. none } ∷ [];
+  accents = record { accent = accent_numbered 7; parent = 0; rules = [] } ∷ [];
+}
+
+tailed_by_bytes : book_of (records_bytes tailed ++ (6 ∷ [])) tailed_kept ≡ tailed_book
+unfolding book_of tabulate records_bytes components component_of carried parts_from knots_at first_points point_at on_line past_knot segment position add sub mul div of_int of_bits to_bits whole_part narrowed
+tailed_by_bytes = refl
+
+tailed_by_records : book_of_records tailed ≡ tailed_book
+unfolding book_of_records grouped tone_records records_bytes components component_of carried parts_from knots_at first_points point_at on_line past_knot segment position add sub mul div of_int of_bits to_bits whole_part narrowed
+tailed_by_records = refl
+
+-- a tail behind the second tone is no matter to the first
+second_tailed : tone_records (settings ∷ tone ∷ context_tone ∷ tail ∷ accent 7 0 ∷ []) ≡ tone ∷ (context_tone ++ tail) ∷ []
+unfolding tone_records
+second_tailed = refl
 
 -- ---- lookups
 context : ℕ → ℕ → ℕ → Bool → Context

@@ -2,7 +2,7 @@
 -- lookup goes by numbers here.
 use Rattle.std.specs.Prelude.{ℕ, zero, suc, ◌+◌, ◌-◌, Bool, true, false, cond, not, ◌&&◌, List, [], ◌∷◌, map, eqb, ltb, length, get_or, Result, Ok, Err}
 use Rattle.std.proofs.Math.Option.{Option, none, some}
-use Rattle.tonekit_core.specs.declared.layout.TheConstants.{ACCENT_CONTOUR, TONE_REGION}
+use Rattle.tonekit_core.specs.declared.layout.TheConstants.{ACCENT_CONTOUR, TONE_REGION, TAIL_KIND}
 use Rattle.tonekit_core.specs.declared.layout.TheConstants.{TONE_KNOT_COUNT, ACCENT_PARENT, RULE_SIZE, RULE_TONE, RULE_PREV, RULE_FINAL}
 use Rattle.tonekit_core.specs.declared.Refusal.{Refusal}
 use Rattle.tonekit_core.specs.declared.Refusal.TheVariants.{Loose, EndlessChain}
@@ -142,7 +142,7 @@ unfoldable pub tabulate : {A : Type 0} → (ℕ → A) → ℕ → ℕ → List 
 tabulate f zero i = []
 tabulate f (suc k) i = f i ∷ tabulate f k (i + 1)
 
--- the tone, and the rule with the parts behind it, of the records at an offset
+-- the tone with the tail behind it, and the rule with the parts behind it, of the records at an offset
 abbrev pub book_tone_at : List ℕ → ℕ → BookTone
 book_tone_at s o = record { tone = tone_at TONE_REGION TAIL_KIND s o; cited = λ n. cond (eqb (byte_at s (o + TONE_KNOT_COUNT)) 0) none (some (components s (citation n o) 1)) }
 

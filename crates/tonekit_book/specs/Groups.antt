@@ -1,7 +1,8 @@
--- The book of a list of records, each by its own bytes: a rule's record with its parts, an accent's with its rules. They are grouped from the list's end.
+-- The book of a list of records, each by its own bytes: a tone's record with its tail, a rule's with its parts, an accent's with its rules. They are grouped
+-- from the list's end.
 use Rattle.std.specs.Prelude.{ℕ, cond, List, [], ◌∷◌, ◌++◌, map, eqb}
 use Rattle.tonekit_core.specs.declared.layout.TheConstants.{ACCENT_CONTOUR}
-use Rattle.tonekit_core.specs.declared.layout.TheConstants.{TONE_KIND, ACCENT_KIND, ACCENT_PARENT, RULE_KIND, PART_KIND}
+use Rattle.tonekit_core.specs.declared.layout.TheConstants.{TONE_KIND, TAIL_KIND, ACCENT_KIND, ACCENT_PARENT, RULE_KIND, PART_KIND}
 use Rattle.spec_arithmetic.specs.Fields.{byte_at}
 use Rattle.spec_arithmetic.specs.Places.{number_at}
 use Rattle.spec_lookup.specs.Source.{settings_at, accent_at}
@@ -35,10 +36,15 @@ grouped (r ∷ rs) = grouped_with r (grouped rs)
 abbrev pub accent_of_group : AccentGroup → BookAccent
 accent_of_group g = record { accent = accent_at ACCENT_CONTOUR g.head 0; parent = byte_at g.head ACCENT_PARENT; rules = map (λ (r : List ℕ). rule_at r (number_at g.head 0) 0) g.rules }
 
--- the tones' records, in order
+-- the tail that a list of records begins with, or nothing
+abbrev pub first_tail : List (List ℕ) → List ℕ
+first_tail [] = []
+first_tail (r ∷ rs) = cond (eqb (kind r) TAIL_KIND) r []
+
+-- for each tone the bytes of its record and of the tail behind it, in order
 unfoldable pub tone_records : List (List ℕ) → List (List ℕ)
 tone_records [] = []
-tone_records (r ∷ rs) = cond (eqb (kind r) TONE_KIND) (r ∷ tone_records rs) (tone_records rs)
+tone_records (r ∷ rs) = cond (eqb (kind r) TONE_KIND) ((r ++ first_tail rs) ∷ tone_records rs) (tone_records rs)
 
 abbrev pub tone_of_record : List ℕ → BookTone
 tone_of_record r = book_tone_at r 0
