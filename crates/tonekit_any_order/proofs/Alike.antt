@@ -1,36 +1,41 @@
 -- The records of a pack whose blocks stand in another order: they read if those of the one do (`reads_alike`), no two accents have one number
 -- (`blocks_differ`), and End stands at the same offset (`end_alike`). Assumes nothing.
-use Rattle.std.proofs.Common.{ℕ, ◌+◌, ◌≡◌, refl, ◌∙◌, ap, inl, inr, ⊎_elim, true, List, [], ◌∷◌, ◌++◌, arith, length, length-append}
+use Rattle.std.proofs.Common.{ℕ, ◌+◌, ◌≡◌, refl, ◌∙◌, ap, inl, inr, ⊎_elim, true, false, List, [], ◌∷◌, ◌++◌, arith, eqb, length, length-append}
 use Rattle.std.specs.Prelude.{All, AllPairs, IsPermutation, sum_by}
 use Rattle.std.proofs.lemmas.List.Elements.{All-head, All-tail}
 use Rattle.std.proofs.lemmas.List.Sums.{sum_by-cons}
 use Rattle.std.proofs.lemmas.List.Sorted.{All-permutation, sum_by-IsPermutation, length_permutation}
 use Rattle.spec_pack.specs.Pack.{due_after}
+use Rattle.tonekit_core.proofs.Split.{split}
 use Rattle.tonekit_records.specs.Records.{Tally, no_tally, kind, tallied, ReadsOn, none, more, records_bytes}
-use Rattle.tonekit_any_order.specs.Layout.{Block, Layout, blocks_records, layout_records, end_offset, IsOfKind, IsBlock, IsLayout}
+use Rattle.tonekit_any_order.specs.Layout.{Block, Layout, blocks_records, layout_records, end_offset, IsToneOrTail, IsBlock, IsLayout}
 use Rattle.tonekit_any_order.proofs.Differ.{Differ}
 use Rattle.tonekit_any_order.proofs.Blocks.{number_of, step, parted, joined, first_due, FineBlocks, blocks_fine, blocks_read, fine_in_order}
 
--- ---- settings and tones count no accent, rule or part
+-- ---- settings, tones and tails count no accent, rule or part
 record CountsAs (t v : Tally) : Type 0 where
   accents : v.accents ≡ t.accents
   rules : v.rules ≡ t.rules
   total : v.total ≡ t.total
 
-settings_count : (r : List ℕ) (t : Tally) → kind r ≡ 1 → CountsAs t (tallied r t)
+-- a record that is no accent, rule or part
+counts_none : (r : List ℕ) (t : Tally) {k : ℕ} → kind r ≡ k → eqb k 3 ≡ false → eqb k 4 ≡ false → eqb k 5 ≡ false → CountsAs t (tallied r t)
 unfolding tallied
-settings_count r t k = rw k (record { accents = refl; rules = refl; total = refl })
-
-tone_counts : (r : List ℕ) (t : Tally) → kind r ≡ 2 → CountsAs t (tallied r t)
-unfolding tallied
-tone_counts r t k = rw k (record { accents = refl; rules = refl; total = refl })
+counts_none r t {k} e a b c =
+    rw e
+    (split (eqb k 2)
+    (λ x. rw x (record { accents = refl; rules = refl; total = refl }))
+    (λ x. rw (x, a, b, c) (record { accents = refl; rules = refl; total = refl })))
 
 counts_then : {t u v : Tally} → CountsAs t u → CountsAs u v → CountsAs t v
 counts_then a b = record { accents = b.accents ∙ a.accents; rules = b.rules ∙ a.rules; total = b.total ∙ a.total }
 
-tones_count : (rs : List (List ℕ)) → All (IsOfKind 2) rs → {t v : Tally} → ReadsOn t rs v → CountsAs t v
+tones_count : (rs : List (List ℕ)) → All IsToneOrTail rs → {t v : Tally} → ReadsOn t rs v → CountsAs t v
 tones_count [] w none = record { accents = refl; rules = refl; total = refl }
-tones_count (r ∷ rs) w {t} (more n m fine x) = counts_then (tone_counts r t (All-head (IsOfKind 2) r rs w).begins) (tones_count rs (All-tail (IsOfKind 2) r rs w) x)
+tones_count (r ∷ rs) w {t} (more n m fine x) =
+    let one : CountsAs t (tallied r t) =
+    ⊎_elim (λ z. counts_none r t z.begins refl refl refl) (λ z. counts_none r t z.begins refl refl refl) (All-head IsToneOrTail r rs w) in
+    counts_then one (tones_count rs (All-tail IsToneOrTail r rs w) x)
 
 -- ---- records that read, with End due behind them
 pub record Reads (rs : List (List ℕ)) : Type 0 where
@@ -62,7 +67,7 @@ module _ (p : Layout) (is : IsLayout p) (x : Reads (layout_records p)) where
   fine_here : FineBlocks tally_before p.blocks
   fine_here =
       let y = parted p.tones (blocks_records p.blocks) (step x.reads).rest in
-      let c = counts_then (settings_count p.settings no_tally is.settings.begins) (tones_count p.tones is.tones y.front) in
+      let c = counts_then (counts_none p.settings no_tally is.settings.begins refl refl refl) (tones_count p.tones is.tones y.front) in
       blocks_fine p.blocks is.blocks y.back (omega (arith, c.rules)) (omega (arith, c.total)) (omega (arith, ap length c.accents)) x.due
 
   pub blocks_differ : AllPairs (Differ number_of) p.blocks

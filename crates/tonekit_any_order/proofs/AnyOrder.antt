@@ -1,7 +1,7 @@
 -- "A pack whose accents, each with its rules, are written in any other order gives the same sheet" (`same_sheet`, `same_lookups`), and if one loads, so does the
 -- other (`loads_alike`). What is turned back at End with 7 or 20 is turned back so in any order (`refused_alike`), and so what is made of them is the same
 -- (`same_outcome`, `same_answer`). Assumes nothing.
-use Rattle.std.proofs.Common.{ℕ, ◌+◌, ◌≤◌, ◌≡◌, refl, sym, ◌∙◌, ap, subst, ⊎_elim, List, [], ◌∷◌, ◌++◌, map, arith, ltb, le-ltb, length, length-append}
+use Rattle.std.proofs.Common.{ℕ, ◌+◌, ◌≤◌, ◌≡◌, refl, sym, ◌∙◌, ap, subst, ◌⊎◌, ⊎_elim, List, [], ◌∷◌, ◌++◌, map, arith, ltb, le-ltb, length, length-append}
 use Rattle.std.specs.Prelude.{Result, Ok, Err, All, AllPairs, IsPermutation}
 use Rattle.std.proofs.lemmas.List.Elements.{All-head, All-tail}
 use Rattle.std.proofs.lemmas.List.Sorted.{IsPermutation-map, IsPermutation-sym}
@@ -26,7 +26,7 @@ use Rattle.tonekit_book.proofs.PackSource.{look_same}
 use Rattle.tonekit_book.proofs.SameBook.{pack_sheet}
 use Rattle.tonekit_book.proofs.BookOfRecords.{book_of_records_lem}
 use Rattle.tonekit_book.proofs.Ending.{records_ending}
-use Rattle.tonekit_any_order.specs.Layout.{Block, Layout, blocks_records, layout_records, end_offset, layout_bytes, IsOfKind, IsRuleOrPart, IsBlock, IsLayout, InOtherOrder}
+use Rattle.tonekit_any_order.specs.Layout.{Block, Layout, blocks_records, layout_records, end_offset, layout_bytes, IsOfKind, IsBlock, IsLayout, InOtherOrder}
 use Rattle.tonekit_any_order.specs.AnyOrder.{OtherWay, LoadsAlike, SameSheet, SameLookups, OfParents, RefusedAlike, ComesToEnd, loads, turned_back, SameOutcome, SameAnswer}
 use Rattle.tonekit_any_order.proofs.Differ.{Differ, differ_map}
 use Rattle.tonekit_any_order.proofs.Alike.{Reads, blocks_differ, turned, turned_is, reads_alike, end_alike}
@@ -38,11 +38,16 @@ use Rattle.tonekit_any_order.proofs.OneSheet.{one_sheet}
 of_kind : (k : ℕ) (r : List ℕ) → (k ≡ 6 → ⊥) → IsOfKind k r → (length r ≡ size_of (kind r)) × (kind r ≡ 6 → ⊥)
 of_kind k r n is = (is.whole ∙ ap size_of (sym is.begins), λ e. n (sym is.begins ∙ e))
 
-rules_whole : (rs ys : List (List ℕ)) → All IsRuleOrPart rs → WholeRecords ys → WholeRecords (rs ++ ys)
-rules_whole [] ys w h = h
-rules_whole (r ∷ rs) ys w h =
-    let z : (length r ≡ size_of (kind r)) × (kind r ≡ 6 → ⊥) = ⊎_elim (of_kind 4 r (λ e. omega arith)) (of_kind 5 r (λ e. omega arith)) (All-head IsRuleOrPart r rs w) in
-    (z.0, z.1, rules_whole rs ys (All-tail IsRuleOrPart r rs w) h)
+-- of either of two kinds, with others behind them
+module _ (j k : ℕ) (n : j ≡ 6 → ⊥) (m : k ≡ 6 → ⊥) where
+  abbrev Of : List ℕ → Type 0
+  Of r = IsOfKind j r ⊎ IsOfKind k r
+
+  either_whole : (rs ys : List (List ℕ)) → All Of rs → WholeRecords ys → WholeRecords (rs ++ ys)
+  either_whole [] ys w h = h
+  either_whole (r ∷ rs) ys w h =
+      let z : (length r ≡ size_of (kind r)) × (kind r ≡ 6 → ⊥) = ⊎_elim (of_kind j r n) (of_kind k r m) (All-head Of r rs w) in
+      (z.0, z.1, either_whole rs ys (All-tail Of r rs w) h)
 
 blocks_whole : (bs : List Block) → All IsBlock bs → WholeRecords (blocks_records bs)
 unfolding blocks_records
@@ -50,12 +55,7 @@ blocks_whole [] w = tt
 blocks_whole (b ∷ bs) w =
     let is = All-head IsBlock b bs w in
     let z = of_kind 3 b.accent (λ e. omega arith) is.accent in
-    (z.0, z.1, rules_whole b.rules (blocks_records bs) is.rules (blocks_whole bs (All-tail IsBlock b bs w)))
-
-tones_whole : (ts ys : List (List ℕ)) → All (IsOfKind 2) ts → WholeRecords ys → WholeRecords (ts ++ ys)
-tones_whole [] ys w h = h
-tones_whole (t ∷ ts) ys w h =
-    let z = of_kind 2 t (λ e. omega arith) (All-head (IsOfKind 2) t ts w) in (z.0, z.1, tones_whole ts ys (All-tail (IsOfKind 2) t ts w) h)
+    (z.0, z.1, either_whole 4 5 (λ e. omega arith) (λ e. omega arith) b.rules (blocks_records bs) is.rules (blocks_whole bs (All-tail IsBlock b bs w)))
 
 -- ---- one of them
 module _ (p : Layout) (is : IsLayout p) where
@@ -70,7 +70,8 @@ module _ (p : Layout) (is : IsLayout p) where
 
   all_whole : WholeRecords (layout_records p)
   all_whole =
-      let z = of_kind 1 p.settings (λ e. omega arith) is.settings in (z.0, z.1, tones_whole p.tones (blocks_records p.blocks) is.tones (blocks_whole p.blocks is.blocks))
+      let z = of_kind 1 p.settings (λ e. omega arith) is.settings in
+      (z.0, z.1, either_whole 2 7 (λ e. omega arith) (λ e. omega arith) p.tones (blocks_records p.blocks) is.tones (blocks_whole p.blocks is.blocks))
 
   -- if the reading comes to End, its records read
   not_parents : (r : Refusal) → OfParents r → r ≡ Misplaced → ⊥

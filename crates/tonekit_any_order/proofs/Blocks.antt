@@ -9,6 +9,7 @@ use Rattle.std.proofs.lemmas.List.Sorted.{All-permutation, sum_by-IsPermutation,
 use Rattle.spec_arithmetic.specs.Places.{number_at}
 use Rattle.spec_pack.specs.Pack.{due_after, size_of, accent_fine}
 use Rattle.tonekit_core.proofs.Split.{split, either, neither}
+use Rattle.tonekit_pack.specs.Going.{reached}
 use Rattle.tonekit_records.specs.Records.{Tally, among, kind, record_verdict_of, tallied, ReadsOn, none, more}
 use Rattle.tonekit_records.proofs.Loading.{fine_due}
 use Rattle.tonekit_any_order.specs.Layout.{Block, blocks_records, IsOfKind, IsBlock}
@@ -41,11 +42,14 @@ joined (more w n fine x) y = more w n fine (joined x y)
 -- ---- what is due behind an accent's rules
 accent_due : (l : ℕ) → due_after l 6 ≡ true → due_after l 3 ≡ true
 unfolding due_after
-accent_due l d = split (eqb l 2) (λ t. rw t) (λ t. rw t d)
+accent_due l d = split (eqb l 2) (λ t. rw t) (λ t. split (eqb l 7) (λ w. rw (t, w)) (λ w. rw (t, w) d))
 
-end_due : (l : ℕ) → 3 ≤ l → due_after l 3 ≡ true → due_after l 6 ≡ true
+end_due : (l : ℕ) → 3 ≤ reached l → due_after l 3 ≡ true → due_after l 6 ≡ true
 unfolding due_after
-end_due l h d = either (eqb l 2) (eqb l 3 || eqb l 5) d (λ t. absurd (omega (arith, eqb-true l 2 t))) (λ t. t)
+end_due l h d =
+    let early : (k : ℕ) → eqb l k ≡ true → reached l ≡ reached k = λ k t. ap reached (eqb-true l k t) in
+    either (eqb l 2) (eqb l 7 || (eqb l 3 || eqb l 5)) d (λ t. absurd (omega (arith, early 2 t)))
+    (λ t. either (eqb l 7) (eqb l 3 || eqb l 5) t (λ w. absurd (omega (arith, early 7 w))) (λ w. w))
 
 module _ (bs : List Block) (w : All IsBlock bs) {t u : Tally} (x : ReadsOn t (blocks_records bs) u) (due : due_after u.last 6 ≡ true) where
   pub record FirstDue : Type 0 where
@@ -58,7 +62,7 @@ first_due [] w {t} none due = record { accent = accent_due t.last due; end = inl
 first_due (b ∷ bs) w {t} (more n m fine x) due =
     let k = (All-head IsBlock b bs w).accent.begins in record { accent = ap (due_after t.last) (sym k) ∙ fine_due b.accent t fine; end = inr (omega arith) }
 
-then_due : (bs : List Block) (w : All IsBlock bs) {t u : Tally} (x : ReadsOn t (blocks_records bs) u) → due_after u.last 6 ≡ true → 3 ≤ t.last → due_after t.last 6 ≡ true
+then_due : (bs : List Block) (w : All IsBlock bs) {t u : Tally} (x : ReadsOn t (blocks_records bs) u) → due_after u.last 6 ≡ true → 3 ≤ reached t.last → due_after t.last 6 ≡ true
 then_due bs w {t} x due late = end_due t.last late (first_due bs w x due).accent
 
 -- ---- an accent with its rules by itself, after these tones
@@ -139,7 +143,7 @@ blocks_fine (b ∷ bs) w {t} {u} x p q l due =
     let ru = sum_by-cons rules_in b bs in
     let pa = sum_by-cons parts_in b bs in
     let m = moved b.rules is.rules (to_bare b.accent t) y.front (omega (arith, c.rules, f.rules)) (omega (arith, c.total, f.parts)) in
-    let late : 3 ≤ va.last = c.late (omega arith) in
+    let late : 3 ≤ reached va.last = c.late (omega arith) in
     let own = own_block b t va qa m (then_due bs others y.back due late) in
     let both : (a : Block) → among va.accents (number_of a) ≡ false → (among t.accents (number_of a) ≡ false) × (eqb (number_of b) (number_of a) ≡ false) =
     λ a e. among_neither t.accents (number_of b) (number_of a) (ap (λ z. among z (number_of a)) (sym c.accents) ∙ e) in

@@ -1,13 +1,14 @@
--- Every pack that loads is settings, tones and blocks, each an accent and the rules and parts behind it, and End (`every_pack`). Assumes nothing.
-use Rattle.std.proofs.Common.{ℕ, ◌≤◌, ◌≡◌, refl, sym, ◌∙◌, ap, subst, inl, inr, true, false, cond, List, [], ◌∷◌, ◌++◌, arith, eqb, eqb-true, length, drop}
+-- Every pack that loads is settings, tones and tails, blocks, each an accent and the rules and parts behind it, and End (`every_pack`). Assumes nothing.
+use Rattle.std.proofs.Common.{ℕ, ◌≤◌, ◌≡◌, refl, sym, ◌∙◌, ap, subst, ◌⊎◌, inl, inr, ⊎_elim, true, false, cond, List, [], ◌∷◌, ◌++◌, arith, eqb, eqb-true, length, drop}
 use Rattle.std.specs.Prelude.{All}
 use Rattle.std.proofs.lemmas.List.Elements.{All-nil, All-cons}
 use Rattle.spec_pack.specs.Pack.{due_after, size_of}
 use Rattle.tonekit_core.proofs.Split.{split, absurd_bool}
-use Rattle.tonekit_pack.proofs.Records.{Due, due_is, settings, tone, accent, rule, part, finish}
+use Rattle.tonekit_pack.specs.Going.{reached}
+use Rattle.tonekit_pack.proofs.Records.{Due, due_is, settings, tone, tail, accent, rule, part, finish}
 use Rattle.tonekit_records.specs.Records.{Tally, no_tally, kind, tallied, ReadsOn, none, more, records_bytes}
 use Rattle.tonekit_records.proofs.Loading.{fine_due, load_reads}
-use Rattle.tonekit_any_order.specs.Layout.{Block, Layout, blocks_records, layout_records, IsOfKind, IsRuleOrPart, IsBlock, IsLayout}
+use Rattle.tonekit_any_order.specs.Layout.{Block, Layout, blocks_records, layout_records, IsOfKind, IsToneOrTail, IsRuleOrPart, IsBlock, IsLayout}
 use Rattle.tonekit_any_order.specs.AnyOrder.{EveryPack}
 
 -- ---- records taken apart, from their end: what stands before the first accent, and the blocks
@@ -59,51 +60,58 @@ tallied_last r t =
     (λ a. split (eqb (kind r) 3) (λ b. rw (a, b)) (λ b. split (eqb (kind r) 4) (λ c. rw (a, b, c)) (λ c. split (eqb (kind r) 5) (λ d. rw (a, b, c, d)) (λ d. rw (a, b, c, d)))))
 
 -- ---- behind an accent
-late_kind : {l k : ℕ} → Due l k → 3 ≤ l → 3 ≤ k
-late_kind (settings e) h = absurd (omega arith)
+late_kind : {l k : ℕ} → Due l k → 3 ≤ reached l → 3 ≤ reached k
+late_kind (settings e) h = absurd (omega (arith, ap reached e))
 late_kind (tone a b) h = absurd (omega arith)
+late_kind (tail a b) h = absurd (omega arith)
 late_kind (accent a b) h = omega arith
 late_kind (rule a b) h = omega arith
 late_kind (part a b) h = omega arith
 late_kind (finish a b) h = omega arith
 
-late_more : (l : ℕ) (r : List ℕ) (rs : List (List ℕ)) → length r ≡ size_of (kind r) → (kind r ≡ 6 → ⊥) → 3 ≤ l → {k : ℕ} → Due l k → kind r ≡ k
+late_more : (l : ℕ) (r : List ℕ) (rs : List (List ℕ)) → length r ≡ size_of (kind r) → (kind r ≡ 6 → ⊥) → 3 ≤ reached l → {k : ℕ} → Due l k → kind r ≡ k
     → Shaped IsRuleOrPart (pieces rs) → Shaped IsRuleOrPart (pieces (r ∷ rs))
-late_more l r rs w n h (settings e) q s = absurd (omega arith)
+late_more l r rs w n h (settings e) q s = absurd (omega (arith, ap reached e))
 late_more l r rs w n h (tone a b) q s = absurd (omega arith)
+late_more l r rs w n h (tail a b) q s = absurd (omega arith)
 late_more l r rs w n h (accent a b) q s = accent_more r rs w IsRuleOrPart q s
 late_more l r rs w n h (rule a b) q s = other_more r rs w IsRuleOrPart (ap (λ k. eqb k 3) q) (inl (of_kind 4 r q w)) s
 late_more l r rs w n h (part a b) q s = other_more r rs w IsRuleOrPart (ap (λ k. eqb k 3) q) (inr (of_kind 5 r q w)) s
 late_more l r rs w n h (finish a b) q s = absurd (n q)
 
-late : {t u : Tally} {rs : List (List ℕ)} → ReadsOn t rs u → 3 ≤ t.last → Shaped IsRuleOrPart (pieces rs)
+late : {t u : Tally} {rs : List (List ℕ)} → ReadsOn t rs u → 3 ≤ reached t.last → Shaped IsRuleOrPart (pieces rs)
 late none h = nothing IsRuleOrPart
 late {t} (more {r = r} {rs = rs} w n fine x) h =
     let d = due_is t.last (kind r) (fine_due r t fine) in
-    late_more t.last r rs w n h d refl (late x (subst (λ k. 3 ≤ k) (sym (tallied_last r t)) (late_kind d h)))
+    late_more t.last r rs w n h d refl (late x (subst (λ k. 3 ≤ reached k) (sym (tallied_last r t)) (late_kind d h)))
 
 -- ---- behind the settings
-early_kind : {l k : ℕ} → Due l k → 1 ≤ l → l ≤ 2 → eqb k 3 ≡ false → k ≡ 2
-early_kind (settings e) g h n = absurd (omega arith)
-early_kind (tone a b) g h n = refl
+early_kind : {l k : ℕ} → Due l k → 1 ≤ reached l → reached l ≤ 2 → eqb k 3 ≡ false → (k ≡ 2) ⊎ (k ≡ 7)
+early_kind (settings e) g h n = absurd (omega (arith, ap reached e))
+early_kind (tone a b) g h n = inl refl
+early_kind (tail a b) g h n = inr refl
 early_kind (accent a b) g h n = absurd_bool (sym n)
 early_kind (rule a b) g h n = absurd (omega arith)
 early_kind (part a b) g h n = absurd (omega arith)
 early_kind (finish a b) g h n = absurd (omega arith)
 
-early : {t u : Tally} {rs : List (List ℕ)} → ReadsOn t rs u → 1 ≤ t.last → t.last ≤ 2 → Shaped (IsOfKind 2) (pieces rs)
-early none g h = nothing (IsOfKind 2)
+early : {t u : Tally} {rs : List (List ℕ)} → ReadsOn t rs u → 1 ≤ reached t.last → reached t.last ≤ 2 → Shaped IsToneOrTail (pieces rs)
+early none g h = nothing IsToneOrTail
 early {t} (more {r = r} {rs = rs} w n fine x) g h =
     let d = due_is t.last (kind r) (fine_due r t fine) in
-    let last = tallied_last r t in
+    let last = ap reached (tallied_last r t) in
     split (eqb (kind r) 3)
-    (λ a. let k = eqb-true (kind r) 3 a in accent_more r rs w (IsOfKind 2) k (late x (omega (arith, last, k))))
-    (λ a. let k = early_kind d g h a in other_more r rs w (IsOfKind 2) a (of_kind 2 r k w) (early x (omega (arith, last, k)) (omega (arith, last, k))))
+    (λ a. let k = eqb-true (kind r) 3 a in accent_more r rs w IsToneOrTail k (late x (omega (arith, last, ap reached k))))
+    (λ a. let kinds = early_kind d g h a in
+    let two : reached (kind r) ≡ 2 = ⊎_elim (ap reached) (ap reached) kinds in
+    let is : IsToneOrTail r = ⊎_elim (λ k. inl (of_kind 2 r k w)) (λ k. inr (of_kind 7 r k w)) kinds in
+    other_more r rs w IsToneOrTail a is (early x (omega (arith, last, two)) (omega (arith, last, two))))
 
 -- ---- the whole
 first_kind : {k : ℕ} → Due 0 k → k ≡ 1
 first_kind (settings e) = refl
 first_kind (tone a b) = absurd (omega arith)
+first_kind (tail a b) = absurd (omega arith)
 first_kind (accent a b) = absurd (omega arith)
 first_kind (rule a b) = absurd (omega arith)
 first_kind (part a b) = absurd (omega arith)
@@ -115,8 +123,8 @@ unfolding due_after
 of_records behind none due = absurd_bool due
 of_records behind (more {r = r} {rs = rs} w n fine x) due =
     let k = first_kind (due_is 0 (kind r) (fine_due r no_tally fine)) in
-    let last = tallied_last r no_tally in
-    let s = early x (omega (arith, last, k)) (omega (arith, last, k)) in (
+    let last = ap reached (tallied_last r no_tally ∙ k) in
+    let s = early x (omega (arith, last)) (omega (arith, last)) in (
       record { settings = r; tones = (pieces rs).front; blocks = (pieces rs).blocks; behind = behind },
       record { settings = of_kind 1 r k w; tones = s.front; blocks = s.blocks },
       ap (λ (l : List (List ℕ)). records_bytes (r ∷ l) ++ (6 ∷ behind)) (sym (together rs)),

@@ -8,6 +8,7 @@ use Rattle.spec_arithmetic.specs.Fields.{byte_at}
 use Rattle.spec_arithmetic.specs.Places.{number_at}
 use Rattle.spec_pack.specs.Pack.{due_after, in_turn, accent_fine, rule_fine, part_fine}
 use Rattle.tonekit_core.proofs.Split.{either, neither}
+use Rattle.tonekit_pack.specs.Going.{reached}
 use Rattle.tonekit_pack.proofs.Records.{passed}
 use Rattle.tonekit_records.specs.Records.{Tally, among, zero_or_among, kind, accent_verdict_of, rule_verdict_of, last_single, part_verdict_of, body_verdict_of, record_verdict_of, tallied, ReadsOn, none, more}
 use Rattle.tonekit_records.proofs.Loading.{fine_due, fine_body}
@@ -118,7 +119,7 @@ pub record Counted (t v : Tally) (rs : List (List ℕ)) : Type 0 where
   pub tones : v.tones ≡ t.tones
   pub most_rules : t.rules ≤ 64 → v.rules ≤ 64
   pub most_parts : t.total ≤ 128 → v.total ≤ 128
-  pub late : 3 ≤ t.last → 3 ≤ v.last
+  pub late : 3 ≤ reached t.last → 3 ≤ reached v.last
 
 pub counted : (rs : List (List ℕ)) → All IsRuleOrPart rs → {t v : Tally} → ReadsOn t rs v → Counted t v rs
 unfolding how_many

@@ -8,13 +8,13 @@ use Rattle.tonekit_core.specs.Loop.{range, turns, range_to, turns_to, loop_to, l
 use Rattle.tonekit_core.specs.declared.Refusal.TheVariants.{Misplaced, Loose, EndlessChain}
 use Rattle.spec_arithmetic.specs.Files.{Out, loaded, refused}
 use Rattle.spec_arithmetic.specs.Places.{index_of}
-use Rattle.spec_pack.specs.Ranges.{above_zero, probability_fine, knot_fine, weight_fine, slot_fine, knots_fine, region_fine, tolerances_fine}
-use Rattle.spec_pack.specs.Pack.{PackRead, due_after, size_of, holds, zero_or_held, settings_verdict, tone_verdict, accent_verdict, rule_verdict, part_verdict, body_verdict, record_verdict, added, parents_held, chain_ends, chains_end, end_verdict, read_pack}
+use Rattle.spec_pack.specs.Ranges.{above_zero, probability_fine, knot_fine, weight_fine, slot_fine, knots_fine, region_fine, tail_fine, tails_fine, tolerances_fine}
+use Rattle.spec_pack.specs.Pack.{PackRead, due_after, size_of, holds, zero_or_held, settings_verdict, tone_verdict, tail_verdict, accent_verdict, rule_verdict, part_verdict, body_verdict, record_verdict, added, parents_held, chain_ends, chains_end, end_verdict, read_pack}
 use Rattle.tonekit_records.specs.Records.{records_bytes}
-use Rattle.tonekit_records.specs.Bench.{settings, tone, accent, rule, part, second_part}
-use Rattle.tonekit_any_order.specs.Layout.{Block, Layout, blocks_records, end_offset, layout_bytes, IsOfKind, IsRuleOrPart, IsBlock, IsLayout, InOtherOrder}
+use Rattle.tonekit_records.specs.Bench.{settings, tone, tail, context_tone, accent, rule, part, second_part}
+use Rattle.tonekit_any_order.specs.Layout.{Block, Layout, blocks_records, end_offset, layout_bytes, IsToneOrTail, IsRuleOrPart, IsBlock, IsLayout, InOtherOrder}
 
--- ---- a pack of one tone and two accents: 8, with one rule of two parts, and 7, with one rule of one part
+-- ---- a pack of two tones, of which the first has a tail, and two accents: 8, with one rule of two parts, and 7, with one rule of one part
 -- label 8; tone 4 after tone 4; single, of weight 1 and knot 1
 abbrev single : List ℕ
 single = 4 ∷ 8 ∷ 0 ∷ 4 ∷ 4 ∷ 0 ∷ 2 ∷ []
@@ -30,21 +30,21 @@ seven parent = record { accent = accent 7 parent; rules = single ∷ lone_part �
 
 -- with these accents, and this behind it
 abbrev pack : List Block → List ℕ → Layout
-pack blocks behind = record { settings = settings; tones = tone ∷ []; blocks = blocks; behind = behind }
+pack blocks behind = record { settings = settings; tones = tone ∷ tail ∷ context_tone ∷ []; blocks = blocks; behind = behind }
 
 -- the child first, and its parent first: each accent takes its rules along, and each rule its parts
 child_first : layout_bytes (pack (eight 7 ∷ seven 0 ∷ []) [])
-    ≡ settings ++ (tone ++ (accent 8 7 ++ (rule ++ (part ++ (second_part ++ (accent 7 0 ++ (single ++ (lone_part ++ (6 ∷ [])))))))))
+    ≡ settings ++ (tone ++ (tail ++ (context_tone ++ (accent 8 7 ++ (rule ++ (part ++ (second_part ++ (accent 7 0 ++ (single ++ (lone_part ++ (6 ∷ [])))))))))))
 unfolding records_bytes blocks_records
 child_first = refl
 
 parent_first : layout_bytes (pack (seven 0 ∷ eight 7 ∷ []) (1 ∷ []))
-    ≡ settings ++ (tone ++ (accent 7 0 ++ (single ++ (lone_part ++ (accent 8 7 ++ (rule ++ (part ++ (second_part ++ (6 ∷ 1 ∷ [])))))))))
+    ≡ settings ++ (tone ++ (tail ++ (context_tone ++ (accent 7 0 ++ (single ++ (lone_part ++ (accent 8 7 ++ (rule ++ (part ++ (second_part ++ (6 ∷ 1 ∷ [])))))))))))
 unfolding records_bytes blocks_records
 parent_first = refl
 
 -- where End stands
-end_at : end_offset (pack (eight 7 ∷ seven 0 ∷ []) (1 ∷ [])) ≡ 255
+end_at : end_offset (pack (eight 7 ∷ seven 0 ∷ []) (1 ∷ [])) ≡ 320
 unfolding records_bytes blocks_records
 end_at = refl
 
@@ -53,7 +53,10 @@ of_kind : (eight_parent seven_parent : ℕ) (behind : List ℕ) → IsLayout (pa
 unfolding size_of
 of_kind e s behind = record {
   settings = record { begins = refl; whole = refl };
-  tones = All-cons (IsOfKind 2) tone [] (record { begins = refl; whole = refl }) (All-nil (IsOfKind 2));
+  tones =
+      All-cons IsToneOrTail tone (tail ∷ context_tone ∷ []) (inl (record { begins = refl; whole = refl }))
+      (All-cons IsToneOrTail tail (context_tone ∷ []) (inr (record { begins = refl; whole = refl }))
+      (All-cons IsToneOrTail context_tone [] (inl (record { begins = refl; whole = refl })) (All-nil IsToneOrTail)));
   blocks =
       All-cons IsBlock (eight e) (seven s ∷ [])
       (record {
@@ -86,23 +89,23 @@ turned behind = record {
 
 -- ---- both are read, each by its own offsets
 unfoldable read : List Block → Out PackRead
-unfolding records_bytes blocks_records read_pack record_verdict due_after size_of body_verdict settings_verdict tone_verdict accent_verdict rule_verdict part_verdict holds zero_or_held added parents_held chain_ends chains_end end_verdict index_of range_to turns_to above_zero probability_fine knot_fine weight_fine slot_fine knots_fine region_fine tolerances_fine range turns loop_to loop_on lt le of_bits
+unfolding records_bytes blocks_records read_pack record_verdict due_after size_of body_verdict settings_verdict tone_verdict tail_verdict accent_verdict rule_verdict part_verdict holds zero_or_held added parents_held chain_ends chains_end end_verdict index_of range_to turns_to above_zero probability_fine knot_fine weight_fine slot_fine knots_fine region_fine tail_fine tails_fine tolerances_fine range turns loop_to loop_on lt le of_bits
 read blocks = read_pack (layout_bytes (pack blocks (1 ∷ [])))
 
 abbrev held : List ℕ → List ℕ → ℕ → PackRead
-held accents rules parts = record { last = 5; tones = 9 ∷ []; accents = accents; firsts = 0 ∷ 1 ∷ []; rules = rules; parts = parts; total = 3 }
+held accents rules parts = record { last = 5; tones = 9 ∷ 74 ∷ []; accents = accents; firsts = 0 ∷ 1 ∷ []; rules = rules; parts = parts; total = 3 }
 
-both_load : (read (eight 7 ∷ seven 0 ∷ []) ≡ loaded (held (65 ∷ 183 ∷ []) (84 ∷ 202 ∷ []) 1) 256)
-    × (read (seven 0 ∷ eight 7 ∷ []) ≡ loaded (held (65 ∷ 137 ∷ []) (84 ∷ 156 ∷ []) 2) 256)
+both_load : (read (eight 7 ∷ seven 0 ∷ []) ≡ loaded (held (130 ∷ 248 ∷ []) (149 ∷ 267 ∷ []) 1) 321)
+    × (read (seven 0 ∷ eight 7 ∷ []) ≡ loaded (held (130 ∷ 202 ∷ []) (149 ∷ 221 ∷ []) 2) 321)
 unfolding read
 both_load = (refl, refl)
 
 -- and turned back alike: a parent that is not there, and a ring
-both_loose : (read (eight 9 ∷ seven 0 ∷ []) ≡ refused Loose 255) × (read (seven 0 ∷ eight 9 ∷ []) ≡ refused Loose 255)
+both_loose : (read (eight 9 ∷ seven 0 ∷ []) ≡ refused Loose 320) × (read (seven 0 ∷ eight 9 ∷ []) ≡ refused Loose 320)
 unfolding read
 both_loose = (refl, refl)
 
-both_endless : (read (eight 7 ∷ seven 8 ∷ []) ≡ refused EndlessChain 255) × (read (seven 8 ∷ eight 7 ∷ []) ≡ refused EndlessChain 255)
+both_endless : (read (eight 7 ∷ seven 8 ∷ []) ≡ refused EndlessChain 320) × (read (seven 8 ∷ eight 7 ∷ []) ≡ refused EndlessChain 320)
 unfolding read
 both_endless = (refl, refl)
 
@@ -110,6 +113,6 @@ both_endless = (refl, refl)
 abbrev bare : Block
 bare = record { accent = accent 7 0; rules = single ∷ [] }
 
-not_due : (read (eight 7 ∷ bare ∷ []) ≡ refused Misplaced 209) × (read (bare ∷ eight 7 ∷ []) ≡ refused Misplaced 91)
+not_due : (read (eight 7 ∷ bare ∷ []) ≡ refused Misplaced 274) × (read (bare ∷ eight 7 ∷ []) ≡ refused Misplaced 156)
 unfolding read
 not_due = (refl, refl)

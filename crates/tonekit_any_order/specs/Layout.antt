@@ -1,6 +1,6 @@
--- A pack as it is written: its settings, its tones, its accents each with its rules, End, and what stands behind it.
+-- A pack as it is written: its settings, its tones with their tails, its accents each with its rules, End, and what stands behind it.
 use Rattle.std.specs.Prelude.{ℕ, ◌≡◌, ◌⊎◌, List, [], ◌∷◌, ◌++◌, length, All, IsPermutation}
-use Rattle.tonekit_core.specs.declared.layout.TheConstants.{SETTINGS_KIND, TONE_KIND, ACCENT_KIND, RULE_KIND, PART_KIND, END_KIND}
+use Rattle.tonekit_core.specs.declared.layout.TheConstants.{SETTINGS_KIND, TONE_KIND, TAIL_KIND, ACCENT_KIND, RULE_KIND, PART_KIND, END_KIND}
 use Rattle.spec_pack.specs.Pack.{size_of}
 use Rattle.tonekit_records.specs.Records.{kind, records_bytes}
 
@@ -9,6 +9,7 @@ pub record Block : Type 0 where
   pub accent : List ℕ
   pub rules : List (List ℕ)
 
+-- the records of its tones, each with that of its tail behind it, if it has one
 pub record Layout : Type 0 where
   pub settings : List ℕ
   pub tones : List (List ℕ)
@@ -35,6 +36,9 @@ pub record IsOfKind (k : ℕ) (r : List ℕ) : Type 0 where
   pub begins : kind r ≡ k
   pub whole : length r ≡ size_of k
 
+abbrev pub IsToneOrTail : List ℕ → Type 0
+IsToneOrTail r = IsOfKind TONE_KIND r ⊎ IsOfKind TAIL_KIND r
+
 abbrev pub IsRuleOrPart : List ℕ → Type 0
 IsRuleOrPart r = IsOfKind RULE_KIND r ⊎ IsOfKind PART_KIND r
 
@@ -44,11 +48,11 @@ pub record IsBlock (b : Block) : Type 0 where
 
 pub record IsLayout (p : Layout) : Type 0 where
   pub settings : IsOfKind SETTINGS_KIND p.settings
-  pub tones : All (IsOfKind TONE_KIND) p.tones
+  pub tones : All IsToneOrTail p.tones
   pub blocks : All IsBlock p.blocks
 
--- "A pack whose accents, each with its rules, are written in any other order": the bytes t are those of s but for that order. IsPermutation is the word by
--- which a sort says that it only moves
+-- "A pack whose accents, each with its rules, are written in any other order": the bytes t are those of s but for that order; tones and tails stay.
+-- IsPermutation is the word by which a sort says that it only moves
 pub record InOtherOrder (s t : List ℕ) : Type 0 where
   pub layout : Layout
   pub other : List Block
