@@ -1,5 +1,5 @@
 -- Demand 3: `stations_agree` and `one_sheet_exactly` are its two halves, as specs/Demand3.antt states them; `one_sheet_each`, `same_outcomes` and
--- `same_answer` say what they rest on. Assumes nothing.
+-- `same_answer` say what they rest on, and `other_tail` says of tails alone what the second half comes to. Assumes nothing.
 use Rattle.std.proofs.Common.{ℕ, ◌≡◌, sym, ap, ap₂, ◌∙◌, List, length}
 use Rattle.tonekit_core.specs.Calls.{Outcome, written, answer_in, buffer_after}
 use Rattle.tonekit_pack.proofs.Single.{loads_alone}
@@ -10,12 +10,12 @@ use Rattle.tonekit_sheet.specs.Sheetable.{Sheetable}
 use Rattle.tonekit_sheet_limits.proofs.OfPack.{sheetable_of_pack}
 use Rattle.tonekit_sheet_laws.proofs.Round.{round}
 use Rattle.tonekit_sheet_laws.proofs.Back.{read_back, settings_back, tones_back, accents_back, lookups_back}
-use Rattle.tonekit_sheet_laws.proofs.Exactly.{exactly}
+use Rattle.tonekit_sheet_laws.proofs.Exactly.{exactly, tails_told}
 use Rattle.spec_sheet.specs.Outcome.{sheet_of, sheet_outcome}
 use Rattle.spec_judgement.specs.Judgement.{judgement, on_pack, judge_outcome}
 use Rattle.spec_sheet.specs.JudgeSheet.{on_sheet, judge_sheet_outcome}
 use Rattle.tonekit_station.proofs.Depends.{judgement_same}
-use Rattle.tonekit_demand.specs.Demand3.{Loads, holds, SheetOf, OneSheetEach, SameOutcome, SameAnswer, StationsAgree, OneSheetExactly}
+use Rattle.tonekit_demand.specs.Demand3.{Loads, holds, SheetOf, OneSheetEach, SameOutcome, SameAnswer, StationsAgree, OneSheetExactly, TailsTold}
 
 -- what a source's own sheet holds agrees with the source, and so is judged alike
 module _ (src : Source) (fit : Sheetable src) where
@@ -70,3 +70,7 @@ one_sheet_exactly p r bp br l m sh sh' w w' =
     let y = only_sheet r br m sh' w' in
     let e = exactly (holds p l) (holds r m) (sheetable p bp l) (sheetable r br m) in
     (λ h. e.0 (x ∙ h ∙ sym y), λ h. sym x ∙ e.1 h ∙ y)
+
+pub other_tail : TailsTold
+other_tail p r bp br l m sh sh' w w' i last differ h =
+    tails_told (holds p l) (holds r m) (sheetable p bp l) (sheetable r br m) i last differ (only_sheet p bp l sh w ∙ h ∙ sym (only_sheet r br m sh' w'))

@@ -1,13 +1,14 @@
 -- Demand 3, whole, as statements on the definitions that the contracts of the calls cite: `judge` answers and leaves what `answer_in` and
 -- `buffer_after` make of `judge_outcome`, `judge_sheet` what they make of `judge_sheet_outcome`, `write_sheet` what they make of `sheet_outcome`.
 -- proofs/Demand3.antt proves them.
-use Rattle.std.specs.Prelude.{ℕ, ◌≡◌, ◌↔◌, List, length}
+use Rattle.std.specs.Prelude.{ℕ, ◌≡◌, ◌↔◌, Bool, List, length, get_or}
 use Rattle.tonekit_core.specs.Calls.{written, answer_in, buffer_after}
 use Rattle.spec_arithmetic.specs.Files.{loaded}
 use Rattle.spec_pack.specs.Pack.{PackRead, load_pack}
-use Rattle.spec_lookup.specs.Source.{Source, source_of_pack}
+use Rattle.spec_lookup.specs.Source.{Source, absent_tone, source_of_pack}
 use Rattle.spec_sheet.specs.Agree.{Bytes, Agree}
 use Rattle.spec_sheet.specs.Outcome.{sheet_outcome}
+use Rattle.spec_judgement.specs.Gather.{tail_of}
 use Rattle.spec_judgement.specs.Judgement.{judge_outcome}
 use Rattle.spec_sheet.specs.JudgeSheet.{judge_sheet_outcome}
 
@@ -48,10 +49,18 @@ StationsAgree =
     → (answer_in (length a) (judge_outcome p q) ≡ answer_in (length b) (judge_sheet_outcome sh q))
     × (buffer_after a (judge_outcome p q) ≡ buffer_after b (judge_sheet_outcome sh q))
 
--- for any two packs that load, the sheets are equal, in length and in every byte, exactly when settings, tones in order with priors and regions, and accents
--- with tolerances agree, and every lookup of a held accent and tone, after a held tone or none, at the end of a phrase or not, gives the same components
--- from both: `Agree`
+-- for any two packs that load, the sheets are equal, in length and in every byte, exactly when settings, tones in order with priors, regions and
+-- tails, and accents with tolerances agree, and every lookup of a held accent and tone, after a held tone or none, at the end of a phrase or not,
+-- gives the same components from both: `Agree`
 abbrev pub OneSheetExactly : Type 0
 OneSheetExactly =
     (p r : List ℕ) → Bytes p → Bytes r → (l : Loads p) (m : Loads r) (sh sh' : List ℕ) → SheetOf p sh → SheetOf r sh'
     → (sh ≡ sh') ↔ Agree (holds p l) (holds r m)
+
+-- "Two packs that differ in a tail value now have different settings": if some tone has another tail value than the tone at that place of the other
+-- pack, at the end of a phrase or elsewhere, if only in a bit, the sheets are not equal
+abbrev pub TailsTold : Type 0
+TailsTold =
+    (p r : List ℕ) → Bytes p → Bytes r → (l : Loads p) (m : Loads r) (sh sh' : List ℕ) → SheetOf p sh → SheetOf r sh' → (i : ℕ) (last : Bool)
+    → (tail_of last (get_or (holds p l).tones i absent_tone) ≡ tail_of last (get_or (holds r m).tones i absent_tone) → ⊥)
+    → sh ≡ sh' → ⊥
