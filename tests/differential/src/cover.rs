@@ -54,7 +54,7 @@ fn callers(number: u32) -> &'static [Option<u8>] {
         389 => &[Some(LOG2), RECORD],
         390 => &[Some(LN), Some(EXP), RECORD],
         430..=433 => &[Some(WRITE_SHEET), RECORD],
-        434..=463 => &[RECORD, SHEETS_RECORD],
+        434..=463 | 492..=495 => &[RECORD, SHEETS_RECORD],
         464..=473 => &[PACK, SHEET],
         480 => &[Some(WRITE_SHEET), RECORD],
         _ => &[None],

@@ -404,8 +404,10 @@ impl<S: Source> Tails<'_, S> {
         if variants.is_empty() || !counts || planted(TARGET_TAIL_MAIN_ONLY) {
             return if planted(TARGET_TAIL_NONE) { 0.0 } else { self.of(target) };
         }
+        let sum = variants.iter().fold(0.0, |sum, v| sum + v.1);
         let main = match () {
             _ if planted(TARGET_TAIL_MAIN_WHOLE) => 1.0,
+            _ if planted(TARGET_TAIL_MAIN_NEGATIVE) => 1.0 - sum,
             _ if planted(TARGET_TAIL_SUM_IN_F64) => {
                 let sum = variants.iter().fold(0.0, |sum, v| sum + f64::from(v.1));
                 max32((1.0 - sum) as f32, 0.0)
@@ -440,6 +442,8 @@ impl<S: Source> Tails<'_, S> {
             let ln = match () {
                 _ if planted(TARGET_TAIL_UNWEIGHTED) => 0.0,
                 _ if planted(TARGET_TAIL_MINUS_ZERO) && weight.to_bits() == 1 << 31 => f64::NAN,
+                _ if planted(TARGET_TAIL_NORMALISED) => ln(f64::from(weight / (sum + main))),
+                _ if planted(TARGET_TAIL_LN_NARROWED) => f64::from(narrow(ln(f64::from(weight)))),
                 _ => ln(f64::from(weight)),
             };
             total = total.with(ln + tail);
@@ -625,6 +629,8 @@ pub fn judge<S: Source>(source: &S, q: &Query) -> Result<Vec<u8>, Refusal> {
     let target_ll = tails.with(wide, target_tail);
     record.llr = if planted(LLR_UNROUNDED) {
         clamp_log(wide.clamp(-CLAMP, CLAMP) + target_tail - background)
+    } else if planted(LLR_TAIL_LAST) {
+        tails.with(f64::from(clamp_log(wide)) - background, target_tail)
     } else if planted(LLR_BACKGROUND_NARROWED) {
         target_ll - narrow(background)
     } else if planted(LLR_MAIN_TONE_ONLY) {

@@ -177,7 +177,7 @@ impl Pack {
                     || planted(TAIL_AFTER_ACCENT) && kind == 7
             }
             4 => kind == 5 || planted(NO_PART) && matches!(kind, 3 | 4 | 6),
-            5 => matches!(kind, 3..=6),
+            5 => matches!(kind, 3..=6) || planted(TAIL_AFTER_PART) && kind == 7,
             _ => false,
         }
     }
@@ -271,7 +271,10 @@ impl Pack {
             flag: bytes[at + 47],
             from: f32_at(bytes, at + 48),
             to: f32_at(bytes, at + 52),
-            tail: [0.0; 2],
+            tail: match () {
+                _ if planted(TAIL_TO_NEXT) && bytes[at - 9] == 7 => tail_at(bytes, at - 9),
+                _ => [0.0; 2],
+            },
         });
         self.citations.push(knots_at(bytes, at + 6));
         Ok(())
@@ -291,7 +294,7 @@ impl Pack {
         walk.check(5, fine)?;
         self.tails += 1;
         if let Some(tone) = self.tones.last_mut() {
-            if !planted(PACK_TAIL_UNREAD) {
+            if !(planted(PACK_TAIL_UNREAD) || planted(TAIL_TO_NEXT)) {
                 tone.tail = tail_at(walk.bytes, walk.at);
             }
         }

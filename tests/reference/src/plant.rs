@@ -481,4 +481,10 @@ mistakes! {
     487 SHEET_TAIL_ZERO_SIGN "tail −0 written +0";
     488 SHEET_TAIL_SUBNORMAL "subnormal tail written 0";
     489 SHEET_TAILS_BEHIND "kind 24 written behind all tones";
+    490 TAIL_AFTER_PART "kind 7 after a part passes";
+    491 TAIL_TO_NEXT "kind 7 taken for the tone behind it";
+    492 TARGET_TAIL_MAIN_NEGATIVE "target's tail: the main tone's weight may be below 0";
+    493 TARGET_TAIL_NORMALISED "target's tail: weights divided by their sum";
+    494 TARGET_TAIL_LN_NARROWED "target's tail: ln w narrowed to f32";
+    495 LLR_TAIL_LAST "llr: the target's tail added to the difference, after the clamp";
 }
