@@ -79,7 +79,7 @@ def takes_of(told):
 
 def by_text(told):
     """A sheet by its text, as `by_table` has it."""
-    return (tuple(told.settings), [(t.number, t.prior, t.region) for t in told.tones],
+    return (tuple(told.settings), [(t.number, t.prior, t.region, tuple(t.tail)) for t in told.tones],
             [(a.number, tuple(a.tolerances)) for a in told.accents], takes_of(told),
             [(x.number, x.owner, x.form, x.label, [(c.weight, tuple(c.points)) for c in x.components]) for x in told.lists])
 
@@ -89,7 +89,8 @@ def by_table(sheet):
     rows = {(r['accent'], r['tone'], r['prev'], final): r[name]
             for r in sheet['rows'] for final, name in ((0, 'list'), (1, 'list_final'))}
     return (tuple(str(sheet['settings'][name]) for name in ('temperature', 'threshold')),
-            [(t['number'], str(t['prior']), (str(t['from']), str(t['to'])) if t['flag'] else None) for t in sheet['tones']],
+            [(t['number'], str(t['prior']), (str(t['from']), str(t['to'])) if t['flag'] else None,
+              tuple(str(t['tail'][name]) for name in ('final', 'elsewhere'))) for t in sheet['tones']],
             [(a['number'], tuple(str(a[n]) for n in ('contour', 'onset', 'offset', 'turning'))) for a in sheet['accents']], rows,
             [(x['number'], x['owner'], x['form'], x['label'],
               [(str(c['weight']), tuple(map(str, c['points']))) for c in x['components']]) for x in sheet['lists']])

@@ -117,17 +117,17 @@ class Row:
 
 def about_tone(tone):
     region = f', region{TIE}{short(tone["from"])}{TIE}to{TIE}{short(tone["to"])}' if tone['flag'] else ''
-    return f'Tone {tone["number"]}', f'prior {short(tone["prior"])}{region}{about_tail(tone["tail"])}'
+    return f'Tone {tone["number"]}', f'prior {short(tone["prior"])}{region}{about_tail(tone)}'
 
 
 def has_tail(tone):
     return any(tone['tail'].values())
 
 
-def about_tail(tail):
-    """The two values, where one is not zero."""
-    words = [f'{short(tail[name])}{TIE}{name}' for name in ('final', 'elsewhere')]
-    return f', tail{TIE}{words[0]},{TIE}{words[1]}' if any(tail.values()) else ''
+def about_tail(tone):
+    """Both its values, where one is not zero."""
+    final, elsewhere = (f'{short(tone["tail"][name])}{TIE}{name}' for name in ('final', 'elsewhere'))
+    return f', tail{TIE}{final},{TIE}{elsewhere}' if has_tail(tone) else ''
 
 
 def about_accent(accent):
