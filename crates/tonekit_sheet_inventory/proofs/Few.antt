@@ -1,14 +1,11 @@
 -- A sheet that loads has at most eight tones, and each of its lists at most four components. Assumes nothing.
-use Rattle.std.proofs.Common.{ℕ, zero, suc, ◌+◌, ◌≤◌, ◌<◌, ◌≡◌, List, arith, eqb, length, get_or, length-append, eqb-true}
-use borrow.Author.Tests.{eqb-false}
+use Rattle.std.proofs.Common.{ℕ, ◌+◌, ◌≤◌, ◌<◌, ◌≡◌, List, arith, length, get_or, length-append}
 use Rattle.std.specs.Prelude.{Ok}
 use Rattle.spec_arithmetic.specs.Fields.{byte_at}
-use Rattle.tonekit_core.proofs.Split.{split}
 use Rattle.tonekit_pack.proofs.Each.{Each, each_snoc}
 use Rattle.spec_arithmetic.specs.Files.{loaded}
-use Rattle.spec_sheet.specs.Reader.{SheetRead, size_of, body_verdict, added, sheet_reader, read_sheet}
-use Rattle.tonekit_core.specs.declared.Refusal.TheVariants.{CutShort}
-use Rattle.tonekit_sheet.proofs.Records.{Due, settings, tone, accent, row, list, component, finish, sound, tone_room, list_room}
+use Rattle.spec_sheet.specs.Reader.{SheetRead, body_verdict, added, sheet_reader, read_sheet}
+use Rattle.tonekit_sheet.proofs.Records.{Due, settings, tone, tail, accent, row, list, component, finish, sound, tone_room, list_room}
 use Rattle.tonekit_sheet.proofs.Turns.{finished_is}
 use Rattle.tonekit_bytes.proofs.Files.{read_keeps}
 
@@ -24,8 +21,9 @@ module _ (s : List ℕ) (at : ℕ) (st : SheetRead) where
   keep : {k : ℕ} (count : ℕ) → Due st k → body_verdict k s at st ≡ Ok tt → Fews s st → Fews s (added k at count st)
   unfolding added
   keep count (settings z) b p = record { tones = p.tones; lists = p.lists }
-  keep count (tone l u) b p = record { tones = simp length-append (omega (arith, tone_room s at st b)); lists = p.lists }
-  keep count (accent l u) b p = record { tones = p.tones; lists = p.lists }
+  keep count (tone l u v) b p = record { tones = simp length-append (omega (arith, tone_room s at st b)); lists = p.lists }
+  keep count (tail l u) b p = record { tones = p.tones; lists = p.lists }
+  keep count (accent l u v) b p = record { tones = p.tones; lists = p.lists }
   keep count (row l u m) b p = record { tones = p.tones; lists = p.lists }
   keep count (list c) b p = record { tones = p.tones; lists = each_snoc (Short s) st.lists at p.lists (list_room s at st b).count }
   keep count (component d) b p = record { tones = p.tones; lists = p.lists }

@@ -43,10 +43,10 @@ module _ (s : List ℕ) (st : Sheet) (n : ℕ) where
   accent_held a e = omega (arith, (index_found s (records_of st).accents n a e).inside, stepped_length (9 + 24 * st.tones) 18 st.accents)
 
   pub tone_held : (t : ℕ) → index_of s (records_of st).tones n ≡ Some t → t < st.tones
-  tone_held t e = omega (arith, (index_found s (records_of st).tones n t e).inside, stepped_length 9 15 st.tones)
+  tone_held t e = omega (arith, (index_found s (records_of st).tones n t e).inside, stepped_length 9 24 st.tones)
 
   pub prev_held : (p : ℕ) → prev_found s (records_of st) n ≡ Some p → p ≤ st.tones
-  prev_held p e = omega (arith, prev_inside s (records_of st) n p e, stepped_length 9 15 st.tones)
+  prev_held p e = omega (arith, prev_inside s (records_of st) n p e, stepped_length 9 24 st.tones)
 
 -- ---- a sheet that is held was read from its bytes
 -- as its reader handed it back for these bytes, which load

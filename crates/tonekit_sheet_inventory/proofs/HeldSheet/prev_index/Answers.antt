@@ -15,4 +15,4 @@ returns-in_err-p c = rw (c.from_residual.ensures, ne_eqb _ _ c.if-n-eq0.false, s
 
 pub overflow_add-result : goal.overflow_add-result
 overflow_add-result c =
-    omega (arith, (index_found _ _ _ _ (sym c.tone_index.ensures ∙ c.in_ok-p.was)).inside, stepped_length 9 15 c.args.self.now.view.sheet.tones, c.args.self.now.view.sheet.few_tones)
+    omega (arith, (index_found _ _ _ _ (sym c.tone_index.ensures ∙ c.in_ok-p.was)).inside, stepped_length 9 24 c.args.self.now.view.sheet.tones, c.args.self.now.view.sheet.few_tones)

@@ -13,6 +13,9 @@ sheet_tone_at-o-requires c = omega (arith, below (goal.at.sheet_tone_at-o-requir
 pub overflow_add-o : goal.overflow_add-o
 overflow_add-o c = record { fits = omega (arith, c.sheet_tone_at-o.ensures, below (goal.at.overflow_add-o c).Start, c.args.self.now.view.sheet.few_tones) }
 
+pub overflow_add-o-2 : goal.overflow_add-o-2
+overflow_add-o-2 c = record { fits = omega (arith, c.sheet_tone_at-o.ensures, below (goal.at.overflow_add-o-2 c).Start, c.args.self.now.view.sheet.few_tones) }
+
 pub returns : goal.returns
 returns c =
     rw (c.tail_at.ensures, c.region_at.ensures, c.f32_at.ensures, c.byte_at.ensures)
