@@ -1,4 +1,4 @@
--- What `write_shape` and `write_sheet` write has room in what their programs lend: 124 bytes, and 13,266. Assumes nothing.
+-- What `write_shape` and `write_sheet` write has room in what their programs lend: 124 bytes, and 13,338. Assumes nothing.
 use Rattle.std.proofs.Common.{ℕ, Bool, true, false, cond, ◌≡◌, refl, List, arith, ltb, length, Float}
 use Rattle.tonekit_core.specs.Calls.{Outcome}
 use Rattle.tonekit_core.specs.declared.layout.TheConstants.{SHAPE_SIZE, SHEET_MOST}
