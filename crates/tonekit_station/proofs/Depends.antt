@@ -1,5 +1,5 @@
 -- A judgement depends on nothing but settings, tones, the graded accent's tolerances and the inventory's listings. Assumes nothing.
-use Rattle.std.proofs.Common.{ℕ, zero, suc, ◌<◌, ◌≡◌, refl, sym, ◌∙◌, ap, ◌⊎◌, inl, inr, Bool, true, false, ◌||◌, List, [], ◌∷◌, le_of_suc-le-suc, not-suc-le-zero, arith, eqb, ltb, eq-eqb, eqb-true, length, get_or}
+use Rattle.std.proofs.Common.{ℕ, ◌<◌, ◌≡◌, refl, sym, ◌∙◌, ap, ◌⊎◌, inl, inr, Bool, true, false, ◌||◌, List, arith, eqb, ltb, eqb-true, length, get_or}
 use mathlib.Core.Option.{Option, none, some}
 use Rattle.tonekit_core.specs.Loop.{range}
 use Rattle.tonekit_core.proofs.LoopLaws.{range_same}

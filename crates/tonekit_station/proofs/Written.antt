@@ -12,7 +12,6 @@ use Rattle.spec_query.specs.declared.Query.{Query}
 use Rattle.spec_arithmetic.specs.Files.{Out}
 use Rattle.spec_pack.specs.Pack.{PackRead, load_pack}
 use Rattle.spec_arithmetic.specs.Files as files
-use Rattle.spec_pack.specs.Pack as pack
 use Rattle.spec_sheet.specs.Reader.{load_sheet}
 use Rattle.spec_sheet.specs.Reader as sheet
 use Rattle.spec_sheet.specs.FromSheet.{source_of_sheet}
