@@ -1,6 +1,7 @@
 -- Demand 2's bound on what a station writes: `outcomes_bounded` and `buffers_bounded`, as specs/Demand2.antt states them, and of ±1,000,100
 -- `outcomes_bounded_tailed` and `buffers_bounded_tailed`, which follow. Assumes nothing.
 use Rattle.std.proofs.Common.{ℕ, ◌≡◌, sym, ◌∙◌, subst, List, ◌++◌, leb, length, drop, Float}
+use Rattle.std.specs.Float.Ieee.{neg, le, of_bits}
 use lib.Seq.{take-append_seam}
 use Rattle.tonekit_core.specs.Calls.{Outcome, refused, written, answer_in, buffer_after}
 use Rattle.tonekit_core.proofs.Calls.{Writes}
@@ -61,7 +62,7 @@ buffers_bounded p q = (leaves (judge_outcome p q) (judge_bounded p q), leaves (j
 wider : {x : Float} → Within million x → Within million_100 x
 unfolding of_bits neg le
 wider {x} w =
-    let b = in_wider {lo = neg million} {hi = million} {x = x} tt (record { low = w.low; high = w.high }) in
+    let b = in_wider {lo = neg million} {hi = million} {lo' = neg million_100} {hi' = million_100} {x = x} tt (record { low = w.low; high = w.high }) in
     record { low = b.low; high = b.high; number = w.number }
 
 wider_record : {bs : List ℕ} → BoundedRecord million bs → BoundedRecord million_100 bs
