@@ -82,7 +82,19 @@ flat_list = record {
 
 tone_sheetable : (i : ℕ) → i < 1 → ToneSheetable (get_or small.tones i absent_tone)
 unfolding probability_fine tail_fine of_bits lt le
-tone_sheetable zero h = record { least = omega arith; byte = omega arith; prior_bits = omega arith; prior = refl; from_bits = omega arith; to_bits = omega arith; region = refl; tail_final_bits = omega arith; tail_elsewhere_bits = omega arith; tail_final = refl; tail_elsewhere = refl }
+tone_sheetable zero h = record {
+  least = omega arith;
+  byte = omega arith;
+  prior_bits = omega arith;
+  prior = refl;
+  from_bits = omega arith;
+  to_bits = omega arith;
+  region = refl;
+  tail_final_bits = omega arith;
+  tail_elsewhere_bits = omega arith;
+  tail_final = refl;
+  tail_elsewhere = refl;
+}
 tone_sheetable (suc i) h = absurd (omega arith)
 
 accent_sheetable : (i : ℕ) → i < 1 → AccentSheetable (get_or small.accents i absent_accent)
