@@ -380,7 +380,7 @@ fn parents(all: &mut Asking) {
     }
 }
 
-/// Scores that are exact but for ln and exp: the judgement that docs/DIFFERENCES.md gives, with CreakyTail and without, and the
+/// Scores that are exact but for ln and exp: a target with a variant, with CreakyTail and without, and the
 /// first of a seed that change request 10 moved.
 fn exact_scores(all: &mut Asking) {
     let mut p = pack(1, 1);

@@ -163,7 +163,7 @@ impl Pack {
             }
             2 if kind == 7 => !(planted(TAIL_CITED_ONLY) && self.last_is_bare()),
             2 => kind == 2 || kind == 3 || planted(NO_ACCENT) && kind == 6,
-            // "After 7 only 2 or 3": docs/DECISIONS.md.
+            // Behind a tail: the next tone or the first accent, and no second tail.
             7 => match kind {
                 2 => !planted(TAIL_ENDS_TONES),
                 3 => true,

@@ -515,7 +515,7 @@ fn tails_are_clamped() {
 
 #[test]
 fn tails_of_weights_of_zero() {
-    // docs/DECISIONS.md: ln of ±0 is −infinity, and adds nothing.
+    // ln of ±0 is −infinity, and adds nothing.
     let mut ask = Ask::of(steady(8, 110.0));
     (ask.register.1, ask.issues) = (24.0, CREAK);
     let llr = |pack: &[u8], ask: &Ask| f32_of(&judge(pack, &ask.bytes()).unwrap(), 35).to_bits();
