@@ -11,11 +11,11 @@ use tonekit_core::{Refusal, layout};
 pub enum Kind {
     Settings,
     Tone,
-    Tail,
     Accent,
     Rule,
     Part,
     End,
+    Tail,
 }
 
 // The kind of a record that begins with a byte; no record of a pack begins with another.

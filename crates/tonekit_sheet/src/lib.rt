@@ -16,12 +16,12 @@ use tonekit_core::{Refusal, layout};
 pub enum Kind {
     Settings,
     Tone,
-    Tail,
     Accent,
     Row,
     List,
     Component,
     End,
+    Tail,
 }
 
 // The kind that has this number; a record that begins with another byte is misplaced.
