@@ -1,6 +1,6 @@
 -- Document 01's worked example, computed whole.
 use Rattle.std.specs.Prelude.{ℕ, ◌≡◌, refl, Option, Some, None, Err, List, [], ◌∷◌, ◌++◌, replicate, true, false}
-use Rattle.std.specs.Float.{binary32, float_with_sign}
+use Rattle.std.specs.Float.{binary32, float_with_sign, is_sign_negative}
 use Rattle.std.specs.Float.Ieee.{add, sub, mul, div, lt, le, eq, neg, of_bits, to_bits, of_int, round, is_nan}
 use Rattle.tonekit_core.specs.Calls.{refused, written}
 use Rattle.tonekit_core.specs.declared.Refusal.TheVariants.{Misplaced, CutShort, Unvoiced, UnknownAccent, NoRealisation, BadVariant}
@@ -22,6 +22,7 @@ use Rattle.spec_pack.specs.Pack as reader
 use Rattle.spec_shape.specs.Chao.{hz_to_st, width_of, st_to_chao}
 use Rattle.spec_shape.specs.Window.{half_width, reach, curve_at, step_of, mean_over, rounded, frames_at}
 use Rattle.spec_shape.specs.Extract.{extent_of, holes_filled, drawn, list_of, shape_of}
+use Rattle.spec_shape.specs.Register.{voiced_st, insert, ascending, percentile, p5_p50_p95, at_least_min_span, cold_register, in_register}
 use Rattle.spec_shape.specs.Record.{united}
 use Rattle.spec_lookup.specs.Knots.{point_at, first_points, knots_at}
 use Rattle.spec_arithmetic.specs.Places.{index_of}
@@ -77,7 +78,7 @@ unmeasured = fixed 8 (0 ∷ 0 ∷ 0xc0 ∷ 0x7f ∷ []) (0 ∷ 0 ∷ 0x40 ∷ 0x
 
 pub floor_nan : judge_outcome pack unmeasured
     ≡ written ((0x31 ∷ 0x01 ∷ 0x01 ∷ 0x00 ∷ 0x24 ∷ 0x74 ∷ 0xc9 ∷ []) ++ (replicate 54 0 ++ (0x02 ∷ 0x40 ∷ 0x00 ∷ [])))
-unfolding judge_outcome judgement judge_gathered query_verdict tones_verdict accent_in tone_in load_pack read_pack loop_to loop_on reader.record_verdict body_verdict settings_verdict tone_verdict tail_verdict accent_verdict rule_verdict part_verdict due_after size_of holds zero_or_held added parents_held chain_ends chains_end end_verdict above_zero probability_fine knot_fine weight_fine slot_fine knots_fine region_fine tail_fine tails_fine tolerances_fine range turns of_bits le lt load_query read_query record_verdict frame_verdict fields_of variant_fine variants_fine range_to turns_to frame_at extent_of gathered listings source_of_pack look_up find_rule climb_turn best_rule index_of components carried component_of knots_at first_points point_at slotted put_in with_tone main_weight targets_of target_of place_of with_target greater judgement_bytes nearest_bytes judgement_of usable shape_of not_measured list_of drawn holes_filled hz_to_st width_of st_to_chao log2_of half_width reach curve_at step_of mean_over rounded position whole_part round_up while while_if narrowed score_bytes one_bytes delta_bytes f32s_bytes round neg to_bits add sub mul div eq is_nan of_int lesser log_by parts_of centred series log_horner frames_at target.variants_good variant_weights_good
+unfolding in_register judge_outcome judgement judge_gathered query_verdict tones_verdict accent_in tone_in load_pack read_pack loop_to loop_on reader.record_verdict body_verdict settings_verdict tone_verdict tail_verdict accent_verdict rule_verdict part_verdict due_after size_of holds zero_or_held added parents_held chain_ends chains_end end_verdict above_zero probability_fine knot_fine weight_fine slot_fine knots_fine region_fine tail_fine tails_fine tolerances_fine range turns of_bits le lt load_query read_query record_verdict frame_verdict fields_of variant_fine variants_fine range_to turns_to frame_at extent_of gathered listings source_of_pack look_up find_rule climb_turn best_rule index_of components carried component_of knots_at first_points point_at slotted put_in with_tone main_weight targets_of target_of place_of with_target greater judgement_bytes nearest_bytes judgement_of usable shape_of not_measured list_of drawn holes_filled hz_to_st width_of st_to_chao log2_of half_width reach curve_at step_of mean_over rounded position whole_part round_up while while_if narrowed score_bytes one_bytes delta_bytes f32s_bytes round neg to_bits add sub mul div eq is_nan of_int lesser log_by parts_of centred series log_horner frames_at target.variants_good variant_weights_good
 floor_nan = refl
 
 -- three such frames in the register 0 to 24 lie on the citation: a log-likelihood of 3 ln 2, distance 0, the citation of accent 1, tone 1 heard, no
@@ -87,8 +88,18 @@ level = fixed 3 (replicate 4 0) (0 ∷ 0 ∷ 0xc0 ∷ 0x41 ∷ []) ++ (frames ++
 
 pub on_citation : judge_outcome pack level
     ≡ written ((0x31 ∷ 0x01 ∷ 0x01 ∷ 0x92 ∷ 0x15 ∷ 0x05 ∷ 0x40 ∷ []) ++ (replicate 32 0 ++ ((1 ∷ 0 ∷ 0 ∷ 0 ∷ 0 ∷ 1 ∷ 1 ∷ 0 ∷ 0 ∷ 0 ∷ 1 ∷ []) ++ (replicate 11 0 ++ (0x01 ∷ 0x08 ∷ 0x00 ∷ [])))))
-unfolding judge_outcome judgement judge_gathered query_verdict tones_verdict accent_in tone_in load_pack read_pack loop_to loop_on reader.record_verdict body_verdict settings_verdict tone_verdict tail_verdict accent_verdict rule_verdict part_verdict due_after size_of holds zero_or_held added parents_held chain_ends chains_end end_verdict above_zero probability_fine knot_fine weight_fine slot_fine knots_fine region_fine tail_fine tails_fine tolerances_fine range turns of_bits le lt load_query read_query record_verdict frame_verdict fields_of variant_fine variants_fine range_to turns_to frame_at extent_of gathered listings source_of_pack look_up find_rule climb_turn best_rule index_of components carried component_of knots_at first_points point_at slotted put_in with_tone main_weight targets_of target_of place_of with_target greater judgement_bytes nearest_bytes judgement_of usable shape_of list_of drawn holes_filled hz_to_st width_of st_to_chao log2_of half_width reach curve_at step_of mean_over rounded position whole_part round_up while while_if narrowed score_bytes one_bytes delta_bytes f32s_bytes round neg to_bits add sub mul div eq is_nan of_int lesser united with_issue scoring_of widen_for clamp_log add_to value_of excused point_weight squares_of end_term ends_of distance_of log_of mixed mix_turn calibrate kept offer offer_end offer_turn end_deltas deltas_of root_of exp_of ln_of tone_mixing loglik_at logliks ranked ranking_of heard_of weighed part_mixing target_mixing tail_loglik target_tail_loglik with_tail llr_of plain_of distance_from advice_of nearest_at with_best judged_of float_with_sign log_by parts_of centred series log_horner root_units nearest_root isqrt exp_by rest exp_series exp_horner floor_of frames_at target.variants_good variant_weights_good
+unfolding in_register judge_outcome judgement judge_gathered query_verdict tones_verdict accent_in tone_in load_pack read_pack loop_to loop_on reader.record_verdict body_verdict settings_verdict tone_verdict tail_verdict accent_verdict rule_verdict part_verdict due_after size_of holds zero_or_held added parents_held chain_ends chains_end end_verdict above_zero probability_fine knot_fine weight_fine slot_fine knots_fine region_fine tail_fine tails_fine tolerances_fine range turns of_bits le lt load_query read_query record_verdict frame_verdict fields_of variant_fine variants_fine range_to turns_to frame_at extent_of gathered listings source_of_pack look_up find_rule climb_turn best_rule index_of components carried component_of knots_at first_points point_at slotted put_in with_tone main_weight targets_of target_of place_of with_target greater judgement_bytes nearest_bytes judgement_of usable shape_of list_of drawn holes_filled hz_to_st width_of st_to_chao log2_of half_width reach curve_at step_of mean_over rounded position whole_part round_up while while_if narrowed score_bytes one_bytes delta_bytes f32s_bytes round neg to_bits add sub mul div eq is_nan of_int lesser united with_issue scoring_of widen_for clamp_log add_to value_of excused point_weight squares_of end_term ends_of distance_of log_of mixed mix_turn calibrate kept offer offer_end offer_turn end_deltas deltas_of root_of exp_of ln_of tone_mixing loglik_at logliks ranked ranking_of heard_of weighed part_mixing target_mixing tail_loglik target_tail_loglik with_tail llr_of plain_of distance_from advice_of nearest_at with_best judged_of float_with_sign log_by parts_of centred series log_horner root_units nearest_root isqrt exp_by rest exp_series exp_horner floor_of frames_at target.variants_good variant_weights_good
 on_citation = refl
+
+-- the same frames behind kind 55, whatever the record's floor and ceiling: in the register 10 to 14 they lie on the citation too, and with
+-- ColdStartRegister among the issues tolerances are 1.5 times as wide: 3 ln (4 / 3)
+abbrev pub cold : List ℕ
+cold = fixed 3 (0 ∷ 0 ∷ 0xc0 ∷ 0x7f ∷ []) (0 ∷ 0 ∷ 0xc0 ∷ 0x7f ∷ []) ++ (55 ∷ (frames ++ frame))
+
+pub on_citation_cold : judge_outcome pack cold
+    ≡ written ((0x31 ∷ 0x01 ∷ 0x01 ∷ 0x99 ∷ 0xf0 ∷ 0x5c ∷ 0x3f ∷ []) ++ (replicate 32 0 ++ ((1 ∷ 0 ∷ 0 ∷ 0 ∷ 0 ∷ 1 ∷ 1 ∷ 0 ∷ 0 ∷ 0 ∷ 1 ∷ []) ++ (replicate 11 0 ++ (0x01 ∷ 0x18 ∷ 0x00 ∷ [])))))
+unfolding in_register voiced_st cold_register p5_p50_p95 percentile ascending insert is_sign_negative at_least_min_span judge_outcome judgement judge_gathered query_verdict tones_verdict accent_in tone_in load_pack read_pack loop_to loop_on reader.record_verdict body_verdict settings_verdict tone_verdict tail_verdict accent_verdict rule_verdict part_verdict due_after size_of holds zero_or_held added parents_held chain_ends chains_end end_verdict above_zero probability_fine knot_fine weight_fine slot_fine knots_fine region_fine tail_fine tails_fine tolerances_fine range turns of_bits le lt load_query read_query record_verdict frame_verdict fields_of variant_fine variants_fine range_to turns_to frame_at extent_of gathered listings source_of_pack look_up find_rule climb_turn best_rule index_of components carried component_of knots_at first_points point_at slotted put_in with_tone main_weight targets_of target_of place_of with_target greater judgement_bytes nearest_bytes judgement_of usable shape_of list_of drawn holes_filled hz_to_st width_of st_to_chao log2_of half_width reach curve_at step_of mean_over rounded position whole_part round_up while while_if narrowed score_bytes one_bytes delta_bytes f32s_bytes round neg to_bits add sub mul div eq is_nan of_int lesser united with_issue scoring_of widen_for clamp_log add_to value_of excused point_weight squares_of end_term ends_of distance_of log_of mixed mix_turn calibrate kept offer offer_end offer_turn end_deltas deltas_of root_of exp_of ln_of tone_mixing loglik_at logliks ranked ranking_of heard_of weighed part_mixing target_mixing tail_loglik target_tail_loglik with_tail llr_of plain_of distance_from advice_of nearest_at with_best judged_of float_with_sign log_by parts_of centred series log_horner root_units nearest_root isqrt exp_by rest exp_series exp_horner floor_of frames_at target.variants_good variant_weights_good
+on_citation_cold = refl
 
 -- "Pack or sheet comes before query": a pack that is cut short at 0, and a query whose first kind is misplaced there
 pub pack_first : judge_outcome [] (1 ∷ []) ≡ refused CutShort 0
@@ -107,7 +118,7 @@ one_byte_held = refl
 
 -- "11 · unvoiced · under 3 voiced frames", from a pack's and a query's bytes: two frames
 pub two_voiced : judge_outcome pack (fixed 2 (replicate 4 0) (0 ∷ 0 ∷ 0xc0 ∷ 0x41 ∷ []) ++ frames) ≡ refused Unvoiced 0
-unfolding judge_outcome judgement judge_gathered query_verdict load_pack read_pack loop_to loop_on reader.record_verdict body_verdict settings_verdict tone_verdict tail_verdict accent_verdict rule_verdict part_verdict due_after size_of holds zero_or_held added parents_held chain_ends chains_end end_verdict index_of above_zero probability_fine knot_fine weight_fine slot_fine knots_fine region_fine tail_fine tails_fine tolerances_fine range turns of_bits le lt load_query read_query record_verdict frame_verdict fields_of variant_fine variants_fine range_to turns_to frame_at extent_of
+unfolding in_register judge_outcome judgement judge_gathered query_verdict load_pack read_pack loop_to loop_on reader.record_verdict body_verdict settings_verdict tone_verdict tail_verdict accent_verdict rule_verdict part_verdict due_after size_of holds zero_or_held added parents_held chain_ends chains_end end_verdict index_of above_zero probability_fine knot_fine weight_fine slot_fine knots_fine region_fine tail_fine tails_fine tolerances_fine range turns of_bits le lt load_query read_query record_verdict frame_verdict fields_of variant_fine variants_fine range_to turns_to frame_at extent_of
 two_voiced = refl
 
 -- "12" before "13 for prev", with three voiced frames; with two "11" before both
@@ -115,7 +126,7 @@ abbrev nothing : Inventory
 nothing = record { items = [] }
 
 abbrev asked : Query
-asked = record { accent = 0; tone = 0; prev = 0; last = false; start = 0; end = 0; floor = of_bits binary32 0; ceil = of_bits binary32 0; issues = 0; variants = 0; count = 3 }
+asked = record { accent = 0; tone = 0; prev = 0; last = false; start = 0; end = 0; floor = of_bits binary32 0; ceil = of_bits binary32 0; issues = 0; variants = 0; count = 3; cold = false }
 
 pub accent_first : query_verdict 3 None false nothing [] asked ≡ Err UnknownAccent
 unfolding query_verdict
@@ -137,7 +148,7 @@ abbrev strict : Tolerance
 strict = record { contour = of_bits binary32 0; onset = of_bits binary32 0; offset = of_bits binary32 0; turning = of_bits binary32 0 }
 
 abbrev varied : Query
-varied = record { accent = 1; tone = 1; prev = 0; last = false; start = 0; end = 3; floor = of_bits binary32 0; ceil = of_bits binary32 0; issues = 0; variants = 1; count = 3 }
+varied = record { accent = 1; tone = 1; prev = 0; last = false; start = 0; end = 3; floor = of_bits binary32 0; ceil = of_bits binary32 0; issues = 0; variants = 1; count = 3; cold = false }
 
 abbrev below : List ℕ
 below = (48 ∷ 1 ∷ 1 ∷ 0 ∷ 0 ∷ []) ++ (replicate 18 0 ++ ((1 ∷ 1 ∷ 0 ∷ 0 ∷ 0x80 ∷ 0xbf ∷ []) ++ (replicate 15 0 ++ (3 ∷ 0 ∷ []))))

@@ -16,6 +16,7 @@ use Rattle.spec_pack.specs.Pack as pack
 use Rattle.spec_lookup.specs.Source.{Source, source_of_pack}
 use Rattle.spec_lookup.specs.declared.Context.{Context}
 use Rattle.spec_shape.specs.Extract.{extent_of, shape_of}
+use Rattle.spec_shape.specs.Register.{in_register}
 use Rattle.spec_shape.specs.Record.{united}
 use Rattle.spec_shape.specs.declared.Extent.{Extent}
 use Rattle.spec_judgement.specs.declared.Tolerance.{Tolerance}
@@ -48,15 +49,16 @@ abbrev pub unless : Result Tolerance Refusal → (Tolerance → Outcome) → Out
 unless (Err r) o = refused r 0
 unless (Ok t) o = o t
 
--- a query that loads, judged by what a station gathered for its context: s is its bytes, and q what they say. "13 for targets"; or the record: `judge` after
--- `extract`, "issues the union"
+-- a query that loads, judged by what a station gathered for its context: s is its bytes, q what they say, and r the same in the register that it is measured
+-- in. "13 for targets"; or the record: `judge` after `extract`, "issues the union"
 unfoldable pub judge_gathered : Gathering → List ℕ → Query → Outcome
 judge_gathered g s q =
-    let frames = frames_of s q.count in
+    let frames = frames_of s q in
     let e = extent_of frames q.count q.start q.end in
     let i = g.listed.inventory in
-    let x = shape_of frames e q.start q.end q.floor q.ceil in
-    let record_of = λ (t : Tolerance) (a : Targets). judgement_bytes q.tone (length i.items) (judgement_of x g.settings t g.listed a (united q.issues x.frames)) in
+    let r = in_register frames q in
+    let x = shape_of frames e q.start q.end r.floor r.ceil in
+    let record_of = λ (t : Tolerance) (a : Targets). judgement_bytes q.tone (length i.items) (judgement_of x g.settings t g.listed a (united r.issues x.frames)) in
     unless (query_verdict e.count g.tolerance g.prev i s q)
     (λ t. option_map_or (λ a. written (record_of t a)) (targets_of i s q.tone q.variants) (refused refusal.UnknownTone 0))
 

@@ -1,10 +1,11 @@
 -- Worked queries, by computing: one that loads, and one refusal of each number with its place.
-use Rattle.std.specs.Prelude.{ℕ, ◌≡◌, refl, true, false, List, [], ◌∷◌, ◌++◌, pos, take, drop, replicate, Ok, Err, Some, None}
+use Rattle.std.specs.Prelude.{ℕ, ◌≡◌, refl, Bool, true, false, List, [], ◌∷◌, ◌++◌, pos, take, drop, replicate, Ok, Err, Some, None}
 use Rattle.std.specs.Float.{fin, binary32}
 use Rattle.std.specs.Float.Ieee.{of_bits, lt}
 use Rattle.tonekit_core.specs.Loop.{turns, range, turns_to, range_to}
 use Rattle.tonekit_core.specs.declared.Refusal.TheVariants.{Misplaced, CutShort, Overrun, Crowded, BadQuery}
 use Rattle.spec_query.specs.Query.{variant_fine, variants_fine, record_verdict, frame_verdict, fields_of, read_query, load_query, check_query, frames_of, variant_tone, variant_weight}
+use Rattle.spec_query.specs.declared.Query.{Query}
 use Rattle.spec_query.specs.Frames.{frame_at}
 
 -- a fixed record: final, the high byte of the issues, the variant count and variants, the two bytes of the frame count
@@ -31,6 +32,13 @@ a110 = 0 ∷ 0 ∷ 220 ∷ 66 ∷ []
 abbrev voiced : List ℕ
 voiced = frame 50 1 a110
 
+-- kind 55, and a query's fixed record with it
+abbrev cold : List ℕ
+cold = 55 ∷ []
+
+abbrev cold_plain : ℕ → List ℕ
+cold_plain count = plain count ++ cold
+
 loads : (check_query (plain 1 ++ voiced) ≡ Ok tt) × (check_query (plain 0) ≡ Ok tt) × (check_query (fixed 1 3 1 minus_zero 0 0) ≡ Ok tt)
 unfolding check_query load_query read_query record_verdict variants_fine variant_fine frame_verdict fields_of turns range turns_to range_to
 loads = (refl, refl, refl)
@@ -39,6 +47,26 @@ loads = (refl, refl, refl)
 misplaced : (check_query (49 ∷ plain 0) ≡ Err (record { why = Misplaced; place = 0 })) × (check_query (plain 1 ++ frame 51 1 a110) ≡ Err (record { why = Misplaced; place = 46 }))
 unfolding check_query load_query read_query record_verdict variants_fine variant_fine frame_verdict fields_of turns range turns_to range_to
 misplaced = (refl, refl)
+
+-- kind 55 is due once, straight behind the fixed record, also where no frame is counted
+cold_loads : (check_query (cold_plain 1 ++ voiced) ≡ Ok tt) × (check_query (cold_plain 0) ≡ Ok tt)
+unfolding check_query load_query read_query record_verdict variants_fine variant_fine frame_verdict fields_of turns range turns_to range_to
+cold_loads = (refl, refl)
+
+-- 1: a second one, one behind a frame where another is due, another kind behind it; 2: no frame behind it, at its end; 3: one behind the last frame, a second
+-- one where no frame is counted, a frame there; 10: a frame's flag behind it, at the frame
+cold_refused : (check_query (cold_plain 1 ++ (cold ++ voiced)) ≡ Err (record { why = Misplaced; place = 47 }))
+    × (check_query (plain 2 ++ (voiced ++ (cold ++ voiced))) ≡ Err (record { why = Misplaced; place = 56 }))
+    × (check_query (cold_plain 1 ++ frame 51 1 a110) ≡ Err (record { why = Misplaced; place = 47 }))
+    × (check_query (cold_plain 1) ≡ Err (record { why = CutShort; place = 47 }))
+    × (check_query (cold_plain 1 ++ take 9 voiced) ≡ Err (record { why = CutShort; place = 47 }))
+    × (check_query (plain 1 ++ (voiced ++ cold)) ≡ Err (record { why = Overrun; place = 56 }))
+    × (check_query (cold_plain 1 ++ (voiced ++ cold)) ≡ Err (record { why = Overrun; place = 57 }))
+    × (check_query (cold_plain 0 ++ cold) ≡ Err (record { why = Overrun; place = 47 }))
+    × (check_query (cold_plain 0 ++ voiced) ≡ Err (record { why = Overrun; place = 47 }))
+    × (check_query (cold_plain 1 ++ frame 50 2 a110) ≡ Err (record { why = BadQuery; place = 47 }))
+unfolding check_query load_query read_query record_verdict variants_fine variant_fine frame_verdict fields_of turns range turns_to range_to
+cold_refused = (refl, refl, refl, refl, refl, refl, refl, refl, refl, refl)
 
 -- 2: no input, a record cut by a byte, before 4 in one record; a frame that is missing (at the input's end), a frame cut by a byte (at its offset)
 cut : (check_query [] ≡ Err (record { why = CutShort; place = 0 }))
@@ -70,15 +98,24 @@ bad : (check_query (fixed 2 0 0 unused 0 0) ≡ Err (record { why = BadQuery; pl
 unfolding check_query load_query read_query record_verdict variants_fine variant_fine frame_verdict fields_of turns range turns_to range_to
 bad = (refl, refl, refl, refl)
 
+-- a query of so many frames, without kind 55 and with it
+abbrev counting : Bool → ℕ → Query
+counting cold count = record (fields_of []) { count = count; cold = cold }
+
+-- behind kind 55 the frames begin a byte later
+frames_behind : (frames_of (plain 1 ++ voiced) (counting false 1) ≡ voiced) × (frames_of (cold_plain 1 ++ voiced) (counting true 1) ≡ voiced)
+unfolding fields_of
+frames_behind = (refl, refl)
+
 -- 110 Hz; flag 0; 0, −1, infinite and no number of Hz; past the end
-frames : (frame_at (frames_of (plain 1 ++ voiced) 1) 0 ≡ Some (record { hz = fin false 55 (pos 1); voiced_p = fin false 1 (pos 0) }))
+frames : (frame_at (frames_of (plain 1 ++ voiced) (counting false 1)) 0 ≡ Some (record { hz = fin false 55 (pos 1); voiced_p = fin false 1 (pos 0) }))
     × (frame_at (frame 50 0 a110) 0 ≡ None)
     × (frame_at (frame 50 1 (0 ∷ 0 ∷ 0 ∷ 0 ∷ [])) 0 ≡ None)
     × (frame_at (frame 50 1 (0 ∷ 0 ∷ 128 ∷ 191 ∷ [])) 0 ≡ None)
     × (frame_at (frame 50 1 (0 ∷ 0 ∷ 128 ∷ 127 ∷ [])) 0 ≡ None)
     × (frame_at (frame 50 1 (0 ∷ 0 ∷ 192 ∷ 127 ∷ [])) 0 ≡ None)
     × (frame_at voiced 1 ≡ None)
-unfolding frame_at of_bits lt
+unfolding frame_at fields_of of_bits lt
 frames = (refl, refl, refl, refl, refl, refl, refl)
 
 -- every field of both records, from bytes that are their own offsets behind the kind
@@ -100,6 +137,7 @@ fields48 : (fields_of record48
       issues = 0x1615;
       variants = 23;
       count = 0x2d2c;
+      cold = false;
     })
     × (variant_tone record48 0 ≡ 24) × (variant_weight record48 0 ≡ of_bits binary32 0x1c1b_1a19)
     × (variant_tone record48 3 ≡ 39) × (variant_weight record48 3 ≡ of_bits binary32 0x2b2a_2928)
@@ -109,6 +147,10 @@ fields48 = (refl, refl, refl, refl, refl)
 -- the same of a query that ends no phrase: one byte is 0, that of `last`
 abbrev within48 : List ℕ
 within48 = take 4 record48 ++ (0 ∷ drop 5 record48)
+
+cold48 : (fields_of (record48 ++ cold)).cold ≡ true
+unfolding fields_of
+cold48 = refl
 
 not_last48 : (fields_of within48).last ≡ false
 unfolding fields_of

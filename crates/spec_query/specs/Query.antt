@@ -1,9 +1,9 @@
--- Document 01's section Query: which bytes are a query, and the refusal and place of those that are not.
+-- Document 01's section Query, with the optional record of document 02's Ask 3: which bytes are a query, and the refusal and place of those that are not.
 use Rattle.std.specs.Prelude.{ℕ, ◌+◌, ◌*◌, Bool, true, cond, not, ◌&&◌, ◌||◌, List, eqb, leb, ltb, length, take, drop, Float, Result, Ok, Err}
 use Rattle.tonekit_core.specs.Loop.{Turn, next, stop, range, range_to}
 use Rattle.tonekit_core.specs.declared.layout.TheConstants.{QUERY_KIND, QUERY_SIZE, QUERY_ACCENT, QUERY_TONE, QUERY_PREV, QUERY_FINAL, QUERY_START, QUERY_END}
 use Rattle.tonekit_core.specs.declared.layout.TheConstants.{QUERY_FLOOR, QUERY_CEIL, QUERY_ISSUES, QUERY_VARIANT_COUNT, VARIANT_TONES, VARIANT_WEIGHTS}
-use Rattle.tonekit_core.specs.declared.layout.TheConstants.{VARIANT_SIZE, QUERY_FRAME_COUNT, FRAME_KIND, FRAME_SIZE, FRAME_VOICED}
+use Rattle.tonekit_core.specs.declared.layout.TheConstants.{VARIANT_SIZE, QUERY_FRAME_COUNT, COLD_KIND, COLD_SIZE, FRAME_KIND, FRAME_SIZE, FRAME_VOICED}
 use Rattle.tonekit_core.specs.declared.Refusal.TheVariants.{Overrun, Crowded, BadQuery}
 use Rattle.tonekit_core.specs.declared.Refusal.{Refusal}
 use Rattle.tonekit_core.specs.declared.Rejection.{Rejection}
@@ -34,7 +34,12 @@ unfoldable pub frame_verdict : List ℕ → ℕ → Result Unit Refusal
 frame_verdict s at =
     judged (λ k. eqb k FRAME_KIND) (λ k. FRAME_SIZE) (λ k. cond (leb (byte_at s (at + FRAME_VOICED)) 1) (Ok tt) (Err BadQuery)) s at
 
--- what the fixed record says; the variants stay in the bytes
+-- "A query with kind 55, without a body, straight after its query record": whether it stands there. Where it doesn't, what stands there is the first frame,
+-- or behind the query
+abbrev pub cold_at : List ℕ → Bool
+cold_at s = eqb (byte_at s QUERY_SIZE) COLD_KIND
+
+-- what the fixed record says, and whether kind 55 stands behind it; the variants stay in the bytes
 unfoldable pub fields_of : List ℕ → Query
 fields_of s = record {
   accent = byte_at s QUERY_ACCENT;
@@ -48,20 +53,24 @@ fields_of s = record {
   issues = u16_at s QUERY_ISSUES;
   variants = byte_at s QUERY_VARIANT_COUNT;
   count = u16_at s QUERY_FRAME_COUNT;
+  cold = cold_at s;
 }
 
--- where a query of so many frames ends
-abbrev pub end_of : ℕ → ℕ
-end_of count = QUERY_SIZE + FRAME_SIZE * count
+-- where the frames begin, and where the query ends
+abbrev pub frames_from : Bool → ℕ
+frames_from cold = cond cold (QUERY_SIZE + COLD_SIZE) QUERY_SIZE
+
+abbrev pub end_of : Query → ℕ
+end_of q = frames_from q.cold + FRAME_SIZE * q.count
 
 -- the frames in order: the first that is refused decides, and its place is its offset
 abbrev pub after_frame : ℕ → Result Unit Refusal → Turn ℕ (Result Query Rejection)
 after_frame at (Ok u) = next (at + FRAME_SIZE)
 after_frame at (Err r) = stop (Err (record { why = r; place = at }))
 
--- a query at the front of a longer input: its fixed record, then as many frames as that counts
+-- a query at the front of a longer input: its fixed record, then kind 55 if it is there, then as many frames as the record counts
 abbrev pub after_record : List ℕ → Result Unit Refusal → Result Query Rejection
-after_record s (Ok u) = range_to (λ i at. after_frame at (frame_verdict s at)) (λ at. Ok (fields_of s)) 0 (u16_at s QUERY_FRAME_COUNT) QUERY_SIZE
+after_record s (Ok u) = range_to (λ i at. after_frame at (frame_verdict s at)) (λ at. Ok (fields_of s)) 0 (u16_at s QUERY_FRAME_COUNT) (frames_from (cold_at s))
 after_record s (Err r) = Err (record { why = r; place = 0 })
 
 unfoldable pub read_query : List ℕ → Result Query Rejection
@@ -69,7 +78,7 @@ read_query s = after_record s (record_verdict s)
 
 -- a single query: 3 at the first byte behind it
 abbrev pub single : ℕ → Result Query Rejection → Result Query Rejection
-single len (Ok q) = cond (ltb (end_of q.count) len) (Err (record { why = Overrun; place = end_of q.count })) (Ok q)
+single len (Ok q) = cond (ltb (end_of q) len) (Err (record { why = Overrun; place = end_of q })) (Ok q)
 single len (Err e) = Err e
 
 unfoldable pub load_query : List ℕ → Result Query Rejection
@@ -82,9 +91,9 @@ said (Err e) = Err e
 unfoldable pub check_query : List ℕ → Result Unit Rejection
 check_query s = said (load_query s)
 
--- "the part of the caller's bytes that holds the frames": after the fixed record, exactly the counted frames
-abbrev pub frames_of : List ℕ → ℕ → List ℕ
-frames_of s count = take (FRAME_SIZE * count) (drop QUERY_SIZE s)
+-- "the part of the caller's bytes that holds the frames": exactly the counted frames
+abbrev pub frames_of : List ℕ → Query → List ℕ
+frames_of s q = take (FRAME_SIZE * q.count) (drop (frames_from q.cold) s)
 
 -- the weight of variant i
 abbrev pub variant_weight : List ℕ → ℕ → Float

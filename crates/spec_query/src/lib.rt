@@ -1,7 +1,8 @@
 // Document 01's section Query, defined: which bytes are a query, and what its frames say. No code.
 #![tactic(auto)]
 
-// What the fixed record of a query says. Any accent, tone, span or register may stand in it.
+// What a query says before its frames: its fixed record, and whether kind 55 stands behind it, which takes
+// the register from the frames. Any accent, tone, span or register may stand in the record.
 // Stays: `prev` is 0 for none, as the record holds it and as a context, which takes it on, compares it.
 #[derive(Clone, Copy)]
 pub struct Query {
@@ -16,6 +17,7 @@ pub struct Query {
     pub issues: u16,
     pub variants: u8,
     pub count: u16,
+    pub cold: bool,
 }
 
 // What a frame that has a pitch says.

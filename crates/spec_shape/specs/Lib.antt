@@ -4,8 +4,10 @@ pub mod Window
 pub mod Range
 pub mod Turning
 pub mod Extract
+pub mod Register
 pub mod Record
 pub mod FitBench
 pub mod WindowBench
 pub mod TurningBench
+pub mod RegisterBench
 pub mod ShapeBench

@@ -11,6 +11,7 @@ use Rattle.spec_query.specs.Query.{load_query, frames_of}
 use Rattle.spec_query.specs.declared.Query.{Query}
 use Rattle.tonekit_core.specs.declared.Rejection.{Rejection}
 use Rattle.spec_shape.specs.Extract.{extent_of, shape_of}
+use Rattle.spec_shape.specs.Register.{in_register}
 use Rattle.spec_shape.specs.declared.Extent.{Extent}
 use Rattle.spec_shape.specs.declared.ToneShape.{ToneShape}
 
@@ -33,7 +34,7 @@ shape_bytes start end issues x =
     ((SHAPE_KIND ∷ []) ++ (le32 start ++ le32 end))
     ++ (f32s_bytes x.contour ++ (f32s_bytes x.weights ++ (fit_bytes x ++ measure_bytes x (united issues x.frames))))
 
--- "Fewer than 3 voiced frames: 11", place 0
+-- "Fewer than 3 voiced frames: 11", place 0; the query is in the register that it is measured in
 abbrev pub shaped : List ℕ → Query → Extent → Outcome
 shaped frames q e =
     cond (ltb e.count 3) (refused refusal.Unvoiced 0)
@@ -41,7 +42,7 @@ shaped frames q e =
 
 abbrev pub shaped_from : List ℕ → Result Query Rejection → Outcome
 shaped_from s (Err r) = refused r.why r.place
-shaped_from s (Ok q) = shaped (frames_of s q.count) q (extent_of (frames_of s q.count) q.count q.start q.end)
+shaped_from s (Ok q) = let frames = frames_of s q in shaped frames (in_register frames q) (extent_of frames q.count q.start q.end)
 
 -- the call `write_shape`: what its query's bytes are turned into
 unfoldable pub shape_outcome : List ℕ → Outcome

@@ -1,6 +1,6 @@
 -- Shapes of a few frames, and what the call answers, each by computing.
 use Rattle.std.specs.Prelude.{ℕ, ◌-◌, ◌≡◌, refl, true, false, List, [], ◌∷◌, ◌++◌, map, pos, negsuc, length, get_or, replicate, Float, Some, None}
-use Rattle.std.specs.Float.{nan, inf, fin, binary32, binary64, float_with_sign}
+use Rattle.std.specs.Float.{nan, inf, fin, binary32, binary64, float_with_sign, is_sign_negative}
 use Rattle.std.specs.Float.Ieee.{add, sub, mul, div, lt, le, eq, neg, of_bits, to_bits, of_int, round, is_nan}
 use Rattle.spec_shape.specs.Range.{range_in}
 use Rattle.tonekit_core.specs.Calls.{refused, written}
@@ -24,6 +24,7 @@ use Rattle.spec_arithmetic.specs.Fields.{byte_at, u16_at, u32_at, f32s_bytes}
 use Rattle.tonekit_core.specs.declared.layout.TheConstants.{SHAPE_SIZE, SHAPE_START, SHAPE_END, SHAPE_CONTOUR, SHAPE_WEIGHTS, SHAPE_MEAN, SHAPE_SLOPE, SHAPE_CURVATURE}
 use Rattle.tonekit_core.specs.declared.layout.TheConstants.{SHAPE_TURNS, SHAPE_TURNING, SHAPE_RANGE, SHAPE_DURATION, SHAPE_FRACTION, SHAPE_CONFIDENCE, SHAPE_ISSUES}
 use Rattle.spec_shape.specs.declared.ToneShape.{ToneShape}
+use Rattle.spec_shape.specs.Register.{voiced_st, insert, ascending, percentile, p5_p50_p95, at_least_min_span, cold_register, in_register}
 use Rattle.spec_shape.specs.Record.{united, fit_bytes, measure_bytes, shape_bytes, shape_outcome}
 
 abbrev num : ℕ → Float
@@ -106,7 +107,7 @@ query2 : List ℕ
 query2 = 48 ∷ 1 ∷ 1 ∷ 0 ∷ 0 ∷ 0 ∷ 0 ∷ 0 ∷ 0 ∷ 2 ∷ 0 ∷ 0 ∷ 0 ∷ 0 ∷ 0 ∷ 0 ∷ 0 ∷ 0 ∷ 0 ∷ 192 ∷ 65 ∷ (replicate 23 0 ++ (2 ∷ 0 ∷ (tone ++ tone)))
 
 two_voiced : shape_outcome query2 ≡ refused Unvoiced 0
-unfolding query2 shape_outcome load_query read_query record_verdict variants_fine variant_fine frame_verdict fields_of extent_of range range_to frame_at of_bits lt
+unfolding query2 shape_outcome in_register load_query read_query record_verdict variants_fine variant_fine frame_verdict fields_of extent_of range range_to frame_at of_bits lt
 two_voiced = refl
 
 -- the same record with three frames: 12 semitones in the register 0 to 24 are Chao value 3 all along; 30 ms, all voiced and sure, and the issues with TooShort. f32s by their bytes: 3, 1, 30, 0
@@ -127,8 +128,19 @@ ten_of l = l ++ (l ++ (l ++ (l ++ (l ++ (l ++ (l ++ (l ++ (l ++ l))))))))
 
 three_voiced : shape_outcome query3
     ≡ written (51 ∷ 0 ∷ 0 ∷ 0 ∷ 0 ∷ 3 ∷ 0 ∷ 0 ∷ 0 ∷ (ten_of three ++ (ten_of one ++ (three ++ (replicate 17 0 ++ (thirty ++ (one ++ (one ++ (8 ∷ 0 ∷ [])))))))))
-unfolding query3 shape_outcome load_query read_query record_verdict variants_fine variant_fine frame_verdict fields_of extent_of shape_bytes fit_bytes measure_bytes united with_issue f32s_bytes to_bits shape_of drawn holes_filled mean_with list_of mean_of range_in confidence half_width reach curve_at step_of mean_over rounded position whole_part round_up narrowed lesser greater float_with_sign total_le range range_to while hz_to_st width_of st_to_chao log2_of line_slope point_added moments_of normal_equations first_unknown lead_of quadratic_coefficient greatest first_near last_near extremum stands chosen turning_point frame_at add sub mul div lt le eq neg of_int of_bits round is_nan log_by parts_of centred series log_horner frames_at power
+unfolding query3 in_register shape_outcome load_query read_query record_verdict variants_fine variant_fine frame_verdict fields_of extent_of shape_bytes fit_bytes measure_bytes united with_issue f32s_bytes to_bits shape_of drawn holes_filled mean_with list_of mean_of range_in confidence half_width reach curve_at step_of mean_over rounded position whole_part round_up narrowed lesser greater float_with_sign total_le range range_to while hz_to_st width_of st_to_chao log2_of line_slope point_added moments_of normal_equations first_unknown lead_of quadratic_coefficient greatest first_near last_near extremum stands chosen turning_point frame_at add sub mul div lt le eq neg of_int of_bits round is_nan log_by parts_of centred series log_horner frames_at power
 three_voiced = refl
+
+-- the same frames behind kind 55, floor and ceiling no numbers: 12 semitones in the register 10 to 14 are Chao value 3 as well, and ColdStartRegister, 16,
+-- joins the issues
+cold3 : List ℕ
+cold3 =
+    48 ∷ 1 ∷ 1 ∷ 0 ∷ 0 ∷ 0 ∷ 0 ∷ 0 ∷ 0 ∷ 3 ∷ 0 ∷ 0 ∷ 0 ∷ 0 ∷ 0 ∷ 192 ∷ 127 ∷ 0 ∷ 0 ∷ 192 ∷ 127 ∷ (replicate 23 0 ++ (3 ∷ 0 ∷ (55 ∷ (tone ++ (tone ++ tone)))))
+
+three_cold : shape_outcome cold3
+    ≡ written (51 ∷ 0 ∷ 0 ∷ 0 ∷ 0 ∷ 3 ∷ 0 ∷ 0 ∷ 0 ∷ (ten_of three ++ (ten_of one ++ (three ++ (replicate 17 0 ++ (thirty ++ (one ++ (one ++ (24 ∷ 0 ∷ [])))))))))
+unfolding cold3 in_register with_issue voiced_st cold_register p5_p50_p95 percentile ascending insert is_sign_negative at_least_min_span shape_outcome load_query read_query record_verdict variants_fine variant_fine frame_verdict fields_of extent_of shape_bytes fit_bytes measure_bytes united f32s_bytes to_bits shape_of drawn holes_filled mean_with list_of mean_of range_in confidence half_width reach curve_at step_of mean_over rounded position whole_part round_up narrowed lesser greater float_with_sign total_le range range_to while hz_to_st width_of st_to_chao log2_of line_slope point_added moments_of normal_equations first_unknown lead_of quadratic_coefficient greatest first_near last_near extremum stands chosen turning_point frame_at add sub mul div lt le eq neg of_int of_bits round is_nan log_by parts_of centred series log_horner frames_at power
+three_cold = refl
 
 no_query : shape_outcome [] ≡ refused CutShort 0
 unfolding shape_outcome load_query read_query record_verdict

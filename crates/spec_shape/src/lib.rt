@@ -78,3 +78,19 @@ pub struct ToneShape {
     pub confidence: f32,
     pub frames: usize,
 }
+
+// The 5th, 50th and 95th percentiles of a query's semitones.
+#[derive(Clone, Copy)]
+pub struct Percentiles {
+    pub p5: f64,
+    pub p50: f64,
+    pub p95: f64,
+}
+
+// A speaker's register in semitones re 55 Hz, as in the Rust but for its count of syllables, which nothing here asks for.
+#[derive(Clone, Copy)]
+pub struct Register {
+    pub floor: f32,
+    pub median: f32,
+    pub ceil: f32,
+}

@@ -153,6 +153,11 @@ pub const VARIANT_WEIGHTS: usize = 25;
 
 pub const VARIANT_SIZE: usize = 5;
 
+// "kind 55, without a body, straight after its query record"
+pub const COLD_KIND: u8 = 55;
+
+pub const COLD_SIZE: usize = 1;
+
 // "kind 50: voiced flag u8, hz f32, voiced_p f32"
 pub const FRAME_KIND: u8 = 50;
 

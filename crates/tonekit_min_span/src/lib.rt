@@ -1,0 +1,2 @@
+// A register at least 4 semitones wide.
+#![tactic(auto)]

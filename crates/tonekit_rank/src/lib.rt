@@ -1,0 +1,2 @@
+// The k-th smallest of a slice of keys.
+#![tactic(auto)]

@@ -1,0 +1,2 @@
+// `cold_register` of the Rust.
+#![tactic(auto)]
