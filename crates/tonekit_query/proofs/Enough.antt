@@ -1,6 +1,6 @@
--- 10,287 bytes are enough to read any query: the longest has 10,286, and one byte more is already too many. Assumes nothing.
-use Rattle.std.proofs.Common.{◌≡◌, refl, ◌∙◌, ap, Bool, true, ◌&&◌, List, ℕ, zero, suc, ◌+◌, ◌-◌, ◌*◌, ◌≤◌, ◌<◌, arith, length, take}
-use Rattle.tonekit_core.specs.Loop.{Turn, next, turns_to, range_to}
+-- 10,288 bytes are enough to read any query: the longest has 10,287, and one byte more is already too many. Assumes nothing.
+use Rattle.std.proofs.Common.{◌≡◌, refl, ◌∙◌, ap, Bool, true, false, ◌&&◌, eqb, List, ℕ, zero, suc, ◌+◌, ◌-◌, ◌*◌, ◌≤◌, ◌<◌, arith, length, take}
+use Rattle.tonekit_core.specs.Loop.{next, turns_to, range_to}
 use Rattle.tonekit_core.specs.declared.Refusal.{Refusal}
 use Rattle.tonekit_core.specs.declared.Rejection.{Rejection}
 use Rattle.std.specs.Prelude.{Result, Ok, Err}
@@ -8,13 +8,17 @@ use Rattle.tonekit_core.proofs.LoopLaws.{range_same}
 use Rattle.spec_arithmetic.specs.Fields.{u16_at}
 use Rattle.tonekit_bytes.proofs.Agreeing.{Agree, taken_agrees, two, four, float}
 use Rattle.spec_query.specs.declared.Query.{Query}
-use Rattle.spec_query.specs.Query.{variant_fine, variants_fine, record_verdict, frame_verdict, fields_of, after_frame, after_record, read_query, single, load_query, end_of}
+use Rattle.spec_query.specs.Query.{variant_fine, variants_fine, record_verdict, frame_verdict, fields_of, cold_at, frames_from, after_frame, after_record, read_query, single, load_query, end_of}
 use Rattle.tonekit_query.proofs.VariantTurn.{variant_turn}
 use Rattle.tonekit_query.proofs.Laws.{frames_on, read_holds, fixed}
-use Rattle.tonekit_query.specs.Parts.{frame_turn, read_frames}
+use Rattle.tonekit_query.specs.Parts.{read_frames}
 
--- two inputs whose first 10,287 bytes are the same
-module _ (n : ℕ) (t s : List ℕ) (a : Agree n t s) (room : 10287 ≤ n) where
+from_most : (b : Bool) → frames_from b ≤ 47
+from_most true = omega arith
+from_most false = omega arith
+
+-- two inputs whose first 10,288 bytes are the same
+module _ (n : ℕ) (t s : List ℕ) (a : Agree n t s) (room : 10288 ≤ n) where
   variant_same : (i : ℕ) → i < 4 → variant_fine t i ≡ variant_fine s i
   unfolding variant_fine
   variant_same i h = rw (a.bytes 23 (omega arith), a.bytes (24 + 5 * i) (omega arith), four n t s a (25 + 5 * i) (omega arith))
@@ -28,9 +32,12 @@ module _ (n : ℕ) (t s : List ℕ) (a : Agree n t s) (room : 10287 ≤ n) where
   record_same =
       rw (a.ends 0 (omega arith), a.bytes 0 (omega arith), a.cuts 46 (omega arith), a.bytes 23 (omega arith), two n t s a 44 (omega arith), a.bytes 4 (omega arith), two n t s a 21 (omega arith), variants_same)
 
-  frame_same : (at : ℕ) → at + 10 ≤ 10286 → frame_verdict t at ≡ frame_verdict s at
+  frame_same : (at : ℕ) → at + 10 ≤ 10287 → frame_verdict t at ≡ frame_verdict s at
   unfolding frame_verdict
   frame_same at h = rw (a.ends at (omega arith), a.bytes at (omega arith), a.cuts (at + 10) (omega arith), a.bytes (at + 1) (omega arith))
+
+  cold_same : cold_at t ≡ cold_at s
+  cold_same = ap (λ (b : ℕ). eqb b 55) (a.bytes 46 (omega arith))
 
   fields_same : fields_of t ≡ fields_of s
   unfolding fields_of
@@ -47,6 +54,7 @@ module _ (n : ℕ) (t s : List ℕ) (a : Agree n t s) (room : 10287 ≤ n) where
         two n t s a 21 (omega arith),
         a.bytes 23 (omega arith),
         two n t s a 44 (omega arith),
+        cold_same,
       )
 
   -- frames that lie within those bytes
@@ -56,7 +64,7 @@ module _ (n : ℕ) (t s : List ℕ) (a : Agree n t s) (room : 10287 ≤ n) where
   then_same zero i at (Err r) behind = refl
   then_same (suc k) i at (Err r) behind = refl
 
-  frames_same : (k i at : ℕ) → at + 10 * k ≤ 10286 → frames_on t k i (next at) ≡ frames_on s k i (next at)
+  frames_same : (k i at : ℕ) → at + 10 * k ≤ 10287 → frames_on t k i (next at) ≡ frames_on s k i (next at)
   unfolding turns_to
   frames_same zero i at h = ap Ok fields_same
   frames_same (suc k) i at h =
@@ -66,7 +74,9 @@ module _ (n : ℕ) (t s : List ℕ) (a : Agree n t s) (room : 10287 ≤ n) where
   after_same : (v : Result Unit Refusal) → record_verdict t ≡ v → after_record t v ≡ after_record s v
   unfolding range_to
   after_same (Ok u) e =
-      frames_same (u16_at t 44 - 0) 0 46 (omega (arith, (fixed t e).count)) ∙ ap (read_frames s) (two n t s a 44 (omega arith))
+      frames_same (u16_at t 44 - 0) 0 (frames_from (cold_at t)) (omega (arith, (fixed t e).count, from_most (cold_at t)))
+      ∙ ap (λ (b : Bool). frames_on s (u16_at t 44 - 0) 0 (next (frames_from b))) cold_same
+      ∙ ap (read_frames s) (two n t s a 44 (omega arith))
   after_same (Err r) e = refl
 
   read_same : read_query t ≡ read_query s
@@ -77,7 +87,8 @@ module _ (n : ℕ) (t s : List ℕ) (a : Agree n t s) (room : 10287 ≤ n) where
   single_same : (r : Result Query Rejection) → read_query t ≡ r → single (length t) r ≡ single (length s) r
   single_same (Ok q) e =
       let c : q.count ≤ 1024 = (read_holds t q e).count in
-      rw (a.goes (end_of q.count) (omega arith))
+      let f = from_most q.cold in
+      rw (a.goes (end_of q) (omega arith))
   single_same (Err r) e = refl
 
   load_same : load_query t ≡ load_query s
@@ -85,5 +96,5 @@ module _ (n : ℕ) (t s : List ℕ) (a : Agree n t s) (room : 10287 ≤ n) where
   load_same = single_same (read_query t) refl ∙ ap (single (length s)) read_same
 
 -- so what stands past them is not read
-pub load_enough : (s : List ℕ) (n : ℕ) → 10287 ≤ n → load_query (take n s) ≡ load_query s
+pub load_enough : (s : List ℕ) (n : ℕ) → 10288 ≤ n → load_query (take n s) ≡ load_query s
 load_enough s n h = load_same n (take n s) s (taken_agrees n s) h

@@ -1,15 +1,16 @@
 -- What a query that was read holds, for those that use it. Assumes nothing.
-use Rattle.std.proofs.Common.{◌≡◌, refl, ◌∙◌, ap, subst, Bool, true, false, cond, ◌&&◌, ◌||◌, List, ℕ, zero, suc, ◌+◌, ◌-◌, ◌*◌, ◌≤◌, ◌<◌, arith, ltb-true, ltb-false, leb-true, eqb, leb, ltb, length, drop, length-drop, length-take-le}
-use Rattle.tonekit_core.proofs.Split.{neither, both}
+use Rattle.std.proofs.Common.{◌≡◌, refl, ◌∙◌, ap, subst, Bool, true, false, cond, ◌&&◌, ◌||◌, List, ℕ, zero, suc, ◌+◌, ◌-◌, ◌*◌, ◌≤◌, ◌<◌, arith, ltb-true, ltb-false, leb-true, leb-false, eqb-true, eqb, leb, ltb, length, drop, length-drop, length-take-le}
+use Rattle.tonekit_core.proofs.Split.{split, neither, both}
 use Rattle.tonekit_core.specs.Loop.{Turn, next, stop, turns_to, range_to}
 use Rattle.tonekit_core.specs.declared.Refusal.{Refusal}
 use Rattle.tonekit_core.specs.declared.Refusal.TheVariants.{Overrun, Crowded, BadQuery}
 use Rattle.tonekit_core.specs.declared.Rejection.{Rejection}
 use Rattle.std.specs.Prelude.{Result, Ok, Err}
 use Rattle.spec_arithmetic.specs.Fields.{byte_at, u16_at}
+use Rattle.tonekit_bytes.proofs.Fields.{byte_past}
 use Rattle.tonekit_bytes.proofs.Files.{not_fine, fine}
 use Rattle.spec_query.specs.declared.Query.{Query}
-use Rattle.spec_query.specs.Query.{variants_fine, record_verdict, frame_verdict, fields_of, after_frame, after_record, read_query, single, load_query, end_of, frames_of}
+use Rattle.spec_query.specs.Query.{variants_fine, record_verdict, frame_verdict, fields_of, cold_at, frames_from, after_frame, after_record, read_query, single, load_query, end_of, frames_of}
 use Rattle.tonekit_query.specs.Parts.{frame_turn}
 
 no_query : (e : Rejection) (q : Query) → Err e ≡ Ok q → ⊥
@@ -79,21 +80,26 @@ module _ (s : List ℕ) (q : Query) where
 -- a query that was read: what the fixed record says, and all of its frames are there
 pub record Holds (s : List ℕ) (q : Query) : Type 0 where
   pub fields : q ≡ fields_of s
-  pub whole : end_of q.count ≤ length s
+  pub whole : end_of q ≤ length s
   pub count : q.count ≤ 1024
   pub variants : q.variants ≤ 4
   pub issues : q.issues < 1024
   pub last : byte_at s 4 ≤ 1
 
+-- the frames begin within the bytes: kind 55 is a byte that is there
+begins : (s : List ℕ) (b : Bool) → cold_at s ≡ b → 46 ≤ length s → frames_from b ≤ length s
+begins s false e h = h
+begins s true e h = split (leb (length s) 46) (λ t. let k = byte_past s 46 (leb-true (length s) 46 t) in let o = eqb-true (byte_at s 46) 55 e in absurd (omega arith)) (λ f. leb-false (length s) 46 f)
+
 after_verdict : (s : List ℕ) (q : Query) (v : Result Unit Refusal) → record_verdict s ≡ v → after_record s v ≡ Ok q → Holds s q
 unfolding range_to fields_of
 after_verdict s q (Ok u) v e =
     let f = fixed s v in
-    let r = frames_whole s q (u16_at s 44 - 0) 0 46 f.whole e in
+    let r = frames_whole s q (u16_at s 44 - 0) 0 (frames_from (cold_at s)) (begins s (cold_at s) refl f.whole) e in
     let o = r.0 in
     record {
       fields = o;
-      whole = rw (ap (λ (x : Query). x.count) o) (omega arith);
+      whole = rw o (omega arith);
       count = rw (ap (λ (x : Query). x.count) o) f.count;
       variants = rw (ap (λ (x : Query). x.variants) o) f.variants;
       issues = rw (ap (λ (x : Query). x.issues) o) f.issues;
@@ -106,27 +112,29 @@ unfolding read_query
 read_holds s q e = after_verdict s q (record_verdict s) refl e
 
 -- the part that holds its frames
-pub frames_length : (s : List ℕ) (q : Query) → read_query s ≡ Ok q → length (frames_of s q.count) ≡ 10 * q.count
-frames_length s q e = let h = read_holds s q e in length-take-le (10 * q.count) (drop 46 s) (omega (arith, length-drop 46 s, h.whole))
+pub frames_length : (s : List ℕ) (q : Query) → read_query s ≡ Ok q → length (frames_of s q) ≡ 10 * q.count
+frames_length s q e =
+    let h = read_holds s q e in
+    length-take-le (10 * q.count) (drop (frames_from q.cold) s) (omega (arith, length-drop (frames_from q.cold) s, h.whole))
 
 -- a query that an input is as a whole
-alone_or_not : (len : ℕ) (p q : Query) (b : Bool) → ltb (end_of p.count) len ≡ b
-    → cond {A = Result Query Rejection} b (Err (record { why = Overrun; place = end_of p.count })) (Ok p) ≡ Ok q → (◌≡◌ {A = Result Query Rejection} (Ok p) (Ok q)) × (len ≤ end_of p.count)
-alone_or_not len p q true t e = absurd (no_query (record { why = Overrun; place = end_of p.count }) q e)
-alone_or_not len p q false t e = (e, ltb-false (end_of p.count) len t)
+alone_or_not : (len : ℕ) (p q : Query) (b : Bool) → ltb (end_of p) len ≡ b
+    → cond {A = Result Query Rejection} b (Err (record { why = Overrun; place = end_of p })) (Ok p) ≡ Ok q → (◌≡◌ {A = Result Query Rejection} (Ok p) (Ok q)) × (len ≤ end_of p)
+alone_or_not len p q true t e = absurd (no_query (record { why = Overrun; place = end_of p }) q e)
+alone_or_not len p q false t e = (e, ltb-false (end_of p) len t)
 
-as_read : (s : List ℕ) (q : Query) (r : Result Query Rejection) → read_query s ≡ r → single (length s) r ≡ Ok q → (read_query s ≡ Ok q) × (length s ≤ end_of q.count)
+as_read : (s : List ℕ) (q : Query) (r : Result Query Rejection) → read_query s ≡ r → single (length s) r ≡ Ok q → (read_query s ≡ Ok q) × (length s ≤ end_of q)
 as_read s q (Ok p) f e =
-    let t = alone_or_not (length s) p q (ltb (end_of p.count) (length s)) refl e in
+    let t = alone_or_not (length s) p q (ltb (end_of p) (length s)) refl e in
     let o : p ≡ q = cc in
-    (f ∙ t.0, subst (λ (x : Query). length s ≤ end_of x.count) o t.1)
+    (f ∙ t.0, subst (λ (x : Query). length s ≤ end_of x) o t.1)
 as_read s q (Err r) f e = absurd (no_query r q e)
 
 pub load_reads : (s : List ℕ) (q : Query) → load_query s ≡ Ok q → read_query s ≡ Ok q
 unfolding load_query
 load_reads s q e = (as_read s q (read_query s) refl e).0
 
-pub load_length : (s : List ℕ) (q : Query) → load_query s ≡ Ok q → length s ≡ end_of q.count
+pub load_length : (s : List ℕ) (q : Query) → load_query s ≡ Ok q → length s ≡ end_of q
 unfolding load_query
 load_length s q e =
     let r = as_read s q (read_query s) refl e in

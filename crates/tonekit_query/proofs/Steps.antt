@@ -61,10 +61,10 @@ pub unvoiced_past : (s : List ℕ) (at : ℕ) → length s ≤ at → false ≡ 
 unvoiced_past s at h = rw (byte_past s (at + 1) (omega arith))
 
 -- a query that was read, as a whole input
-pub behind : (s : List ℕ) (q : Query) → read_query s ≡ Ok q → end_of q.count < length s → load_query s ≡ Err (record { why = Overrun; place = end_of q.count })
+pub behind : (s : List ℕ) (q : Query) → read_query s ≡ Ok q → end_of q < length s → load_query s ≡ Err (record { why = Overrun; place = end_of q })
 unfolding load_query
 behind s q e h = rw (e, lt-ltb _ _ h)
 
-pub alone : (s : List ℕ) (q : Query) → read_query s ≡ Ok q → length s ≤ end_of q.count → load_query s ≡ Ok q
+pub alone : (s : List ℕ) (q : Query) → read_query s ≡ Ok q → length s ≤ end_of q → load_query s ≡ Ok q
 unfolding load_query
 alone s q e h = rw (e, le-ltb _ _ h)

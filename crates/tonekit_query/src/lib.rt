@@ -6,7 +6,7 @@ ghost use Rattle.std.specs.Float.{binary32};
 ghost use Rattle.std.specs.Float.Ieee.{of_bits};
 ghost use Rattle.tonekit_core.specs.declared.layout.TheConstants.{FRAME_SIZE, FRAME_HZ, FRAME_VOICED_P};
 ghost use Rattle.spec_arithmetic.specs.Fields.{u32_at, f32_at};
-ghost use Rattle.spec_query.specs.Query.{variant_fine, variants_fine, record_verdict, frame_verdict, fields_of, read_query, load_query, check_query, end_of, frames_of, variant_tone, variant_weight};
+ghost use Rattle.spec_query.specs.Query.{variant_fine, variants_fine, record_verdict, frame_verdict, fields_of, cold_at, read_query, load_query, check_query, frames_from, end_of, frames_of, variant_tone, variant_weight};
 ghost use Rattle.spec_query.specs.Frames.{pitch, frame_at};
 ghost use Rattle.tonekit_query.specs.Parts.{read_frames, voiced_at};
 
@@ -96,7 +96,25 @@ fn frame_verdict(query: &[u8], at: usize) -> Result<(), Refusal>
     }
 }
 
-// What the fixed record says.
+// Whether kind 55 stands behind the fixed record.
+fn is_cold(query: &[u8]) -> bool
+    ensures { result ≡ cold_at query.now }
+{
+    byte_at(query, 0, layout::QUERY_SIZE) == layout::COLD_KIND
+}
+
+// Where the frames begin.
+fn frames_from(cold: bool) -> usize
+    ensures { result ≡ frames_from cold }
+{
+    if cold {
+        layout::QUERY_SIZE + layout::COLD_SIZE
+    } else {
+        layout::QUERY_SIZE
+    }
+}
+
+// What the fixed record says, and whether kind 55 stands behind it.
 #[tactic(auto, unfolding(spec_query::specs::Query::fields_of))]
 fn fields(query: &[u8]) -> Query
     ensures { result ≡ fields_of query.now }
@@ -113,15 +131,24 @@ fn fields(query: &[u8]) -> Query
         issues: u16_at(query, 0, layout::QUERY_ISSUES),
         variants: byte_at(query, 0, layout::QUERY_VARIANT_COUNT),
         count: u16_at(query, 0, layout::QUERY_FRAME_COUNT),
+        cold: is_cold(query),
     }
+}
+
+// Where so many frames end.
+fn frames_end(cold: bool, count: u16) -> usize
+    ensures { result ≡ frames_from cold + FRAME_SIZE * count }
+{
+    frames_from(cold) + layout::FRAME_SIZE * usize::from(count)
 }
 
 // The query, where its counted frames are fine; else the first that is not, with its offset.
 fn read_frames(query: &[u8], count: u16) -> Result<Query, Rejection>
     ensures { result ≡ read_frames query.now count }
 {
+    let cold = is_cold(query);
     for i in 0..count {
-        let at = end_of(i);
+        let at = frames_end(cold, i);
         if let Err(why) = frame_verdict(query, at) {
             return Err(why.at(at));
         }
@@ -138,11 +165,11 @@ pub fn read_query(query: &[u8]) -> Result<Query, Rejection>
     read_frames(query, u16_at(query, 0, layout::QUERY_FRAME_COUNT))
 }
 
-// Where a query of so many frames ends.
-fn end_of(count: u16) -> usize
-    ensures { result ≡ end_of count }
+// Where a query ends.
+fn end_of(q: Query) -> usize
+    ensures { result ≡ end_of q }
 {
-    layout::QUERY_SIZE + layout::FRAME_SIZE * usize::from(count)
+    frames_end(q.cold, q.count)
 }
 
 // The query that an input is as a whole; bytes behind it are refused.
@@ -151,7 +178,7 @@ pub fn load_query(query: &[u8]) -> Result<Query, Rejection>
     ensures { result ≡ load_query query.now }
 {
     let q = read_query(query)?;
-    let end = end_of(q.count);
+    let end = end_of(q);
     if end < query.len() {
         return Err(Refusal::Overrun.at(end));
     }
@@ -167,13 +194,13 @@ pub fn check_query(query: &[u8]) -> Result<(), Rejection>
     Ok(())
 }
 
-// The part of a query that holds so many frames; of a shorter input what is there.
+// The part of a query's bytes that holds its frames; of a shorter input what is there.
 #[tactic(auto, using(crate::proofs::Parts::cut))]
-pub fn frames(query: &[u8], count: u16) -> &[u8]
-    ensures { result.now ≡ frames_of query.now count }
+pub fn frames(query: &[u8], q: Query) -> &[u8]
+    ensures { result.now ≡ frames_of query.now q }
 {
-    let from = layout::QUERY_SIZE.min(query.len());
-    let to = end_of(count).min(query.len());
+    let from = frames_from(q.cold).min(query.len());
+    let to = end_of(q).min(query.len());
     &query[from..to]
 }
 
