@@ -57,7 +57,7 @@ judge_gathered g s q =
     let e = extent_of frames q.count q.start q.end in
     let i = g.listed.inventory in
     let r = in_register frames q in
-    let x = shape_of frames e q.start q.end r.floor r.ceil in
+    let x = shape_of frames e r.start r.end r.floor r.ceil in
     let record_of = λ (t : Tolerance) (a : Targets). judgement_bytes q.tone (length i.items) (judgement_of x g.settings t g.listed a (united r.issues x.frames)) in
     unless (query_verdict e.count g.tolerance g.prev i s q)
     (λ t. option_map_or (λ a. written (record_of t a)) (targets_of i s q.tone q.variants) (refused refusal.UnknownTone 0))

@@ -25,13 +25,13 @@ held_is s from to first last = rw (last, first) (cut s 2 (u16_at s 0))
 pub query_is : (s : List ℕ) (from : ℕ) → from ≡ min (2 + u16_at s 0) (length s) → take (length s - from) (drop from s) ≡ query_of s
 query_is s from first = rw first (rest s (2 + u16_at s 0) ∙ sym (drop-drop (u16_at s 0) 2 s))
 
--- 75,824 bytes: two of length, the longest pack or sheet, and 10,287 of the query
+-- 75,825 bytes: two of length, the longest pack or sheet, and 10,288 of the query
 drop_take : (k n : ℕ) (s : List ℕ) → k ≤ n → drop k (take n s) ≡ take (n - k) (drop k s)
 drop_take k n s h =
     let e : n ≡ k + (n - k) = omega arith in
     ap (λ (m : ℕ). drop k (take m s)) e ∙ drop-take k (n - k) s
 
-module _ (s : List ℕ) (bytes : (i : ℕ) → byte_at s i < 256) (n : ℕ) (h : 75824 ≤ n) where
+module _ (s : List ℕ) (bytes : (i : ℕ) → byte_at s i < 256) (n : ℕ) (h : 75825 ≤ n) where
   size_same : u16_at (take n s) 0 ≡ u16_at s 0
   size_same = rw (get_or-take n s 0 0 (omega arith), get_or-take n s 1 0 (omega arith))
 
@@ -44,5 +44,5 @@ module _ (s : List ℕ) (bytes : (i : ℕ) → byte_at s i < 256) (n : ℕ) (h :
   pub query_same : query_of (take n s) ≡ take (n - 2 - u16_at s 0) (query_of s)
   query_same = rw (size_same, drop_take 2 n s (omega arith)) (drop_take (u16_at s 0) (n - 2) (drop 2 s) (omega (arith, small)))
 
-  pub query_enough : 10287 ≤ n - 2 - u16_at s 0
+  pub query_enough : 10288 ≤ n - 2 - u16_at s 0
   query_enough = omega (arith, small)

@@ -9,6 +9,7 @@ use Rattle.std.specs.Prelude.{Result, Ok, Err}
 use Rattle.tonekit_core.specs.declared.Rejection.{Rejection}
 use Rattle.spec_query.specs.declared.Query.{Query}
 use Rattle.spec_shape.specs.Extract.{extent_of, list_of, shape_of}
+use Rattle.spec_shape.specs.Register.{in_register}
 use Rattle.spec_shape.specs.Record.{fit_bytes, measure_bytes, shape_bytes, shaped_from, shape_outcome}
 use Rattle.spec_shape.specs.declared.Extent.{Extent}
 use Rattle.spec_arithmetic.specs.Files.{Out, loaded, refused}
@@ -30,9 +31,10 @@ shape_size_lem start end issues frames e floor ceil = refl
 of_query : (s : List ℕ) (q : Result Query Rejection) → HasRoom SHAPE_SIZE (shaped_from s q)
 of_query s (Err r) = tt
 of_query s (Ok q) =
-    let frames = frames_of s q.count in
+    let frames = frames_of s q in
     let e = extent_of frames q.count q.start q.end in
-    let n = shape_size_lem q.start q.end q.issues frames e q.floor q.ceil in
+    let r = in_register frames q in
+    let n = shape_size_lem r.start r.end r.issues frames e r.floor r.ceil in
     either SHAPE_SIZE (ltb e.count 3) _ _ tt (omega (arith, n))
 
 pub shape_fits : (s : List ℕ) → HasRoom SHAPE_SIZE (shape_outcome s)

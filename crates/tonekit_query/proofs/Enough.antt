@@ -13,7 +13,8 @@ use Rattle.tonekit_query.proofs.VariantTurn.{variant_turn}
 use Rattle.tonekit_query.proofs.Laws.{frames_on, read_holds, fixed}
 use Rattle.tonekit_query.specs.Parts.{read_frames}
 
-from_most : (b : Bool) → frames_from b ≤ 47
+-- the frames begin with the 48th byte at the latest
+pub from_most : (b : Bool) → frames_from b ≤ 47
 from_most true = omega arith
 from_most false = omega arith
 

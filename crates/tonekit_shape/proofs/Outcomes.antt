@@ -9,20 +9,21 @@ use Rattle.tonekit_core.specs.declared.Rejection.{Rejection}
 use Rattle.spec_shape.specs.declared.Extent.{Extent}
 use Rattle.spec_shape.specs.declared.ToneShape.{ToneShape}
 use Rattle.spec_shape.specs.Extract.{extent_of, shape_of}
+use Rattle.spec_shape.specs.Register.{in_register}
 use Rattle.spec_shape.specs.Record.{shape_bytes, shaped, shape_outcome}
 
--- a query that loads
-module _ (frames : List ℕ) (q : Query) (e : Extent) (is : e ≡ extent_of frames q.count q.start q.end) where
-  pub few_voiced : e.count < 3 → shaped frames q (extent_of frames q.count q.start q.end) ≡ refused Unvoiced 0
-  few_voiced h = ap (shaped frames q) (sym is) ∙ rw (lt-ltb e.count 3 h)
+-- a query that loads, and r, the same in the register that it is measured in
+module _ (frames : List ℕ) (q r : Query) (e : Extent) (is : e ≡ extent_of frames q.count q.start q.end) where
+  pub few_voiced : e.count < 3 → shaped frames r (extent_of frames q.count q.start q.end) ≡ refused Unvoiced 0
+  few_voiced h = ap (shaped frames r) (sym is) ∙ rw (lt-ltb e.count 3 h)
 
-  pub enough_voiced : (x : ToneShape) → 3 ≤ e.count → x ≡ shape_of frames e q.start q.end q.floor q.ceil
-      → written (shape_bytes q.start q.end q.issues x) ≡ shaped frames q (extent_of frames q.count q.start q.end)
+  pub enough_voiced : (x : ToneShape) → 3 ≤ e.count → x ≡ shape_of frames e r.start r.end r.floor r.ceil
+      → written (shape_bytes r.start r.end r.issues x) ≡ shaped frames r (extent_of frames q.count q.start q.end)
   enough_voiced x h x-is =
-      ap (λ (y : ToneShape). written (shape_bytes q.start q.end q.issues y)) x-is ∙ sym (ap (shaped frames q) (sym is) ∙ rw (le-ltb e.count 3 h))
+      ap (λ (y : ToneShape). written (shape_bytes r.start r.end r.issues y)) x-is ∙ sym (ap (shaped frames r) (sym is) ∙ rw (le-ltb e.count 3 h))
 
-pub query_good : (s frames : List ℕ) (q : Query) → load_query s ≡ Ok q → frames ≡ frames_of s q.count
-    → shaped frames q (extent_of frames q.count q.start q.end) ≡ shape_outcome s
+pub query_good : (s frames : List ℕ) (q : Query) → load_query s ≡ Ok q → frames ≡ frames_of s q
+    → shaped frames (in_register frames q) (extent_of frames q.count q.start q.end) ≡ shape_outcome s
 unfolding shape_outcome
 query_good s frames q e f = rw (e, f)
 

@@ -4,6 +4,7 @@
 ghost use Rattle.std.specs.Prelude.{◌≡◌, ℕ, ◌+◌, ◌-◌, ◌≤◌, ◌<◌, length};
 ghost use Rattle.spec_shape.specs.Turning.{turning_point};
 ghost use Rattle.tonekit_core.specs.Calls.{Delivers};
+ghost use Rattle.spec_shape.specs.Register.{in_register};
 ghost use Rattle.spec_shape.specs.Record.{united, shaped, shape_outcome};
 ghost use Rattle.spec_shape.specs.Window.{weight_at};
 ghost use Rattle.tonekit_window.specs.Promises.{contour_at};
@@ -214,24 +215,25 @@ pub fn shape_of(frames: &[u8], e: Extent, q: Query) -> ToneShape
 fn write_shaped(frames: &[u8], q: Query, out: &mut [u8]) -> Result<usize, Rejection>
     requires { q.count ≤ 1024 }
     ensures { Delivers
-        (shaped frames.now q (extent_of frames.now q.count q.start q.end))
+        (shaped frames.now (in_register frames.now q) (extent_of frames.now q.count q.start q.end))
         out.old result out.new }
 {
     let e = voiced_frames(frames, q);
     if e.count < 3 {
         return Err(Refusal::Unvoiced.at(0));
     }
-    let x = shape_of(frames, e, q);
-    let bytes = record::shape_record(q, x);
+    let r = tonekit_register::in_register(frames, q);
+    let x = shape_of(frames, e, r);
+    let bytes = record::shape_record(r, x);
     tonekit_bytes::write_record(out, &bytes)
 }
 
 // Writes the shape record of a query: 124 bytes. Refuses what the query reader refuses, fewer than
 // 3 voiced frames (11), and a short buffer (9, with the length needed); then the buffer is as it was.
-#[tactic(auto, using(tonekit_core::proofs::Calls::delivers_refused, tonekit_core::proofs::Calls::delivers_same, crate::proofs::Outcomes::query_good, crate::proofs::Outcomes::query_bad, tonekit_query::proofs::Laws::load_reads, tonekit_query::proofs::Laws::read_holds))]
+#[tactic(auto, using(tonekit_core::proofs::Calls::delivers_refused, tonekit_core::proofs::Calls::delivers_same, crate::proofs::Outcomes::query_good, crate::proofs::Outcomes::query_bad))]
 pub fn write_shape(query: &[u8], out: &mut [u8]) -> Result<usize, Rejection>
     ensures { Delivers (shape_outcome query.now) out.old result out.new }
 {
     let q = tonekit_query::load_query(query)?;
-    write_shaped(tonekit_query::frames(query, q.count), q, out)
+    write_shaped(tonekit_query::frames(query, q), q, out)
 }

@@ -30,14 +30,14 @@ module _ (g h : Gathering) (s : List ℕ) (q : Query) where
   unheld : g.tolerance ≡ None → h.tolerance ≡ None → judge_gathered g s q ≡ judge_gathered h s q
   unfolding judge_gathered query_verdict
   unheld x y =
-      split (ltb (extent_of (frames_of s q.count) q.count q.start q.end).count 3)
+      split (ltb (extent_of (frames_of s q) q.count q.start q.end).count 3)
       (λ t. rw t)
       (λ f. rw (f, x, y))
 
   unheld_prev : (t : Tolerance) → g.tolerance ≡ Some t → h.tolerance ≡ Some t → g.prev ≡ false → h.prev ≡ false → judge_gathered g s q ≡ judge_gathered h s q
   unfolding judge_gathered query_verdict
   unheld_prev t x y u v =
-      split (ltb (extent_of (frames_of s q.count) q.count q.start q.end).count 3)
+      split (ltb (extent_of (frames_of s q) q.count q.start q.end).count 3)
       (λ t. rw t)
       (λ f. rw (f, x, y, u, v))
 

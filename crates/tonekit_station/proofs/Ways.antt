@@ -15,6 +15,7 @@ use Rattle.spec_sheet.specs.Reader.{load_sheet}
 use Rattle.spec_sheet.specs.Reader as sheet
 use Rattle.spec_lookup.specs.Source.{Source}
 use Rattle.spec_shape.specs.Extract.{extent_of, shape_of}
+use Rattle.spec_shape.specs.Register.{in_register}
 use Rattle.spec_shape.specs.Record.{united}
 use Rattle.spec_shape.specs.declared.Extent.{Extent}
 use Rattle.spec_shape.specs.declared.ToneShape.{ToneShape}
@@ -48,7 +49,7 @@ module _ (voiced : ℕ) (i : Inventory) (s : List ℕ) (q : Query) where
     bad_variant t f = rw (le-ltb voiced 3 enough, listed, f)
 
 -- a query that loads, by what was gathered: refused, 13 for targets, or the record
-module _ (g : Gathering) (s : List ℕ) (q : Query) (e : Extent) (is : e ≡ extent_of (frames_of s q.count) q.count q.start q.end) where
+module _ (g : Gathering) (s : List ℕ) (q : Query) (e : Extent) (is : e ≡ extent_of (frames_of s q) q.count q.start q.end) where
   pub turned_back_lem : (r : Refusal) → query_verdict e.count g.tolerance g.prev g.listed.inventory s q ≡ Err r → judge_gathered g s q ≡ refused r 0
   unfolding judge_gathered
   turned_back_lem r v = rw (← is, v)
@@ -59,13 +60,14 @@ module _ (g : Gathering) (s : List ℕ) (q : Query) (e : Extent) (is : e ≡ ext
     unfolding judge_gathered
     target_loose o = rw (← is, fine, ← aims, o)
 
-    pub target_held : (targets : Targets) → a ≡ Some targets → (x : ToneShape) → x ≡ shape_of (frames_of s q.count) e q.start q.end q.floor q.ceil
-        → (issues : ℕ) → issues ≡ united q.issues x.frames
+    pub target_held : (targets : Targets) → a ≡ Some targets → (r : Query) → r ≡ in_register (frames_of s q) q
+        → (x : ToneShape) → x ≡ shape_of (frames_of s q) e r.start r.end r.floor r.ceil
+        → (issues : ℕ) → issues ≡ united r.issues x.frames
         → (j : ToneJudgement) → j ≡ judgement_of x g.settings t g.listed targets issues
         → (bytes : List ℕ) → bytes ≡ judgement_bytes q.tone (length g.listed.inventory.items) j
         → written bytes ≡ judge_gathered g s q
     unfolding judge_gathered
-    target_held targets o x x-is issues i-is j j-is bytes b-is = rw (← is, fine, ← aims, o, ← x-is, ← i-is, ← j-is, ← b-is)
+    target_held targets o r r-is x x-is issues i-is j j-is bytes b-is = rw (← is, fine, ← aims, o, ← r-is, ← x-is, ← i-is, ← j-is, ← b-is)
 
 pub query_good : (src : Source) (s : List ℕ) (q : Query) → load_query s ≡ Ok q → judge_gathered (gathered src (context_of q)) s q ≡ judgement src s
 unfolding judgement

@@ -17,6 +17,7 @@ use Rattle.spec_sheet.specs.Reader as sheet
 use Rattle.spec_sheet.specs.FromSheet.{source_of_sheet}
 use Rattle.spec_lookup.specs.Source.{Source, source_of_pack}
 use Rattle.spec_shape.specs.Extract.{extent_of, shape_of}
+use Rattle.spec_shape.specs.Register.{in_register}
 use Rattle.spec_shape.specs.Record.{united}
 use Rattle.spec_shape.specs.declared.Extent.{Extent}
 use Rattle.spec_shape.specs.declared.ToneShape.{ToneShape}
@@ -41,17 +42,19 @@ Records P =
 -- 13 where a target is not held, or the record
 abbrev recorded : Gathering → Tolerance → Query → List ℕ → Extent → Option Targets → Outcome
 recorded g t q frames e o =
-    let x = shape_of frames e q.start q.end q.floor q.ceil in
+    let r = in_register frames q in
+    let x = shape_of frames e r.start r.end r.floor r.ceil in
     option_map_or
-    (λ a. written (judgement_bytes q.tone (length g.listed.inventory.items) (judgement_of x g.settings t g.listed a (united q.issues x.frames))))
+    (λ a. written (judgement_bytes q.tone (length g.listed.inventory.items) (judgement_of x g.settings t g.listed a (united r.issues x.frames))))
     o (refused UnknownTone 0)
 
 module _ (P : List ℕ → Type 0) (records : Records P) where
   recorded_writes : (g : Gathering) (q : Query) (frames : List ℕ) (e : Extent) (t : Tolerance) (a : Option Targets) → Writes P (recorded g t q frames e a)
   recorded_writes g q frames e t None = tt
   recorded_writes g q frames e t (Some a) =
-      let x = shape_of frames e q.start q.end q.floor q.ceil in
-      records x g.settings t g.listed a (united q.issues x.frames) q.tone (length g.listed.inventory.items)
+      let r = in_register frames q in
+      let x = shape_of frames e r.start r.end r.floor r.ceil in
+      records x g.settings t g.listed a (united r.issues x.frames) q.tone (length g.listed.inventory.items)
 
   unless_writes : (v : Result Tolerance Refusal) (o : Tolerance → Outcome) → ((t : Tolerance) → Writes P (o t)) → Writes P (unless v o)
   unless_writes (Err r) o h = tt
@@ -62,7 +65,7 @@ module _ (P : List ℕ → Type 0) (records : Records P) where
   query_writes src s (Err r) = tt
   query_writes src s (Ok q) =
       let g = gathered src (context_of q) in
-      let frames = frames_of s q.count in
+      let frames = frames_of s q in
       let e = extent_of frames q.count q.start q.end in
       let i = g.listed.inventory in
       unless_writes (query_verdict e.count g.tolerance g.prev i s q) _

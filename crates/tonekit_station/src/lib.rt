@@ -89,7 +89,7 @@ fn judge_gathered(
     ensures { Delivers (judge_gathered (gathering_of g.now slots.now) query.now q) out.old result
         out.new }
 {
-    let frames = tonekit_query::frames(query, q.count);
+    let frames = tonekit_query::frames(query, q);
     let e = tonekit_shape::voiced_frames(frames, q);
     let tolerance = match query_verdict(e.count, g, query, q) {
         Ok(tolerance) => tolerance,
@@ -98,8 +98,9 @@ fn judge_gathered(
     let Some(targets) = tonekit_target::targets_of(&g.inventory, query, q.tone, q.variants) else {
         return Err(Refusal::UnknownTone.at(0));
     };
-    let x = tonekit_shape::shape_of(frames, e, q);
-    let issues = tonekit_shape::united(q.issues, x.frames);
+    let r = tonekit_register::in_register(frames, q);
+    let x = tonekit_shape::shape_of(frames, e, r);
+    let issues = tonekit_shape::united(r.issues, x.frames);
     let j = tonekit_judge::judgement_of(
         x,
         g.settings,

@@ -19,6 +19,7 @@ use Rattle.spec_pack.specs.Pack as reader
 use Rattle.spec_shape.specs.Chao.{hz_to_st, width_of, st_to_chao}
 use Rattle.spec_shape.specs.Window.{half_width, reach, curve_at, step_of, mean_over, rounded, frames_at}
 use Rattle.spec_shape.specs.Extract.{extent_of, holes_filled, drawn, list_of, shape_of}
+use Rattle.spec_shape.specs.Register.{in_register}
 use Rattle.spec_shape.specs.Record.{united}
 use Rattle.spec_lookup.specs.Knots.{point_at, first_points, knots_at}
 use Rattle.spec_arithmetic.specs.Places.{index_of}
@@ -99,11 +100,11 @@ weighing n = query 1 nought (0 ∷ 0 ∷ 0xc0 ∷ 0x41 ∷ []) ((2 ∷ 1 ∷ hal
 pub slack_passes : judge_outcome two_tones (weighing 16)
     ≡ written ((0x31 ∷ 1 ∷ 2 ∷ 0x92 ∷ 0x15 ∷ 0x05 ∷ 0x40 ∷ 0x3f ∷ 0xb2 ∷ 0xa2 ∷ 0x3d ∷ []) ++ (zeros 24
     ++ ((0x15 ∷ 0x72 ∷ 0x31 ∷ 0xbf ∷ 1 ∷ 0 ∷ 0 ∷ 0 ∷ 0 ∷ 1 ∷ 1 ∷ 0 ∷ 0 ∷ 0 ∷ 1 ∷ []) ++ (zeros 11 ++ (1 ∷ 8 ∷ 0 ∷ [])))))
-unfolding judge_outcome judgement judge_gathered query_verdict tones_verdict accent_in tone_in load_pack read_pack loop_to loop_on reader.record_verdict body_verdict settings_verdict tone_verdict accent_verdict rule_verdict part_verdict due_after size_of holds zero_or_held added parents_held chain_ends chains_end end_verdict above_zero probability_fine knot_fine weight_fine slot_fine knots_fine region_fine tolerances_fine range turns of_bits le lt load_query read_query record_verdict frame_verdict fields_of variant_fine variants_fine range_to turns_to frame_at extent_of gathered listings source_of_pack look_up find_rule climb_turn best_rule index_of components carried component_of knots_at first_points point_at slotted put_in with_tone main_weight targets_of target_of place_of with_target greater judgement_bytes nearest_bytes judgement_of usable shape_of list_of drawn holes_filled hz_to_st width_of st_to_chao log2_of half_width reach curve_at step_of mean_over rounded position whole_part round_up while while_if narrowed score_bytes one_bytes delta_bytes f32s_bytes round neg to_bits add sub mul div eq is_nan of_int lesser united with_issue scoring_of widen_for clamp_log add_to value_of excused point_weight squares_of end_term ends_of distance_of log_of mixed mix_turn calibrate kept offer offer_end offer_turn end_deltas deltas_of root_of exp_of ln_of tone_mixing loglik_at logliks tail_loglik target_tail_loglik with_tail ranked ranking_of heard_of weighed part_mixing target_mixing llr_of plain_of distance_from advice_of nearest_at with_best judged_of float_with_sign log_by parts_of centred series log_horner root_units nearest_root isqrt exp_by rest exp_series exp_horner floor_of frames_at target.variants_good variant_weights_good target.variant_weight_good
+unfolding in_register judge_outcome judgement judge_gathered query_verdict tones_verdict accent_in tone_in load_pack read_pack loop_to loop_on reader.record_verdict body_verdict settings_verdict tone_verdict accent_verdict rule_verdict part_verdict due_after size_of holds zero_or_held added parents_held chain_ends chains_end end_verdict above_zero probability_fine knot_fine weight_fine slot_fine knots_fine region_fine tolerances_fine range turns of_bits le lt load_query read_query record_verdict frame_verdict fields_of variant_fine variants_fine range_to turns_to frame_at extent_of gathered listings source_of_pack look_up find_rule climb_turn best_rule index_of components carried component_of knots_at first_points point_at slotted put_in with_tone main_weight targets_of target_of place_of with_target greater judgement_bytes nearest_bytes judgement_of usable shape_of list_of drawn holes_filled hz_to_st width_of st_to_chao log2_of half_width reach curve_at step_of mean_over rounded position whole_part round_up while while_if narrowed score_bytes one_bytes delta_bytes f32s_bytes round neg to_bits add sub mul div eq is_nan of_int lesser united with_issue scoring_of widen_for clamp_log add_to value_of excused point_weight squares_of end_term ends_of distance_of log_of mixed mix_turn calibrate kept offer offer_end offer_turn end_deltas deltas_of root_of exp_of ln_of tone_mixing loglik_at logliks tail_loglik target_tail_loglik with_tail ranked ranking_of heard_of weighed part_mixing target_mixing llr_of plain_of distance_from advice_of nearest_at with_best judged_of float_with_sign log_by parts_of centred series log_horner root_units nearest_root isqrt exp_by rest exp_series exp_horner floor_of frames_at target.variants_good variant_weights_good target.variant_weight_good
 slack_passes = refl
 
 pub slack_past : judge_outcome two_tones (weighing 32) ≡ refused BadVariant 0
-unfolding judge_outcome judgement judge_gathered query_verdict tones_verdict accent_in tone_in load_pack read_pack loop_to loop_on reader.record_verdict body_verdict settings_verdict tone_verdict accent_verdict rule_verdict part_verdict due_after size_of holds zero_or_held added parents_held chain_ends chains_end end_verdict above_zero probability_fine knot_fine weight_fine slot_fine knots_fine region_fine tolerances_fine range turns of_bits le lt load_query read_query record_verdict frame_verdict fields_of variant_fine variants_fine range_to turns_to frame_at extent_of gathered listings source_of_pack look_up find_rule climb_turn best_rule index_of components carried component_of knots_at first_points point_at slotted put_in with_tone main_weight targets_of target_of place_of with_target greater judgement_bytes nearest_bytes judgement_of usable shape_of list_of drawn holes_filled hz_to_st width_of st_to_chao log2_of half_width reach curve_at step_of mean_over rounded position whole_part round_up while while_if narrowed score_bytes one_bytes delta_bytes f32s_bytes round neg to_bits add sub mul div eq is_nan of_int lesser united with_issue scoring_of widen_for clamp_log add_to value_of excused point_weight squares_of end_term ends_of distance_of log_of mixed mix_turn calibrate kept offer offer_end offer_turn end_deltas deltas_of root_of exp_of ln_of tone_mixing loglik_at logliks tail_loglik target_tail_loglik with_tail ranked ranking_of heard_of weighed part_mixing target_mixing llr_of plain_of distance_from advice_of nearest_at with_best judged_of float_with_sign log_by parts_of centred series log_horner root_units nearest_root isqrt exp_by rest exp_series exp_horner floor_of frames_at target.variants_good variant_weights_good target.variant_weight_good
+unfolding in_register judge_outcome judgement judge_gathered query_verdict tones_verdict accent_in tone_in load_pack read_pack loop_to loop_on reader.record_verdict body_verdict settings_verdict tone_verdict accent_verdict rule_verdict part_verdict due_after size_of holds zero_or_held added parents_held chain_ends chains_end end_verdict above_zero probability_fine knot_fine weight_fine slot_fine knots_fine region_fine tolerances_fine range turns of_bits le lt load_query read_query record_verdict frame_verdict fields_of variant_fine variants_fine range_to turns_to frame_at extent_of gathered listings source_of_pack look_up find_rule climb_turn best_rule index_of components carried component_of knots_at first_points point_at slotted put_in with_tone main_weight targets_of target_of place_of with_target greater judgement_bytes nearest_bytes judgement_of usable shape_of list_of drawn holes_filled hz_to_st width_of st_to_chao log2_of half_width reach curve_at step_of mean_over rounded position whole_part round_up while while_if narrowed score_bytes one_bytes delta_bytes f32s_bytes round neg to_bits add sub mul div eq is_nan of_int lesser united with_issue scoring_of widen_for clamp_log add_to value_of excused point_weight squares_of end_term ends_of distance_of log_of mixed mix_turn calibrate kept offer offer_end offer_turn end_deltas deltas_of root_of exp_of ln_of tone_mixing loglik_at logliks tail_loglik target_tail_loglik with_tail ranked ranking_of heard_of weighed part_mixing target_mixing llr_of plain_of distance_from advice_of nearest_at with_best judged_of float_with_sign log_by parts_of centred series log_horner root_units nearest_root isqrt exp_by rest exp_series exp_horner floor_of frames_at target.variants_good variant_weights_good target.variant_weight_good
 slack_past = refl
 
 -- ---- "Onset tolerance 0.5, unwidened: 0.5 high gives no delta, 0.75 StartLower."
@@ -114,14 +115,14 @@ one_tone = settings ++ (tone 1 one three ++ (accent four ++ (6 ∷ [])))
 pub half_high : judge_outcome one_tone (query 1 (0 ∷ 0 ∷ 0 ∷ 0x40 ∷ []) (0 ∷ 0 ∷ 0x90 ∷ 0x41 ∷ []) none ++ frames)
     ≡ written ((0x31 ∷ 1 ∷ 1 ∷ 0x00 ∷ 0x00 ∷ 0x82 ∷ 0xbe ∷ []) ++ (zeros 32
     ++ ((1 ∷ 0x96 ∷ 0x6d ∷ 0x36 ∷ 0x3f ∷ 1 ∷ 1 ∷ 0 ∷ 0 ∷ 0 ∷ 1 ∷ []) ++ (zeros 11 ++ (1 ∷ 8 ∷ 0 ∷ [])))))
-unfolding judge_outcome judgement judge_gathered query_verdict tones_verdict accent_in tone_in load_pack read_pack loop_to loop_on reader.record_verdict body_verdict settings_verdict tone_verdict accent_verdict rule_verdict part_verdict due_after size_of holds zero_or_held added parents_held chain_ends chains_end end_verdict above_zero probability_fine knot_fine weight_fine slot_fine knots_fine region_fine tolerances_fine range turns of_bits le lt load_query read_query record_verdict frame_verdict fields_of variant_fine variants_fine range_to turns_to frame_at extent_of gathered listings source_of_pack look_up find_rule climb_turn best_rule index_of components carried component_of knots_at first_points point_at slotted put_in with_tone main_weight targets_of target_of place_of with_target greater judgement_bytes nearest_bytes judgement_of usable shape_of list_of drawn holes_filled hz_to_st width_of st_to_chao log2_of half_width reach curve_at step_of mean_over rounded position whole_part round_up while while_if narrowed score_bytes one_bytes delta_bytes f32s_bytes round neg to_bits add sub mul div eq is_nan of_int lesser united with_issue scoring_of widen_for clamp_log add_to value_of excused point_weight squares_of end_term ends_of distance_of log_of mixed mix_turn calibrate kept offer offer_end offer_turn end_deltas deltas_of root_of exp_of ln_of tone_mixing loglik_at logliks tail_loglik target_tail_loglik with_tail ranked ranking_of heard_of weighed part_mixing target_mixing llr_of plain_of distance_from advice_of nearest_at with_best judged_of float_with_sign log_by parts_of centred series log_horner root_units nearest_root isqrt exp_by rest exp_series exp_horner floor_of frames_at target.variants_good variant_weights_good target.variant_weight_good
+unfolding in_register judge_outcome judgement judge_gathered query_verdict tones_verdict accent_in tone_in load_pack read_pack loop_to loop_on reader.record_verdict body_verdict settings_verdict tone_verdict accent_verdict rule_verdict part_verdict due_after size_of holds zero_or_held added parents_held chain_ends chains_end end_verdict above_zero probability_fine knot_fine weight_fine slot_fine knots_fine region_fine tolerances_fine range turns of_bits le lt load_query read_query record_verdict frame_verdict fields_of variant_fine variants_fine range_to turns_to frame_at extent_of gathered listings source_of_pack look_up find_rule climb_turn best_rule index_of components carried component_of knots_at first_points point_at slotted put_in with_tone main_weight targets_of target_of place_of with_target greater judgement_bytes nearest_bytes judgement_of usable shape_of list_of drawn holes_filled hz_to_st width_of st_to_chao log2_of half_width reach curve_at step_of mean_over rounded position whole_part round_up while while_if narrowed score_bytes one_bytes delta_bytes f32s_bytes round neg to_bits add sub mul div eq is_nan of_int lesser united with_issue scoring_of widen_for clamp_log add_to value_of excused point_weight squares_of end_term ends_of distance_of log_of mixed mix_turn calibrate kept offer offer_end offer_turn end_deltas deltas_of root_of exp_of ln_of tone_mixing loglik_at logliks tail_loglik target_tail_loglik with_tail ranked ranking_of heard_of weighed part_mixing target_mixing llr_of plain_of distance_from advice_of nearest_at with_best judged_of float_with_sign log_by parts_of centred series log_horner root_units nearest_root isqrt exp_by rest exp_series exp_horner floor_of frames_at target.variants_good variant_weights_good target.variant_weight_good
 half_high = refl
 
 -- and 3.75 in the register 1 to 17: one delta, of kind 2, of 0.75
 pub three_quarters_high : judge_outcome one_tone (query 1 one (0 ∷ 0 ∷ 0x88 ∷ 0x41 ∷ []) none ++ frames)
     ≡ written ((0x31 ∷ 1 ∷ 1 ∷ 0x00 ∷ 0x40 ∷ 0x12 ∷ 0xbf ∷ []) ++ (zeros 32
     ++ ((1 ∷ 0x30 ∷ 0xd2 ∷ 0x88 ∷ 0x3f ∷ 1 ∷ 1 ∷ 0 ∷ 0 ∷ 0 ∷ 1 ∷ []) ++ ((1 ∷ 2 ∷ 0 ∷ 0 ∷ 0x40 ∷ 0x3f ∷ []) ++ (zeros 5 ++ (1 ∷ 8 ∷ 0 ∷ []))))))
-unfolding judge_outcome judgement judge_gathered query_verdict tones_verdict accent_in tone_in load_pack read_pack loop_to loop_on reader.record_verdict body_verdict settings_verdict tone_verdict accent_verdict rule_verdict part_verdict due_after size_of holds zero_or_held added parents_held chain_ends chains_end end_verdict above_zero probability_fine knot_fine weight_fine slot_fine knots_fine region_fine tolerances_fine range turns of_bits le lt load_query read_query record_verdict frame_verdict fields_of variant_fine variants_fine range_to turns_to frame_at extent_of gathered listings source_of_pack look_up find_rule climb_turn best_rule index_of components carried component_of knots_at first_points point_at slotted put_in with_tone main_weight targets_of target_of place_of with_target greater judgement_bytes nearest_bytes judgement_of usable shape_of list_of drawn holes_filled hz_to_st width_of st_to_chao log2_of half_width reach curve_at step_of mean_over rounded position whole_part round_up while while_if narrowed score_bytes one_bytes delta_bytes f32s_bytes round neg to_bits add sub mul div eq is_nan of_int lesser united with_issue scoring_of widen_for clamp_log add_to value_of excused point_weight squares_of end_term ends_of distance_of log_of mixed mix_turn calibrate kept offer offer_end offer_turn end_deltas deltas_of root_of exp_of ln_of tone_mixing loglik_at logliks tail_loglik target_tail_loglik with_tail ranked ranking_of heard_of weighed part_mixing target_mixing llr_of plain_of distance_from advice_of nearest_at with_best judged_of float_with_sign log_by parts_of centred series log_horner root_units nearest_root isqrt exp_by rest exp_series exp_horner floor_of frames_at target.variants_good variant_weights_good target.variant_weight_good
+unfolding in_register judge_outcome judgement judge_gathered query_verdict tones_verdict accent_in tone_in load_pack read_pack loop_to loop_on reader.record_verdict body_verdict settings_verdict tone_verdict accent_verdict rule_verdict part_verdict due_after size_of holds zero_or_held added parents_held chain_ends chains_end end_verdict above_zero probability_fine knot_fine weight_fine slot_fine knots_fine region_fine tolerances_fine range turns of_bits le lt load_query read_query record_verdict frame_verdict fields_of variant_fine variants_fine range_to turns_to frame_at extent_of gathered listings source_of_pack look_up find_rule climb_turn best_rule index_of components carried component_of knots_at first_points point_at slotted put_in with_tone main_weight targets_of target_of place_of with_target greater judgement_bytes nearest_bytes judgement_of usable shape_of list_of drawn holes_filled hz_to_st width_of st_to_chao log2_of half_width reach curve_at step_of mean_over rounded position whole_part round_up while while_if narrowed score_bytes one_bytes delta_bytes f32s_bytes round neg to_bits add sub mul div eq is_nan of_int lesser united with_issue scoring_of widen_for clamp_log add_to value_of excused point_weight squares_of end_term ends_of distance_of log_of mixed mix_turn calibrate kept offer offer_end offer_turn end_deltas deltas_of root_of exp_of ln_of tone_mixing loglik_at logliks tail_loglik target_tail_loglik with_tail ranked ranking_of heard_of weighed part_mixing target_mixing llr_of plain_of distance_from advice_of nearest_at with_best judged_of float_with_sign log_by parts_of centred series log_horner root_units nearest_root isqrt exp_by rest exp_series exp_horner floor_of frames_at target.variants_good variant_weights_good target.variant_weight_good
 three_quarters_high = refl
 
 -- ---- "Two tones of equal score, threshold 0.25: the first is heard."
@@ -132,5 +133,5 @@ alike = settings ++ (tone 1 half three ++ (tone 2 half three ++ (accent half ++ 
 pub first_heard : judge_outcome alike (query 2 nought (0 ∷ 0 ∷ 0xc0 ∷ 0x41 ∷ []) none ++ frames)
     ≡ written ((0x31 ∷ 2 ∷ 2 ∷ 0x92 ∷ 0x15 ∷ 0x05 ∷ 0x40 ∷ 0x92 ∷ 0x15 ∷ 0x05 ∷ 0x40 ∷ []) ++ (zeros 28
     ++ ((1 ∷ 0 ∷ 0 ∷ 0 ∷ 0 ∷ 1 ∷ 1 ∷ 0 ∷ 0 ∷ 0 ∷ 1 ∷ []) ++ (zeros 11 ++ (1 ∷ 8 ∷ 0 ∷ [])))))
-unfolding judge_outcome judgement judge_gathered query_verdict tones_verdict accent_in tone_in load_pack read_pack loop_to loop_on reader.record_verdict body_verdict settings_verdict tone_verdict accent_verdict rule_verdict part_verdict due_after size_of holds zero_or_held added parents_held chain_ends chains_end end_verdict above_zero probability_fine knot_fine weight_fine slot_fine knots_fine region_fine tolerances_fine range turns of_bits le lt load_query read_query record_verdict frame_verdict fields_of variant_fine variants_fine range_to turns_to frame_at extent_of gathered listings source_of_pack look_up find_rule climb_turn best_rule index_of components carried component_of knots_at first_points point_at slotted put_in with_tone main_weight targets_of target_of place_of with_target greater judgement_bytes nearest_bytes judgement_of usable shape_of list_of drawn holes_filled hz_to_st width_of st_to_chao log2_of half_width reach curve_at step_of mean_over rounded position whole_part round_up while while_if narrowed score_bytes one_bytes delta_bytes f32s_bytes round neg to_bits add sub mul div eq is_nan of_int lesser united with_issue scoring_of widen_for clamp_log add_to value_of excused point_weight squares_of end_term ends_of distance_of log_of mixed mix_turn calibrate kept offer offer_end offer_turn end_deltas deltas_of root_of exp_of ln_of tone_mixing loglik_at logliks tail_loglik target_tail_loglik with_tail ranked ranking_of heard_of weighed part_mixing target_mixing llr_of plain_of distance_from advice_of nearest_at with_best judged_of float_with_sign log_by parts_of centred series log_horner root_units nearest_root isqrt exp_by rest exp_series exp_horner floor_of frames_at target.variants_good variant_weights_good target.variant_weight_good
+unfolding in_register judge_outcome judgement judge_gathered query_verdict tones_verdict accent_in tone_in load_pack read_pack loop_to loop_on reader.record_verdict body_verdict settings_verdict tone_verdict accent_verdict rule_verdict part_verdict due_after size_of holds zero_or_held added parents_held chain_ends chains_end end_verdict above_zero probability_fine knot_fine weight_fine slot_fine knots_fine region_fine tolerances_fine range turns of_bits le lt load_query read_query record_verdict frame_verdict fields_of variant_fine variants_fine range_to turns_to frame_at extent_of gathered listings source_of_pack look_up find_rule climb_turn best_rule index_of components carried component_of knots_at first_points point_at slotted put_in with_tone main_weight targets_of target_of place_of with_target greater judgement_bytes nearest_bytes judgement_of usable shape_of list_of drawn holes_filled hz_to_st width_of st_to_chao log2_of half_width reach curve_at step_of mean_over rounded position whole_part round_up while while_if narrowed score_bytes one_bytes delta_bytes f32s_bytes round neg to_bits add sub mul div eq is_nan of_int lesser united with_issue scoring_of widen_for clamp_log add_to value_of excused point_weight squares_of end_term ends_of distance_of log_of mixed mix_turn calibrate kept offer offer_end offer_turn end_deltas deltas_of root_of exp_of ln_of tone_mixing loglik_at logliks tail_loglik target_tail_loglik with_tail ranked ranking_of heard_of weighed part_mixing target_mixing llr_of plain_of distance_from advice_of nearest_at with_best judged_of float_with_sign log_by parts_of centred series log_horner root_units nearest_root isqrt exp_by rest exp_series exp_horner floor_of frames_at target.variants_good variant_weights_good target.variant_weight_good
 first_heard = refl

@@ -11,7 +11,7 @@ use Rattle.tonekit_station.proofs.judge_gathered.Goals.{After-voiced_frames-e}
 -- the voiced frames are those of the query
 voiced : (c : After-voiced_frames-e)
     → let a = c.args in
-    c.voiced_frames-e.result ≡ extent_of (frames_of a.query.now a.q.count) a.q.count a.q.start a.q.end
+    c.voiced_frames-e.result ≡ extent_of (frames_of a.query.now a.q) a.q.count a.q.start a.q.end
 voiced c = rw (← c.frames-frames.ensures) c.voiced_frames-e.ensures.is
 
 pub returns-in-Err : goal.returns-in-Err
@@ -38,6 +38,7 @@ pub returns : goal.returns
 returns c =
     delivers_same _ _ _ _ _
     (target_held _ _ _ c.voiced_frames-e.result (voiced (goal.at.returns c).After-voiced_frames-e) _ (sym c.query_verdict.ensures ∙ c.in-Ok.is) _ c.targets_of.ensures.0 c.in-Some.targets c.in-Some.is
+    c.in_register-r.result (rw (← c.frames-frames.ensures) c.in_register-r.ensures)
     c.shape_of-x.result (rw (← c.frames-frames.ensures) c.shape_of-x.ensures) c.united-issues.result c.united-issues.ensures c.judgement_of-j.result c.judgement_of-j.ensures c.judgement_record-record.result
     (c.judgement_record-record.ensures ∙ ap (λ (n : ℕ). judgement_bytes c.args.q.tone n c.judgement_of-j.result) c.len.ensures.value))
     c.write_record.ensures
