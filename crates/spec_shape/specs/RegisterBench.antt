@@ -94,13 +94,13 @@ voiced_alone = refl
 
 -- a query of five frames, its span frames 3 and 4, LowSnr among its issues, floor and ceiling no numbers
 abbrev asked : Bool → Query
-asked cold = record (fields_of []) { start = 3; end = 5; floor = nan; ceil = nan; issues = 1; count = 5; cold = cold }
+asked cold = record (fields_of []) { start = 3; end = 5; floor = nan; ceil = nan; issues = 2; count = 5; cold = cold }
 
 abbrev frames : List ℕ
 frames = low ++ (rest ++ (rest ++ (tone ++ rest)))
 
 -- under kind 55 the register is that of both voiced frames, one of which lies before the span; without it the query is as it was
-registers : (in_register frames (asked true) ≡ record (asked true) { floor = f32 0xbfb3_3333; ceil = f32 0x4156_6666; issues = 17 })
+registers : (in_register frames (asked true) ≡ record (asked true) { floor = f32 0xbfb3_3333; ceil = f32 0x4156_6666; issues = 18 })
     × (in_register frames (asked false) ≡ asked false)
 unfolding fields_of in_register with_issue cold_register p5_p50_p95 percentile ascending insert whole_part at_least_min_span voiced_st range turns frame_at hz_to_st log2_of log_by parts_of centred series log_horner narrowed add sub mul div lt le eq neg is_sign_negative of_bits of_int round
 registers = (refl, refl)
