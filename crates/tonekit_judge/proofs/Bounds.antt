@@ -162,6 +162,9 @@ module _ (x : ToneShape) (settings : Settings) (t : Tolerance) (l : Listings) (g
   abbrev bytes : List ℕ
   bytes = judgement_bytes expected tones (judgement_of x settings t l g issues)
 
+  pub eight_logliks : length (judgement_of x settings t l g issues).loglik ≡ 8
+  eight_logliks = bounds.eight
+
   pub judgement_length : length bytes ≡ JUDGEMENT_SIZE
   judgement_length = record_length expected tones _ bounds.eight
 

@@ -19,11 +19,11 @@ head_bytes expected tones = JUDGEMENT_KIND ∷ expected ∷ tones ∷ []
 abbrev pub tail_bytes : ℕ → ℕ → List ℕ
 tail_bytes measured issues = (measured ∷ []) ++ le16 issues
 
-scores_length : (j : ToneJudgement) → length (score_bytes j) ≡ 15
+pub scores_length : (j : ToneJudgement) → length (score_bytes j) ≡ 15
 unfolding score_bytes nearest_bytes
 scores_length j = refl
 
-deltas_length : (ds : Deltas) → length (delta_bytes ds) ≡ 11
+pub deltas_length : (ds : Deltas) → length (delta_bytes ds) ≡ 11
 unfolding delta_bytes one_bytes
 deltas_length ds = refl
 

@@ -1,10 +1,13 @@
--- What an extent keeps while frames are looked at. Assumes nothing.
-use Rattle.std.proofs.Common.{ℕ, ◌+◌, ◌≤◌, ◌<◌, ◌≡◌, refl, Bool, true, false, cond, List, arith, eqb, eqb-true}
+-- What an extent keeps while frames are looked at, and what one of 3 voiced frames is (`enough_found`). Assumes nothing.
+use Rattle.std.proofs.Common.{ℕ, ◌+◌, ◌-◌, ap, min, leb, leb-true, leb-false, ◌≤◌, ◌<◌, ◌≡◌, refl, Bool, true, false, cond, List, arith, eqb, eqb-true}
 use borrow.Author.Tests.{eqb-false}
 use Rattle.spec_shape.specs.Chao.{voiced}
 use Rattle.spec_shape.specs.declared.Extent.{Extent}
-use Rattle.spec_shape.specs.Extract.{frames_in}
-use Rattle.tonekit_shape.specs.Promises.{extent_turn}
+use Rattle.spec_shape.specs.Extract.{extent_of, frames_in}
+use Rattle.tonekit_core.specs.Loop.{range, turns}
+use Rattle.tonekit_core.proofs.LoopLaws.{range_keeps}
+use Rattle.tonekit_core.proofs.Split.{split}
+use Rattle.tonekit_shape.specs.Promises.{Voiced3, extent_turn}
 
 -- the frames below i are looked at, of count frames
 pub record Found (count i : ℕ) (e : Extent) : Type 0 where
@@ -43,3 +46,29 @@ module _ (count i : ℕ) (e : Extent) (below : i < count) (F : Found count i e) 
 
   pub found_more : (frames : List ℕ) → Found count (i + 1) (extent_turn frames i e)
   found_more frames = of_voiced (voiced frames i)
+
+-- an extent of 3 voiced frames or more, of any span of a query, has a shape
+module _ (frames : List ℕ) (count start end : ℕ) where
+  abbrev extent : Extent
+  extent = extent_of frames count start end
+
+  none_of : min end count ≤ start → extent ≡ record { count = 0; first = 0; last = 0 }
+  unfolding extent_of range turns
+  none_of h = let e : min end count - start ≡ 0 = omega arith in rw e
+
+  found_in : start ≤ min end count → Found count (min end count) extent
+  unfolding extent_of
+  found_in h =
+      range_keeps (extent_turn frames) (Found count) start (min end count) _ h
+      (λ i e l f. found_more count i e (omega arith) f frames) (found_none count start)
+
+  pub enough_found : count ≤ 1024 → 3 ≤ extent.count → Voiced3 extent
+  enough_found most three =
+      split (leb start (min end count))
+      (λ t.
+      let f = found_in (leb-true start (min end count) t) in
+      let i = f.inside (omega arith) in
+      record { enough = three; ordered = f.ordered; counted = f.counted; inside = omega (arith, i.1) })
+      (λ t.
+      let n = ap (λ (e : Extent). e.count) (none_of (let k = leb-false start (min end count) t in omega arith)) in
+      absurd (omega (arith, three, n)))

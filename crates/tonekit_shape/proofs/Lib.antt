@@ -2,7 +2,7 @@ mod Turns
 mod Fill
 mod Gap
 mod Smooth
-mod Found
+pub mod Found
 mod Built
 mod Parts
 pub mod Outcomes
