@@ -39,7 +39,7 @@ held f s (suc m) e h =
       small = ltb→lt (suc m * up e) (2 ^ suc (emax f) * down e) (and_r (A && B && C) D h);
     }
 
-room : (p j l e : ℕ) → p ≤ e → j ≤ l → p + j ≤ l + e
+pub room : (p j l e : ℕ) → p ≤ e → j ≤ l → p + j ≤ l + e
 room p j l e h k = omega arith
 
 -- ---- a value that fits is its own rounding
@@ -132,7 +132,7 @@ zero_fits : (f : Format) → T (fits f zero_f)
 unfolding fits
 zero_fits f = tt
 
-sub_rounds : (f : Format) (x y : Float) → T (finite x) → T (finite y)
+pub sub_rounds : (f : Format) (x y : Float) → T (finite x) → T (finite y)
     → Rounds f (sub f x y) (pos_part x * den y + neg_part y * den x) (neg_part x * den y + pos_part y * den x) (den x * den y)
 unfolding sub
 sub_rounds f x y p q =

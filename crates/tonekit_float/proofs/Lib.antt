@@ -5,6 +5,7 @@ pub mod Monotone
 pub mod Bounds
 pub mod Units
 pub mod Exact
+pub mod Grid
 pub mod Size
 pub mod Picked
 pub mod Whole

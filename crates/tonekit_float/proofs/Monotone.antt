@@ -56,6 +56,10 @@ pub data Rounds (f : Format) (x : Float) (p n d : ℕ) : Type 0 where
   above : n ≤ p → x ≡ round f false (p - n) d → Rounds f x p n d
   under : p ≤ n → x ≡ round f true (n - p) d → Rounds f x p n d
 
+pub rounds_neg : (f : Format) (x : Float) (p n d : ℕ) → Rounds f x p n d → Rounds f (neg x) n p d
+rounds_neg f x p n d (above h e) = under h (ap neg e ∙ round_neg f false (p - n) d)
+rounds_neg f x p n d (under h e) = above h (ap neg e ∙ round_neg f true (n - p) d)
+
 pub sub_times : (a b c : ℕ) → (a - b) * c ≡ a * c - b * c
 sub_times a b c = mul_comm (a - b) c ∙ mul-sub c a b ∙ ap (λ (z : ℕ). z - c * b) (mul_comm c a) ∙ ap (λ (z : ℕ). a * c - z) (mul_comm c b)
 

@@ -7,7 +7,7 @@ use lib.Ieee.Bits.{nan_bits_above}
 use lib.Ieee.Exact.{HasValue}
 use lib.Ieee.Scale.{round_same}
 use Rattle.spec_arithmetic.specs.Narrow.{narrowed}
-use Rattle.tonekit_float.proofs.Order.{yes, no}
+use Rattle.tonekit_float.proofs.Order.{yes, no, neg_neg}
 use Rattle.tonekit_float.proofs.Monotone.{zero_f, round_neg}
 use Rattle.tonekit_float.proofs.Units.{units_of, units_value, zero_exp, to_bits_is}
 use Rattle.tonekit_float.proofs.NarrowRound.{L, cut, limit, field_is, power_value, same, beyond}
@@ -129,6 +129,9 @@ unfolding neg narrowed
 negated nan = refl
 negated (inf s) = ap inf (twice_not s)
 negated (fin s m e) = round_neg binary32 (not s) (m * up e) (down e) ∙ ap (λ (t : Bool). round binary32 t (m * up e) (down e)) (twice_not s)
+
+pub narrow_neg : (x : Float) → narrowed (neg x) ≡ neg (narrowed x)
+narrow_neg x = sym (neg_neg (narrowed (neg x))) ∙ ap neg (negated x)
 
 pub turned : (x : Float) → lt x (of_bits binary64 0) ≡ true → T (lt zero_f (neg x))
 unfolding lt neg of_bits

@@ -93,7 +93,7 @@ under→le (fin true m e) (fin false n d) p q h = go (ltb 0 (a + b)) (nltb→le 
 under→le (fin true m e) (fin true n d) p q h = ge_either (m * up e * down d) (n * up d * down e) (let k = h in omega arith)
 
 -- ---- fractions
-cross_trans : (p n d q o c r u b : ℕ) → 0 < c → Cross p n d q o c → Cross q o c r u b → Cross p n d r u b
+pub cross_trans : (p n d q o c r u b : ℕ) → 0 < c → Cross p n d q o c → Cross q o c r u b → Cross p n d r u b
 cross_trans p n d q o c r u b C h k =
     let x = simp (add-mul, mul_assoc, mul_comm, mul_left_comm) at (mul-le-mul_right b h) in
     let y = simp (add-mul, mul_assoc, mul_comm, mul_left_comm) at (mul-le-mul_right d k) in
@@ -165,6 +165,14 @@ unfolding neg
 neg_finite nan p = p
 neg_finite (inf s) p = p
 neg_finite (fin s m e) p = tt
+
+pub neg_neg : (x : Float) → neg (neg x) ≡ x
+unfolding neg
+neg_neg nan = refl
+neg_neg (inf true) = refl
+neg_neg (inf false) = refl
+neg_neg (fin true m e) = refl
+neg_neg (fin false m e) = refl
 
 pub record Flipped (x : Float) : Type 0 where
   pub up : pos_part (neg x) ≡ neg_part x
