@@ -1,0 +1,5 @@
+mod OnePass
+mod Gap
+mod Ranges
+mod Turns
+pub mod Laws
