@@ -2,3 +2,4 @@ mod Literals
 mod Pairs
 mod Turns
 mod Powers
+pub mod Semitone

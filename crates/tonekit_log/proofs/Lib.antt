@@ -2,6 +2,7 @@ mod PartsOf
 mod LogCases
 mod Powers
 mod LogRange
+pub mod Log2Range
 mod Floor
 mod Turns
 mod ExpCases

@@ -327,7 +327,7 @@ centred_in m e hm he = go (lt ROOT2 m) refl
       e_in = in_wider kept.1 he;
     }
 
-parts_in : (n : ℕ) → 0 < n → n < 2 ^ 2098 → Centred (centred (parts_of n))
+pub parts_in : (n : ℕ) → 0 < n → n < 2 ^ 2098 → Centred (centred (parts_of n))
 unfolding parts_of
 parts_in n p h = centred_in (round binary64 false n (2 ^ (size n - 1))) (of_int binary64 (minus (size n) 1075)) (mantissa_in n p) (exponent_in (size n) (size_gt n 0 p) (size-le n 2098 h))
 
