@@ -1,3 +1,4 @@
 pub mod Places
 pub mod Plain
 mod Turns
+pub mod Lists

@@ -1,5 +1,6 @@
 -- Laws on the loops of specs/Loop: by which a proof follows one (`again`, `ended`, `to_again`, ..), what every turn of a `range` keeps
--- holds at its end, loops whose turns give the same give the same, and a `while` with a limit on its turns ends by its own test. Assumes nothing.
+-- holds at its end, loops whose turns give the same give the same, and a `while` with a limit on its turns ends by its own test (`while_ends`), with
+-- what so many turns keep (`while_keeps`). Assumes nothing.
 use Rattle.std.proofs.Common.{ℕ, zero, suc, ◌+◌, ◌-◌, ◌≤◌, ◌<◌, ◌≡◌, refl, sym, ◌∙◌, ap, subst, Bool, true, false, List, length, drop, get_or, drop_of_length-le, drop-cons, arith, add-one, sub-one}
 use Rattle.tonekit_core.specs.Loop.{Turn, next, stop, range, turns, fold, range_to, turns_to, while, while_if, loop_on, loop_to}
 
@@ -134,3 +135,19 @@ module _ {S : Type 0} (test : S → Bool) (f : S → S) (Left : ℕ → S → Ty
   pub while_ends : (n : ℕ) (s : S) → Left n s → test (while test f n s) ≡ false
   unfolding while
   while_ends n s h = on n (test s) s refl h
+
+-- P k s holds after k turns, of which there are at most hi
+module _ {S : Type 0} (test : S → Bool) (f : S → S) (P : ℕ → S → Type 0) (hi : ℕ) (step : (k : ℕ) (s : S) → k < hi → P k s → P (k + 1) (f s)) where
+  -- after at most hi turns
+  abbrev pub Turned : S → Type 0
+  Turned s = (k : ℕ) × (k ≤ hi) × P k s
+
+  keeps_on : (n k : ℕ) (b : Bool) (s : S) → k + n ≤ hi → P k s → Turned (while_if test f n b s)
+  unfolding while_if
+  keeps_on zero k b s h p = (k, omega arith, p)
+  keeps_on (suc n) k false s h p = (k, omega arith, p)
+  keeps_on (suc n) k true s h p = keeps_on n (k + 1) (test (f s)) (f s) (omega arith) (step k s (omega arith) p)
+
+  pub while_keeps : (s : S) → P 0 s → Turned (while test f hi s)
+  unfolding while
+  while_keeps s p = keeps_on hi 0 (test s) s (omega arith) p

@@ -1,14 +1,14 @@
 -- The semitones of a frame lie from -2,000 to 2,000, in f64 and narrowed to f32: of an f32 above 0, the quotient by 55 lies between 2 ^ -155 and 2 ^ 155.
 -- Assumes nothing.
-use Rattle.std.proofs.Common.{eqb, ◌≡◌, ℕ, suc, ◌+◌, ◌*◌, ◌^◌, ◌<◌, ◌≤◌, true, false, T, ℤ, pos, negsuc, sym, ap, subst, mul-le-mul_right, mul-pos, zero-lt-suc, arith, lit≤, Float}
-use lib.Ieee.{inf, fin, binary32, binary64, neg, up, down, lt, le, eq, div, of_int, fits}
+use Rattle.std.proofs.Common.{eqb, ◌≡◌, ℕ, suc, ◌+◌, ◌*◌, ◌^◌, ◌<◌, ◌≤◌, true, false, T, ℤ, pos, negsuc, sym, ap, refl, subst, mul-le-mul_right, mul-pos, zero-lt-suc, arith, lit≤, Float}
+use Rattle.std.proofs.lemmas.Option.{cond_some}
+use Rattle.std.specs.Prelude.{List, Option, Some, None}
+use lib.Ieee.{inf, fin, binary32, binary64, neg, up, down, lt, le, eq, div, of_int, of_bits, fits}
 use lib.Ieee.Fits.{and_l, and_r, up_pos, div-fits}
 use lib.Ieee.Bits.{of_bits-fits, is_true}
-use Rattle.std.proofs.lemmas.Option.{cond_some}
 use Rattle.spec_arithmetic.specs.Fields.{byte_at, u32_at, f32_at}
-use Rattle.std.specs.Prelude.{List, Some}
 use Rattle.spec_arithmetic.specs.Bounds.{In}
-use Rattle.spec_arithmetic.specs.Constants.{whole64}
+use Rattle.spec_arithmetic.specs.Constants.{zero64, whole64}
 use Rattle.spec_arithmetic.specs.Narrow.{narrowed}
 use Rattle.spec_query.specs.Frames.{pitch, frame_at}
 use Rattle.spec_query.specs.declared.Voiced.{Voiced}
@@ -20,6 +20,7 @@ use Rattle.tonekit_float.proofs.Exact.{held}
 use Rattle.tonekit_float.proofs.Signs as signs
 use Rattle.tonekit_float.proofs.Size.{within_lit, within_more, within_mul, within_narrow, within_in}
 use Rattle.tonekit_log.proofs.Log2Range.{Between, log2_near}
+use Rattle.tonekit_fit.specs.Steps.{semitones_of}
 
 -- ---- an f32 above 0
 number_in : (m : ℕ) (e : ℤ) → T (fits binary32 (fin false (suc m) e)) → In (fin false 1 (negsuc 148)) (fin false 1 (pos 128)) (fin false (suc m) e)
@@ -93,3 +94,15 @@ frame_within frames i v e = let p = frame_pitched frames i v e in semitone_withi
 
 pub frame_semitone : (frames : List ℕ) (i : ℕ) (v : Voiced) → frame_at frames i ≡ Some v → Semitone (hz_to_st v.hz) × Semitone (narrowed (hz_to_st v.hz))
 frame_semitone frames i v e = let p = frame_pitched frames i v e in (semitone_in v.hz p.above p.is_f32, narrow_semitone_in v.hz p.above p.is_f32)
+
+-- 0 where it is unvoiced
+zero_within : Within 2000 zero64
+unfolding of_bits
+zero_within = within_lit 2000 zero64 tt
+
+pub semitones_within : (frames : List ℕ) (i : ℕ) → Within 2000 (semitones_of (frame_at frames i))
+semitones_within frames i = go (frame_at frames i) refl
+  where
+    go : (v : Option Voiced) → frame_at frames i ≡ v → Within 2000 (semitones_of v)
+    go (Some v) e = frame_within frames i v e
+    go None e = zero_within

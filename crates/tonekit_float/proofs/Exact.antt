@@ -1,15 +1,15 @@
 -- Where rounding changes nothing: a value that fits its format is its own rounding, whole numbers up to 2 ^ prec add and subtract exactly, and so does
 -- x - y for y ≤ x ≤ 2 y.
-use Rattle.std.proofs.Common.{◌≡◌, ℕ, zero, suc, ◌+◌, ◌-◌, ◌*◌, ◌%◌, ◌^◌, ◌<◌, ◌≤◌, Bool, true, false, not, ◌&&◌, T, eqb, ltb, leb, ℤ, pos, negsuc, sym, refl, ap, ◌∙◌, subst, true≢false, le_trans, le_of_eq, lt_of_lt_of_le, lt_of_le_of_lt, le_of_lt, lt_irrefl, mul-le-mul_right, zero-lt-suc, mul_assoc, mul_comm, add-mul, lt_of_mul-lt-mul_right, mul-lt-mul_of_pos_right, mul-pos, one-mul, mul-zero, zero-add, zero-mul, mul-one, mul_right_comm, le_of_mul-le-mul_right, mul_left_comm, sub-le, arith, ltb→lt, lt→ltb, leb→le, pow_pos, pow_mono, pow-add, shl_lt, Float}
+use Rattle.std.proofs.Common.{◌≡◌, ℕ, zero, suc, ◌+◌, ◌-◌, ◌*◌, ◌%◌, ◌^◌, ◌<◌, ◌≤◌, Bool, true, false, not, ◌&&◌, T, eqb, ltb, leb, ⊎_elim, ℤ, pos, negsuc, sym, refl, ap, ◌∙◌, subst, true≢false, le_trans, le_of_eq, lt_of_lt_of_le, lt_of_le_of_lt, le_of_lt, lt_irrefl, mul-le-mul_right, zero-lt-suc, mul_assoc, mul_comm, add-mul, lt_of_mul-lt-mul_right, mul-lt-mul_of_pos_right, mul-pos, one-mul, mul-zero, zero-add, zero-mul, mul-one, mul_right_comm, le_of_mul-le-mul_right, mul_left_comm, sub-le, arith, ltb→lt, lt→ltb, leb→le, pow_pos, pow_mono, pow-add, shl_lt, Float}
 use lib.Dec.{nleb→lt}
-use lib.Ieee.{nan, inf, fin, Format, prec, emax, low, unlike, up, down, round, neg, add, sub, mul, le, of_int, fits}
+use lib.Ieee.{nan, inf, fin, Format, prec, emax, low, unlike, up, down, round, neg, add, sub, mul, lt, le, of_int, fits}
 use lib.Ieee.Fits.{down_pos, and_l, and_r, reach, round-fits}
 use lib.Ieee.Exact.{HasValue, round_exact}
 use lib.Ieee.Back.{round_whole}
 use lib.Ieee.Positive.{den, den_pos, positive, first_pos}
 use lib.Ieee.Scale.{finite}
 use Rattle.tonekit_float.proofs.Units.{pow_le_back, meet, down_le, unique, add_at, sub_at}
-use Rattle.tonekit_float.proofs.Order.{Cross, le→under, flipped, neg_finite, le_trans_float}
+use Rattle.tonekit_float.proofs.Order.{Cross, cross_total, le→under, flipped, neg_finite, le_trans_float, le→not-lt}
 use Rattle.tonekit_float.proofs.Monotone.{Rounds, above, under, rounds_le, whole_rounds, add_rounds, mul_rounds, mul_le_left, zero_f, no_minus, sub_times}
 use Rattle.tonekit_float.proofs.Bounds.{in_finite}
 use Rattle.spec_arithmetic.specs.Bounds.{In}
@@ -141,6 +141,21 @@ sub_rounds f x y p q =
     (subst (λ (k : ℕ). Rounds f (add f x (neg y)) (pos_part x * den y + pos_part (neg y) * den x) (neg_part x * den y + k * den x) (den x * den y)) F.below
     (subst (λ (k : ℕ). Rounds f (add f x (neg y)) (pos_part x * k + pos_part (neg y) * den x) (neg_part x * k + neg_part (neg y) * den x) (den x * k)) F.over
     (add_rounds f x (neg y) p (neg_finite y q))))
+
+-- a difference that rounds to more than lo in one format rounds to no less than lo in any other that has lo
+rounds_past : (f g : Format) (x y lo hi : Float) (p n d : ℕ) → 0 < d → T (finite lo && finite hi) → T (fits f lo && fits g lo) → T (lt lo hi)
+    → Rounds f x p n d → Rounds g y p n d → T (le hi x) → T (le lo y)
+rounds_past f g x y lo hi p n d D t F k r s h =
+    let L = and_l (finite lo) (finite hi) t in
+    let H = and_r (finite lo) (finite hi) t in
+    ⊎_elim
+    (λ c. absurd (subst T (le→not-lt lo hi L H (le_trans_float hi x lo h (rounds_under f x lo p n d D (and_l (fits f lo) (fits g lo) F) L r c))) k))
+    (λ c. rounds_over g y lo p n d D (and_r (fits f lo) (fits g lo) F) L s c)
+    (cross_total p n d (pos_part lo) (neg_part lo) (den lo))
+
+pub sub_past : (f g : Format) (x y lo hi : Float) → T (finite x) → T (finite y) → T (finite lo && finite hi) → T (fits f lo && fits g lo) → T (lt lo hi) → T (le hi (sub f x y)) → T (le lo (sub g x y))
+sub_past f g x y lo hi p q t F k h =
+    rounds_past f g (sub f x y) (sub g x y) lo hi _ _ _ (mul-pos (den_pos x) (den_pos y)) t F k (sub_rounds f x y p q) (sub_rounds g x y p q) h
 
 -- y ≤ x gives 0 ≤ x - y; 0 ≤ y gives x - y ≤ x
 pub sub_nonneg : (f : Format) (x y : Float) → T (finite x) → T (finite y) → T (le y x) → T (le zero_f (sub f x y))

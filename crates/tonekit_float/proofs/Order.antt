@@ -100,7 +100,7 @@ cross_trans p n d q o c r u b C h k =
     let z : (p * b + u * d) * c ≤ (r * d + n * b) * c = simp (add-mul, mul_assoc, mul_comm, mul_left_comm) (omega (arith, x, y)) in
     le_of_mul-le-mul_right z C
 
-cross_total : (p n d q o c : ℕ) → Cross p n d q o c ⊎ Cross q o c p n d
+pub cross_total : (p n d q o c : ℕ) → Cross p n d q o c ⊎ Cross q o c p n d
 cross_total p n d q o c = go (leb (p * c + o * d) (q * d + n * c)) (leb→le (p * c + o * d) (q * d + n * c)) (nleb→lt (p * c + o * d) (q * d + n * c))
   where
     go : (x : Bool) → (T x → Cross p n d q o c) → (T (not x) → q * d + n * c < p * c + o * d) → Cross p n d q o c ⊎ Cross q o c p n d

@@ -1,7 +1,7 @@
 -- Sizes by whole numbers: `Within n x` says that x is finite and of size at most n. Up to 2 ^ prec such bounds add and multiply with no loss to
 -- rounding, since whole numbers are exact and rounding keeps the order. So a loop's bound is a number that grows with its turns.
-use Rattle.std.proofs.Common.{◌≡◌, ℕ, ◌+◌, ◌-◌, ◌*◌, ◌^◌, ◌<◌, ◌≤◌, true, false, ◌&&◌, T, leb, sym, ap, ◌∙◌, subst, zero-le, le_trans, le_of_eq, lt_of_lt_of_le, mul-le-mul_right, zero-lt-suc, mul_assoc, mul_comm, add-mul, mul-le-mul, mul-le-mul_left, mul-pos, one-mul, zero-mul, mul-one, mul-add, mul_right_comm, le_of_mul-le-mul_right, mul_left_comm, arith, leb→le, Float}
-use lib.Ieee.{nan, inf, fin, Format, binary32, prec, up, down, round, neg, add, sub, mul, div, le, of_int}
+use Rattle.std.proofs.Common.{◌≡◌, ℕ, ◌+◌, ◌-◌, ◌*◌, ◌^◌, ◌<◌, ◌≤◌, true, false, ◌&&◌, T, leb, pos, sym, ap, ◌∙◌, subst, zero-le, le_trans, le_of_eq, lt_of_lt_of_le, mul-le-mul_right, zero-lt-suc, mul_assoc, mul_comm, add-mul, mul-le-mul, mul-le-mul_left, mul-pos, one-mul, zero-mul, mul-one, mul-add, mul_right_comm, le_of_mul-le-mul_right, mul_left_comm, arith, leb→le, Float}
+use lib.Ieee.{nan, inf, fin, Format, binary32, prec, up, down, round, neg, add, sub, mul, div, le, of_int, fits}
 use lib.Ieee.Fits.{and_l, and_r}
 use lib.Ieee.Order.{round_mono}
 use lib.Ieee.Positive.{den, den_pos, positive, positive-finite}
@@ -11,7 +11,7 @@ use Rattle.spec_arithmetic.specs.Bounds.{In}
 use Rattle.tonekit_float.proofs.Fraction.{pos_part, neg_part, Within}
 use Rattle.tonekit_float.proofs.Order.{le→under, under→le, between_finite, flipped, neg_finite, le_trans_float}
 use Rattle.tonekit_float.proofs.Monotone.{Rounds, above, under, round_neg, zero_is, zero_f, no_minus, plus_pos, add_rounds, mul_rounds, div_rounds, narrow_rounds}
-use Rattle.tonekit_float.proofs.Exact.{whole, whole_worth, plus→positive}
+use Rattle.tonekit_float.proofs.Exact.{whole, whole_worth, plus→positive, rounds_under, rounds_over}
 use Rattle.tonekit_core.proofs.LoopLaws.{range_keeps}
 use Rattle.tonekit_core.specs.Loop.{range}
 
@@ -108,24 +108,56 @@ reaches c p d q w D h k =
 positive_up : (c : ℕ) (y : Float) → T (finite y) → den y ≤ c * pos_part y → T (positive y)
 positive_up c y p h = plus→positive y c p (lt_of_lt_of_le (den_pos y) (le_trans h (le_of_eq (mul_comm c (pos_part y)))))
 
+positive_nonneg : (z : Float) → T (positive z) → T (le zero_f z)
+positive_nonneg nan p = absurd p
+positive_nonneg (inf s) p = absurd p
+positive_nonneg (fin true m e) p = absurd p
+positive_nonneg (fin false m e) p = under→le zero_f (fin false m e) tt tt (omega arith)
+
+-- a y that is at least z, and z at least 1 / c
+module _ (c : ℕ) (z y : Float) (t : T (positive z && leb (den z) (c * pos_part z))) (p : T (finite y)) (h : T (le z y)) where
+  divisor_small : den y ≤ c * pos_part y
+  divisor_small =
+      let Z = positive-finite z (and_l (positive z) (leb (den z) (c * pos_part z)) t) in
+      let z0 = positive_nonneg z (and_l (positive z) (leb (den z) (c * pos_part z)) t) in
+      let u = le→under z y Z p h in
+      let m : neg_part y * den z ≡ 0 = ap (λ (i : ℕ). i * den z) (no_minus y p (le_trans_float zero_f z y z0 h)) ∙ zero-mul (den z) in
+      let n : neg_part z * den y ≡ 0 = ap (λ (i : ℕ). i * den y) (no_minus z Z z0) ∙ zero-mul (den y) in
+      reaches c (pos_part z) (den z) (pos_part y) (den y) (den_pos z) (leb→le (den z) (c * pos_part z) (and_r (positive z) (leb (den z) (c * pos_part z)) t)) (omega arith)
+
+  -- a fraction whose size is at most a c, of which the quotient is the rounding
+  record Divided (f : Format) (a : ℕ) (x : Float) : Type 0 where
+    pub over : 0 < pos_part y * den x
+    pub rounds : Rounds f (div f x y) (pos_part x * den y) (neg_part x * den y) (pos_part y * den x)
+    pub up : pos_part x * den y ≤ a * c * (pos_part y * den x)
+    pub down : neg_part x * den y ≤ a * c * (pos_part y * den x)
+
+  divided : (f : Format) {a : ℕ} {x : Float} → Within a x → Divided f a x
+  divided f {a} {x} v =
+      let r = divisor_small in
+      let q = positive_up c y p r in
+      record {
+        over = mul-pos (plus_pos y q) (den_pos x);
+        rounds = div_rounds f x y v.real q;
+        up = quotient_small (pos_part x) (pos_part y) (den x) (den y) a c (part_l (pos_part x) (neg_part x) (a * den x) v.small) r;
+        down = quotient_small (neg_part x) (pos_part y) (den x) (den y) a c (part_r (pos_part x) (neg_part x) (a * den x) v.small) r;
+      }
+
 pub within_div : (f : Format) (c : ℕ) (z : Float) {a : ℕ} {x : Float} (y : Float) → T (positive z && leb (den z) (c * pos_part z)) → a * c ≤ 2 ^ prec f → Within a x → T (finite y) → T (le z y) → Within (a * c) (div f x y)
-within_div f c z {a} {x} y t k v p h =
-    let Z = positive-finite z (and_l (positive z) (leb (den z) (c * pos_part z)) t) in
-    let z0 = positive_nonneg z (and_l (positive z) (leb (den z) (c * pos_part z)) t) in
-    let u = le→under z y Z p h in
-    let m : neg_part y * den z ≡ 0 = ap (λ (i : ℕ). i * den z) (no_minus y p (le_trans_float zero_f z y z0 h)) ∙ zero-mul (den z) in
-    let n : neg_part z * den y ≡ 0 = ap (λ (i : ℕ). i * den y) (no_minus z Z z0) ∙ zero-mul (den y) in
-    let r : den y ≤ c * pos_part y = reaches c (pos_part z) (den z) (pos_part y) (den y) (den_pos z) (leb→le (den z) (c * pos_part z) (and_r (positive z) (leb (den z) (c * pos_part z)) t)) (omega arith) in
-    let q = positive_up c y p r in
-    rounds_within f (div f x y) _ _ _ (a * c) (mul-pos (plus_pos y q) (den_pos x)) k (div_rounds f x y v.real q)
-    (quotient_small (pos_part x) (pos_part y) (den x) (den y) a c (part_l (pos_part x) (neg_part x) (a * den x) v.small) r)
-    (quotient_small (neg_part x) (pos_part y) (den x) (den y) a c (part_r (pos_part x) (neg_part x) (a * den x) v.small) r)
-  where
-    positive_nonneg : (z : Float) → T (positive z) → T (le zero_f z)
-    positive_nonneg nan p = absurd p
-    positive_nonneg (inf s) p = absurd p
-    positive_nonneg (fin true m e) p = absurd p
-    positive_nonneg (fin false m e) p = under→le zero_f (fin false m e) tt tt (omega arith)
+within_div f c z {a} {x} y t k v p h = let d = divided c z y t p h f v in rounds_within f (div f x y) _ _ _ (a * c) d.over k d.rounds d.up d.down
+
+-- past 2 ^ prec: by a power of two
+pub in_div_power : (f : Format) (c k : ℕ) (z : Float) {a : ℕ} {x : Float} (y : Float) → T (positive z && leb (den z) (c * pos_part z)) → T (fits f (fin true 1 (pos k)) && fits f (fin false 1 (pos k))) → a * c ≤ 2 ^ k
+    → Within a x → T (finite y) → T (le z y) → In (fin true 1 (pos k)) (fin false 1 (pos k)) (div f x y)
+in_div_power f c k z {a} {x} y t F l v p h =
+    let d = divided c z y t p h f v in
+    let m = mul-le-mul_right (pos_part y * den x) l in
+    let u = d.up in
+    let n = d.down in
+    record {
+      low = rounds_over f (div f x y) (fin true 1 (pos k)) _ _ _ d.over (and_l (fits f (fin true 1 (pos k))) (fits f (fin false 1 (pos k))) F) tt d.rounds (omega arith);
+      high = rounds_under f (div f x y) (fin false 1 (pos k)) _ _ _ d.over (and_r (fits f (fin true 1 (pos k))) (fits f (fin false 1 (pos k))) F) tt d.rounds (omega arith);
+    }
 
 pub within_narrow : {a : ℕ} {x : Float} → a ≤ 2 ^ 24 → Within a x → Within a (narrowed x)
 within_narrow {a} {x} k v =

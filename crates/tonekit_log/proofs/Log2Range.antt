@@ -8,15 +8,15 @@ use lib.Ieee.Digits.{size-le}
 use lib.Ieee.Fits.{down_pos}
 use lib.Ieee.Positive.{positive}
 use Rattle.spec_arithmetic.specs.Bounds.{In}
+use Rattle.spec_arithmetic.specs.declared.Parts.{Parts}
+use Rattle.spec_arithmetic.specs.Constants.{LOG2E, half, one64}
+use Rattle.spec_arithmetic.specs.Log.{series, parts_of, centred, log2_of}
 use Rattle.tonekit_float.proofs.Fraction.{Within}
 use Rattle.tonekit_float.proofs.Units.{units_value, size_gt}
 use Rattle.tonekit_float.proofs.Order.{le→under}
 use Rattle.tonekit_float.proofs.Bounds.{in_finite}
 use Rattle.tonekit_float.proofs.Size.{within_lit, within_whole, within_more, within_neg, within_add, within_mul, in_within}
 use Rattle.tonekit_float.proofs.Patterns.{units_in, units_pos, units_lt}
-use Rattle.spec_arithmetic.specs.declared.Parts.{Parts}
-use Rattle.spec_arithmetic.specs.Constants.{LOG2E, half, one64}
-use Rattle.spec_arithmetic.specs.Log.{series, parts_of, centred, log2_of}
 use Rattle.tonekit_log.proofs.Powers.{minus_is, from_above}
 use Rattle.tonekit_log.proofs.LogCases.{log2_is, log2_at, number_is}
 use Rattle.tonekit_log.proofs.LogRange.{ROOT2, Centred, parts_in, series_in}
@@ -25,9 +25,6 @@ use Rattle.tonekit_log.proofs.LogRange.{ROOT2, Centred, parts_in, series_in}
 exponent_within : (k z : ℕ) → k ≤ 1074 → 1075 ≤ z + k → z ≤ k + 1075 → Within k (of_int binary64 (minus z 1075))
 exponent_within k z K lo hi = go (leb 1075 z) (nleb→lt 1075 z)
   where
-    exact : k ≤ 2 ^ 53
-    exact = omega arith
-
     go : (t : Bool) → (T (not t) → z < 1075) → Within k (of_int binary64 (cond t (pos (z - 1075)) (negsuc (1075 - suc z))))
     go true g = within_more {m = z - 1075} (omega arith) (within_whole binary64 (z - 1075) (omega arith))
     go false g =

@@ -5,6 +5,7 @@ use Rattle.std.proofs.lemmas.List.{map-append}
 use Rattle.std.proofs.Math.Seq.{take-suc}
 use lib.Ieee.{nan}
 use Rattle.spec_shape.specs.Extract.{list_of}
+use Rattle.tonekit_contour.proofs.Lists.{listed_length}
 
 -- one more place written
 set_front : (p l : List Float) (k : ℕ) (v : Float) → length p ≡ k → k < length l → set (p ++ drop k l) k v ≡ (p ++ (v ∷ [])) ++ drop (k + 1) l
@@ -15,11 +16,6 @@ set_front p l k v e h =
     ∙ ap (λ (n : ℕ). (p ++ (v ∷ [])) ++ drop n l) (sym (add-one k))
 
 module _ (f : ℕ → Float) where
-  pub listed_length : (n : ℕ) → length (list_of f n) ≡ n
-  unfolding list_of
-  listed_length zero = refl
-  listed_length (suc n) = length-append (list_of f n) (f n ∷ []) ∙ omega (arith, listed_length n)
-
   -- the places below k hold f, the others what l holds
   abbrev pub Listed : List Float → ℕ → List Float → Type 0
   Listed l k out = out ≡ list_of f k ++ drop k l
@@ -32,7 +28,7 @@ module _ (f : ℕ → Float) where
   unfolding list_of
   listed_more l out k v h e g =
       ap (λ (t : List Float). set t k v) e
-      ∙ set_front (list_of f k) l k v (listed_length k) h
+      ∙ set_front (list_of f k) l k v (listed_length f k) h
       ∙ ap (λ (x : Float). (list_of f k ++ (x ∷ [])) ++ drop (k + 1) l) g
       ∙ ap (λ (n : ℕ). list_of f n ++ drop (k + 1) l) (sym (add-one k))
 
@@ -44,7 +40,7 @@ module _ (f : ℕ → Float) where
   pub listed_rest : (l out : List Float) (k m : ℕ) → k ≤ m → Listed l k out → get_or out m nan ≡ get_or l m nan
   listed_rest l out k m h e =
       let i = m - k in
-      let a : m ≡ length (list_of f k) + i = omega (arith, listed_length k) in
+      let a : m ≡ length (list_of f k) + i = omega (arith, listed_length f k) in
       let b : k + i ≡ m = omega arith in
       ap (λ (t : List Float). get_or t m nan) e
       ∙ ap (λ (n : ℕ). get_or (list_of f k ++ drop k l) n nan) a
@@ -53,7 +49,7 @@ module _ (f : ℕ → Float) where
       ∙ ap (λ (n : ℕ). get_or l n nan) b
 
   pub listed_same : (l out : List Float) (k : ℕ) → k ≤ length l → Listed l k out → length out ≡ length l
-  listed_same l out k h e = ap length e ∙ length-append (list_of f k) (drop k l) ∙ omega (arith, listed_length k, length-drop k l)
+  listed_same l out k h e = ap length e ∙ length-append (list_of f k) (drop k l) ∙ omega (arith, listed_length f k, length-drop k l)
 
 -- a list that is written from itself, each place by f, is mapped
 module _ (f : Float → Float) (l : List Float) where
