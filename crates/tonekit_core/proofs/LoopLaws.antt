@@ -21,6 +21,20 @@ module _ {S : Type 0} (f : ℕ → S → S) where
   pub ended : {i hi : ℕ} {s z : S} → range f i hi s ≡ z → hi ≤ i → s ≡ z
   ended {i} {hi} {s} {z} r h = sym (range_done i hi s h) ∙ r
 
+  last_turn : (k i : ℕ) (s : S) → turns f (suc k) i s ≡ f (i + k) (turns f k i s)
+  unfolding turns
+  last_turn zero i s = let e : i + 0 ≡ i = omega arith in rw e
+  last_turn (suc k) i s = last_turn k (i + 1) (f i s) ∙ (let e : i + 1 + k ≡ i + suc k = omega arith in rw e)
+
+  -- one turn more at the end
+  pub range_last : (n : ℕ) (s : S) → range f 0 (n + 1) s ≡ f n (range f 0 n s)
+  unfolding range
+  range_last n s =
+      let a : n + 1 - 0 ≡ suc n = omega arith in
+      let b : n - 0 ≡ n = omega arith in
+      let c : 0 + n ≡ n = omega arith in
+      rw (a, b) (last_turn n 0 s ∙ rw c)
+
 module _ {S A : Type 0} (f : S → A → S) where
   pub fold_step : (s : S) (l : List A) (i : ℕ) (d : A) → i < length l → fold f s (drop i l) ≡ fold f (f s (get_or l i d)) (drop (i + 1) l)
   unfolding fold

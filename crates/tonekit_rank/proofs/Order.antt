@@ -1,5 +1,5 @@
 -- Sorting keeps the counts, and in sorted keys the one at place k has at most k below it, and more than k at or below it. Assumes nothing.
-use Rattle.std.proofs.Common.{ℕ, zero, suc, ◌+◌, ◌≤◌, ◌<◌, ◌≡◌, refl, ap, Bool, true, false, not, cond, T, ltb, leb, List, [], ◌∷◌, length, get_or, le_trans, zero-le, arith, ltb→lt, nltb→le, leb→le, lt-ltb, le-ltb}
+use Rattle.std.proofs.Common.{ℕ, zero, suc, ◌+◌, ◌≤◌, ◌<◌, ◌≡◌, refl, ◌∙◌, ap, Bool, true, false, not, cond, T, ltb, leb, List, [], ◌∷◌, length, get_or, le_trans, zero-le, arith, ltb→lt, nltb→le, leb→le, lt-ltb, le-ltb}
 use lib.Dec.{nleb→lt}
 use Rattle.std.specs.List.{count_by, All}
 use Rattle.std.proofs.lemmas.List.Elements.{All-nil, All-cons, All-head, All-tail}
@@ -15,6 +15,20 @@ one t = cond t 1 0
 
 count_cons : (a : ℕ) (l : List ℕ) (x : ℕ) → count_below (a ∷ l) x ≡ one (ltb a x) + count_below l x
 count_cons a l x = sum_by-cons (λ key. one (ltb key x)) a l
+
+length_insert : (a : ℕ) (l : List ℕ) → length (insert a l) ≡ suc (length l)
+unfolding insert
+length_insert a [] = refl
+length_insert a (b ∷ l) = go (leb a b) (length_insert a l)
+  where
+    go : (t : Bool) → length (insert a l) ≡ suc (length l) → length (cond t (a ∷ (b ∷ l)) (b ∷ insert a l)) ≡ suc (suc (length l))
+    go true r = refl
+    go false r = ap suc r
+
+pub length_sorted : (l : List ℕ) → length (sorted l) ≡ length l
+unfolding sorted
+length_sorted [] = refl
+length_sorted (a ∷ l) = length_insert a (sorted l) ∙ ap suc (length_sorted l)
 
 count_insert : (a : ℕ) (l : List ℕ) (x : ℕ) → count_below (insert a l) x ≡ one (ltb a x) + count_below l x
 unfolding insert

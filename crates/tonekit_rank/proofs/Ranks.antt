@@ -1,15 +1,15 @@
 -- What stands at a rank of f32s sorted by `total_cmp`: it is what `ranked` gives of their keys, and all that holds of each f32 holds of it. Assumes nothing.
-use Rattle.std.proofs.Common.{ℕ, suc, ◌<◌, ◌≡◌, refl, sym, ◌∙◌, ap, Bool, true, false, not, cond, T, leb, List, [], ◌∷◌, map, length, get_or, Float, arith}
-use lib.Ieee.{nan, binary32, fits}
-use lib.Ieee.Scale.{finite}
+use Rattle.std.proofs.Common.{ℕ, suc, ◌<◌, ◌≡◌, refl, sym, ◌∙◌, ap, Bool, true, false, not, cond, leb, List, [], ◌∷◌, map, length, get_or, Float, arith}
+use lib.Ieee.{nan}
 use Rattle.std.specs.Float.{total_cmp}
 use Rattle.std.specs.List.{All}
 use Rattle.std.specs.Ordering.{is_gt}
-use Rattle.std.proofs.lemmas.List.{get_or-map}
+use Rattle.std.proofs.lemmas.List.{get_or-map, length-map}
 use Rattle.std.proofs.lemmas.List.Elements.{All-cons, All-head, All-tail, All-get_or}
 use Rattle.spec_shape.specs.Register as register
 use Rattle.spec_shape.specs.Register.{ascending}
-use Rattle.tonekit_rank.specs.Rank.{key_of, value_of, insert, sorted}
+use Rattle.tonekit_rank.specs.Rank.{Number, key_of, value_of, insert, sorted}
+use Rattle.tonekit_rank.proofs.Order.{length_sorted}
 use Rattle.tonekit_rank.proofs.Keys.{after_by_key, value_back}
 
 -- ---- sorting keeps the length, and what holds of each
@@ -46,9 +46,6 @@ module _ (P : Float → Type 0) where
   ranked_has l q k h = All-get_or P (ascending l) k nan (omega (arith, length_ascending l)) (all_ascending l q)
 
 -- ---- sorting the keys
-abbrev pub Number : Float → Type 0
-Number x = T (fits binary32 x) × T (finite x)
-
 insert_keys : (x : Float) (l : List Float) → Number x → All Number l → map key_of (register.insert x l) ≡ insert (key_of x) (map key_of l)
 unfolding register.insert insert
 insert_keys x [] p q = refl
@@ -67,9 +64,15 @@ keys_ascending [] q = refl
 keys_ascending (x ∷ l) q =
     insert_keys x (ascending l) (All-head Number x l q) (all_ascending Number l (All-tail Number x l q)) ∙ ap (insert (key_of x)) (keys_ascending l (All-tail Number x l q))
 
+values_keys : (l : List Float) → All Number l → map value_of (map key_of l) ≡ l
+values_keys [] q = refl
+values_keys (x ∷ l) q = cc (value_back x (All-head Number x l q).0, values_keys l (All-tail Number x l q))
+
+-- the f32s of the sorted keys are the sorted f32s
+pub values_sorted : (l : List Float) → All Number l → map value_of (sorted (map key_of l)) ≡ ascending l
+values_sorted l q = ap (map value_of) (sym (keys_ascending l q)) ∙ values_keys (ascending l) (all_ascending Number l q)
+
 -- what `ranked` gives of the keys of f32s is the f32 at that rank
 pub ranked_is : (l : List Float) → All Number l → (k : ℕ) → k < length l → value_of (get_or (sorted (map key_of l)) k 0) ≡ get_or (ascending l) k nan
 ranked_is l q k h =
-    ap (λ (keys : List ℕ). value_of (get_or keys k 0)) (sym (keys_ascending l q))
-    ∙ ap value_of (get_or-map key_of (ascending l) k nan 0 (omega (arith, length_ascending l)))
-    ∙ value_back (get_or (ascending l) k nan) (ranked_has Number l q k h).0
+    sym (get_or-map value_of (sorted (map key_of l)) k 0 nan (omega (arith, length_sorted (map key_of l), length-map l key_of))) ∙ ap (λ (values : List Float). get_or values k nan) (values_sorted l q)

@@ -4,13 +4,12 @@ use mathlib.Core.Option.{Option}
 use lib.ListN.{get_or-append}
 use lib.Seq.{get_or-append_seam}
 use Rattle.tonekit_core.specs.Loop.{range}
-use Rattle.tonekit_core.proofs.LoopLaws.{range_done, range_keeps}
+use Rattle.tonekit_core.proofs.LoopLaws.{range_done, range_last, range_keeps}
 use Rattle.tonekit_core.proofs.Split.{split}
 use Rattle.spec_lookup.specs.Source.{Carried}
 use Rattle.spec_sheet.specs.Number.{seen_in, place_in, noted, number_in}
 use Rattle.spec_sheet.specs.Reader.{SheetRead}
 use Rattle.spec_sheet.specs.FromSheet.{list_numbered}
-use Rattle.tonekit_sheet_laws.proofs.Loops.{range_last}
 use Rattle.tonekit_sheet_laws.proofs.Numbers.{seen_here, place_below, place_get, Once, place_once}
 use Rattle.tonekit_sheet_inverse.proofs.Order.{first_list, final_list, most_turn, greatest, Ordered}
 use Rattle.tonekit_sheet_inverse.proofs.Pieces.{content_at}

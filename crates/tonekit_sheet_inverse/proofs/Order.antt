@@ -9,7 +9,7 @@ use Rattle.tonekit_core.proofs.Split.{either, both}
 use Rattle.tonekit_pack.proofs.Numbers.{zero_or_at}
 use Rattle.spec_sheet.specs.Sheet.{accent_place, tone_place, prev_place}
 use Rattle.spec_sheet.specs.Reader.{SheetRead, row_at, loose_row, accent_down, prev_due, row_due, row_names, row_wrong, named, same_lists, repeated, list_wrong}
-use Rattle.tonekit_sheet_laws.proofs.Loops.{range_last}
+use Rattle.tonekit_core.proofs.LoopLaws.{range_last}
 use Rattle.tonekit_sheet_inverse.proofs.Tests.{none_failed, range_some, range_no}
 use Rattle.tonekit_sheet.proofs.Turns.{Finished}
 

@@ -2,9 +2,9 @@
 use Rattle.std.proofs.Common.{ℕ, zero, suc, ◌+◌, ◌≤◌, ◌<◌, ◌≡◌, sym, ◌∙◌, Bool, true, false, cond, ◌||◌, arith, eqb, eqb-true, Option, Some, None}
 use borrow.Author.Tests.{eqb-false}
 use Rattle.tonekit_core.specs.Loop.{Turn, next, stop, range, range_to}
-use Rattle.tonekit_core.proofs.LoopLaws.{range_done, to_again, to_stop, range_keeps}
+use Rattle.tonekit_core.proofs.LoopLaws.{range_done, range_last, to_again, to_stop, range_keeps}
 use Rattle.tonekit_core.proofs.Split.{split, absurd_bool, either}
-use Rattle.tonekit_sheet_laws.proofs.Loops.{range_last, range_any}
+use Rattle.tonekit_sheet_laws.proofs.Loops.{range_any}
 
 -- a test at each turn, of a state that each turn changes; the first that fails is found
 module _ {S : Type 0} (t : ℕ → S → Bool) (g : ℕ → S → S) (o : ℕ → ℕ) (n : ℕ) (m : S) where

@@ -3,13 +3,12 @@ use Rattle.std.proofs.Common.{ℕ, zero, suc, ◌+◌, ◌-◌, ◌≤◌, ◌<�
 use mathlib.Core.Option.{Option, none, some}
 use lib.ListN.{get_or-append}
 use Rattle.tonekit_core.specs.Loop.{range}
-use Rattle.tonekit_core.proofs.LoopLaws.{range_done, range_keeps}
+use Rattle.tonekit_core.proofs.LoopLaws.{range_done, range_last, range_keeps}
 use Rattle.tonekit_core.proofs.Split.{split}
 use Rattle.spec_lookup.specs.Source.{Carried}
 use Rattle.spec_sheet.specs.Number.{seen_in, place_in, noted, number_in}
 use Rattle.spec_sheet.specs.Sheet.{View, rows_of, lists_of}
 use Rattle.tonekit_sheet.specs.Parts.{note_turn}
-use Rattle.tonekit_sheet_laws.proofs.Loops.{range_last}
 use Rattle.tonekit_sheet_laws.proofs.Numbers.{Grows, grows_refl, grows_trans, grows_seen, noted_grows, noted_seen, noted_number, noted_least, noted_most, noted_from, Once, noted_once, place_below, place_get, place_once}
 
 -- the lists after the first r rows, and after the first lookup of the next

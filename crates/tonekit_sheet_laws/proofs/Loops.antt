@@ -5,21 +5,6 @@ use Rattle.tonekit_core.specs.Loop.{Turn, next, turns, range, range_to}
 use Rattle.tonekit_core.proofs.LoopLaws.{to_again, to_ended, range_keeps}
 use Rattle.tonekit_core.proofs.Split.{split, both}
 
-module _ {S : Type 0} (f : ℕ → S → S) where
-  last_turn : (k i : ℕ) (s : S) → turns f (suc k) i s ≡ f (i + k) (turns f k i s)
-  unfolding turns
-  last_turn zero i s = let e : i + 0 ≡ i = omega arith in rw e
-  last_turn (suc k) i s = last_turn k (i + 1) (f i s) ∙ (let e : i + 1 + k ≡ i + suc k = omega arith in rw e)
-
-  -- one turn more
-  pub range_last : (n : ℕ) (s : S) → range f 0 (n + 1) s ≡ f n (range f 0 n s)
-  unfolding range
-  range_last n s =
-      let a : n + 1 - 0 ≡ suc n = omega arith in
-      let b : n - 0 ≡ n = omega arith in
-      let c : 0 + n ≡ n = omega arith in
-      rw (a, b) (last_turn n 0 s ∙ rw c)
-
 -- every test from lo on passes, and only then does the loop say so
 pub range_all : (t : ℕ → Bool) (lo hi : ℕ) → lo ≤ hi → ((i : ℕ) → lo ≤ i → i < hi → t i ≡ true) → range (λ i ok. ok && t i) lo hi true ≡ true
 range_all t lo hi l h =
