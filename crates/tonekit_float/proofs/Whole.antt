@@ -1,17 +1,17 @@
 -- Whole parts and rounding up: what the code of `floor_index` and `ceil_index` needs, and where the results lie.
-use Rattle.std.proofs.Common.{◌≡◌, ℕ, ◌+◌, ◌-◌, ◌*◌, ◌/◌, ◌^◌, ◌<◌, ◌≤◌, true, false, T, ℤ, pos, sym, refl, ap, ◌∙◌, subst, zero-le, le_trans, le_of_eq, le_of_lt, mul-le-mul_right, zero-lt-suc, div-lt_iff_lt-mul, add-mul, lt_of_mul-lt-mul_right, mul-pos, one-mul, le-div_iff_mul-le, zero-mul, mul-one, mul_right_comm, div-mul-le_self, le_of_mul-le-mul_right, mul-div_cancel, arith, le→leb, ltb→lt, lt→ltb, nltb→le, Float}
+use Rattle.std.proofs.Common.{◌≡◌, ℕ, ◌+◌, ◌-◌, ◌*◌, ◌/◌, ◌^◌, ◌<◌, ◌≤◌, true, false, T, ℤ, pos, sym, refl, ap, ◌∙◌, subst, zero-le, le_trans, le_of_eq, le_of_lt, mul-le-mul_right, zero-lt-suc, div-lt_iff_lt-mul, add-mul, lt_of_mul-lt-mul_right, mul-pos, one-mul, le-div_iff_mul-le, zero-mul, mul-one, mul_right_comm, div-mul-le_self, le_of_mul-le-mul_right, mul-div_cancel, arith, le→leb, ltb→lt, lt→ltb, nltb→le, lit≤, Float}
 use native.Mathlib.Nat.{zero-div, min-eq_left}
-use lib.Ieee.{nan, inf, fin, binary64, up, down, lt, le, eq, sub, of_int, of_bits, in_float, to_unsigned}
-use lib.Ieee.Fits.{down_pos}
+use lib.Ieee.{nan, inf, fin, binary64, up, down, lt, le, eq, sub, mul, of_int, of_bits, in_float, to_unsigned}
+use lib.Ieee.Fits.{down_pos, of_int-fits}
 use lib.Ieee.Exact.{HasValue}
 use lib.Ieee.Positive.{den, den_pos}
 use lib.Ieee.Scale.{finite}
 use Rattle.spec_arithmetic.specs.Bounds.{In}
 use Rattle.tonekit_float.proofs.Fraction.{pos_part, neg_part}
 use Rattle.spec_arithmetic.specs.Whole.{whole_part, round_up}
-use Rattle.tonekit_float.proofs.Order.{yes, no, le→under, under→le, lt→cross, lt→le, not-lt→le, le_refl_finite}
+use Rattle.tonekit_float.proofs.Order.{yes, no, le→under, under→le, lt→cross, lt→le, not-lt→le, le_refl_finite, le_trans_float, between_finite, le_lt}
 use Rattle.tonekit_float.proofs.Monotone.{zero_f, no_minus, sub_le}
-use Rattle.tonekit_float.proofs.Exact.{one_f, whole, whole_value, whole_worth, whole_sub, sub_nonneg}
+use Rattle.tonekit_float.proofs.Exact.{one_f, whole, whole_value, whole_worth, whole_le, whole_sub, sub_nonneg, in_part}
 
 -- ---- what the cast asks: a float from 0 up is above -1, and one below 2 ^ 53 is below 2 ^ 64
 pub above_minus_one : (x : Float) → T (le zero_f x) → T (lt (fin true 1 (pos 0)) x)
@@ -262,3 +262,31 @@ up_le (fin false m e) n h p k =
     let a : (n + 1) * down e ≡ n * down e + down e = add-mul n 1 (down e) ∙ ap (λ (z : ℕ). n * down e + z) (one-mul (down e)) in
     let q : (m * up e + (down e - 1)) / down e < n + 1 = (div-lt_iff_lt-mul d).1 (omega arith) in
     omega arith
+
+-- ---- a share of a whole number, from none to all of it, as an index: it lies from 0 to that number, and so do its whole part and what is left
+pub share_in : (c : Float) (last : ℕ) → last ≤ 2 ^ 53 → In zero_f one_f c → In zero_f (whole binary64 last) (mul binary64 c (whole binary64 last))
+unfolding of_int
+share_in c last h k = in_part binary64 c (whole binary64 last) (of_int-fits binary64 (pos last)) (whole_worth binary64 last h).real (whole_le binary64 0 last zero-le) k
+
+module _ (c : Float) (h : In zero_f one_f c) (last : ℕ) (few : last ≤ 1024) where
+  abbrev share : Float
+  share = mul binary64 c (whole binary64 last)
+
+  small : last ≤ 2 ^ 53
+  small = le_trans few (lit≤ tt)
+
+  range_of : In zero_f (whole binary64 last) share
+  range_of = share_in c last small h
+
+  pub share_real : T (finite share)
+  share_real = between_finite zero_f (whole binary64 last) share tt (whole_worth binary64 last small).real range_of.low range_of.high
+
+  pub share_lt : T (lt share (fin false 1 (pos 53)))
+  unfolding of_int lt
+  share_lt = le_lt share (whole binary64 1024) (fin false 1 (pos 53)) share_real tt tt (le_trans_float share (whole binary64 last) (whole binary64 1024) range_of.high (whole_le binary64 last 1024 few)) tt
+
+  pub share_part : whole_part share ≤ last
+  share_part = part_le share last small share_real range_of.low range_of.high
+
+  pub share_rest : In zero_f one_f (sub binary64 share (whole binary64 (whole_part share)))
+  share_rest = rest_in share share_real range_of.low (part_lt share range_of.low share_lt)
