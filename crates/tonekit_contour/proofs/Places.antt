@@ -1,6 +1,6 @@
 -- Where a contour point lies: between the first frame or knot and the last, in f64 and small enough for an index.
 use Rattle.std.proofs.Common.{ℕ, ◌^◌, ◌≤◌, zero-le, false, T, pos}
-use lib.Ieee.{fin, binary64, div, lt, of_int, of_bits, fits}
+use lib.Ieee.{fin, binary64, div, lt, le, round, of_int, of_bits, fits}
 use lib.Ieee.Fits.{mul-fits}
 use Rattle.spec_arithmetic.specs.Bounds.{In}
 use Rattle.tonekit_float.proofs.Monotone.{zero_f}
@@ -13,6 +13,10 @@ use Rattle.spec_arithmetic.specs.Constants.{whole64}
 ninth : (k : ℕ) → k ≤ 9 → In zero_f one_f (div binary64 (whole64 k) (of_bits binary64 0x4022_0000_0000_0000))
 unfolding of_int div of_bits
 ninth k h = in_div binary64 (whole64 9) tt tt (record { low = whole_le binary64 0 k zero-le; high = whole_le binary64 k 9 h })
+
+pub whole_nonneg : (n : ℕ) → T (le zero_f (whole64 n))
+unfolding of_int round
+whole_nonneg n = whole_le binary64 0 n zero-le
 
 pub position_in : (i last : ℕ) → i ≤ 9 → last ≤ 2 ^ 53 → In zero_f (whole64 last) (position i last)
 unfolding position

@@ -1,5 +1,5 @@
 -- Percentiles of f32s by their keys, and the keys of a query's voiced frames. Assumes nothing.
-use Rattle.std.proofs.Common.{ℕ, zero-le, ◌+◌, ◌≤◌, ◌<◌, ◌≡◌, refl, sym, ◌∙◌, ap, List, [], ◌∷◌, ◌++◌, map, length, get_or, take, set, Option, Some, None, arith, Float, true}
+use Rattle.std.proofs.Common.{ℕ, zero-le, ◌+◌, ◌≤◌, ◌<◌, ◌≡◌, refl, sym, ◌∙◌, ap, List, [], ◌∷◌, ◌++◌, map, length, take, set, Option, Some, None, arith, Float}
 use lib.Ieee.{binary64, of_bits}
 use Rattle.std.specs.List.{All}
 use Rattle.std.specs.Option.{option_map_or}
@@ -13,11 +13,10 @@ use Rattle.spec_query.specs.Frames.{frame_at}
 use Rattle.spec_query.specs.declared.Voiced.{Voiced}
 use Rattle.spec_shape.specs.Chao.{hz_to_st}
 use Rattle.spec_shape.specs.Register.{voiced_st, ascending, percentile, p5_p50_p95}
-use Rattle.spec_shape.specs.declared.Percentiles.{Percentiles}
 use Rattle.tonekit_float.proofs.Bounds.{in_finite}
 use Rattle.tonekit_float.proofs.Narrowing.{narrow_fits}
 use Rattle.tonekit_fit.proofs.Semitone.{frame_semitone}
-use Rattle.tonekit_rank.specs.Rank.{Number, key_of, value_of, sorted}
+use Rattle.tonekit_rank.specs.Rank.{Number, key_of}
 use Rattle.tonekit_rank.proofs.Ranks.{values_sorted}
 use Rattle.tonekit_register.specs.Keys.{KeysOf, ascending_values}
 

@@ -1,2 +1,5 @@
+mod Literals
 pub mod Places
 pub mod KeyLists
+pub mod Ends
+pub mod Laws

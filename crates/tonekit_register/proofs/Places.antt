@@ -1,5 +1,5 @@
 -- A percentile of keys is that of the f32s in ascending order: its two ranks are places among the keys. Assumes nothing.
-use Rattle.std.proofs.Common.{ℕ, ◌+◌, ◌-◌, ◌≤◌, ◌<◌, ◌≡◌, refl, T, false, pos, min, List, map, length, get_or, arith, Float}
+use Rattle.std.proofs.Common.{ℕ, ◌+◌, ◌-◌, ◌≤◌, ◌<◌, ◌≡◌, refl, T, false, pos, min, List, length, get_or, arith, Float}
 use lib.Ieee.{nan, fin, binary64, add, sub, mul, lt, le, of_bits}
 use Rattle.std.proofs.lemmas.List.{get_or-map, length-map}
 use Rattle.spec_arithmetic.specs.Bounds.{In}

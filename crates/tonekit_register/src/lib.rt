@@ -66,6 +66,7 @@ fn voiced_percentiles(frames: &[u8], count: u16) -> Option<Percentiles>
 }
 
 // What a register is of no voiced frames: that of 90, 150 and 250 Hz.
+#[tactic(auto, using(crate::proofs::Literals::ninety_is, crate::proofs::Literals::hundred_fifty_is, crate::proofs::Literals::two_hundred_fifty_is), unfolding(spec_shape::specs::Register::fallback_register))]
 fn fallback_register() -> Register
     ensures { result ≡ fallback_register }
 {
@@ -73,5 +74,40 @@ fn fallback_register() -> Register
         floor: tonekit_float::narrow(tonekit_fit::hz_to_st(90.0)),
         median: tonekit_float::narrow(tonekit_fit::hz_to_st(150.0)),
         ceil: tonekit_float::narrow(tonekit_fit::hz_to_st(250.0)),
+    }
+}
+
+// The cold register of a query: p5 - 2, p50 and p95 + 2 of all its voiced frames, whatever its span, at
+// least 4 semitones wide; of no voiced frames the fallback.
+pub fn cold_register(frames: &[u8], count: u16) -> Register
+    requires { count ≤ 1024 }
+    ensures { result ≡ cold_register (voiced_st frames.now count) }
+{
+    let Some(p) = voiced_percentiles(frames, count) else {
+        return fallback_register();
+    };
+    tonekit_min_span::at_least_min_span(Register {
+        floor: tonekit_float::narrow(p.p5 - COLD_MARGIN_ST),
+        median: tonekit_float::narrow(p.p50),
+        ceil: tonekit_float::narrow(p.p95 + COLD_MARGIN_ST),
+    })
+}
+
+// The query as it is measured: under kind 55 in the cold register of its frames, with ColdStartRegister
+// among its issues, and its own floor and ceiling are not looked at.
+#[tactic(auto, unfolding(spec_shape::specs::Register::in_register))]
+pub fn in_register(frames: &[u8], q: Query) -> Query
+    requires { q.count ≤ 1024 }
+    ensures { result ≡ in_register frames.now q }
+{
+    if !q.cold {
+        return q;
+    }
+    let r = cold_register(frames, q.count);
+    Query {
+        floor: r.floor,
+        ceil: r.ceil,
+        issues: tonekit_core::with_issue(q.issues, MeasureIssue::ColdStartRegister),
+        ..q
     }
 }

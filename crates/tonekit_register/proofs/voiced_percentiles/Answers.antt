@@ -14,7 +14,7 @@ pub loop-i-preserved : goal.loop-i-preserved
 loop-i-preserved c =
     let frames = c.args.frames.now in
     elim c.match-read_frame.branch [
-      in-Some w ↦ rw (w.keys-is, w.n-is) (filled_more frames c.loop-i.keys c.loop-i.n c.loop-i.i w.in-Some.v c.loop-i.invariant (search rules) (sym w.in-Some.ensures) (w.key_of.ensures ∙ ap key_of (w.narrow.ensures ∙ ap narrowed (w.hz_to_st-st.ensures ∙ ap hz_to_st w.from.ensures))))
+      | in-Some w ↦ rw (w.keys-is, w.n-is) (filled_more frames c.loop-i.keys c.loop-i.n c.loop-i.i w.in-Some.v c.loop-i.invariant (search rules) (sym w.in-Some.ensures) (w.key_of.ensures ∙ ap key_of (w.narrow.ensures ∙ ap narrowed (w.hz_to_st-st.ensures ∙ ap hz_to_st w.from.ensures))))
       | in_default w ↦ rw (w.keys-is, w.n-is) (filled_same frames c.loop-i.keys c.loop-i.n c.loop-i.i c.loop-i.invariant (sym w.in_default.ensures))
     ]
 
