@@ -3,10 +3,10 @@ use Rattle.std.proofs.Common.{ℕ, ◌+◌, ◌/◌, ◌%◌, ◌≤◌, ◌<◌
 use borrow.Author.Tests.{eqb-false}
 use Rattle.std.specs.Option.{option_map_or}
 use Rattle.std.specs.Prelude.{Option, Some, None, Result, Ok, Err}
-use Rattle.tonekit_core.specs.Calls.{refused, written}
+use Rattle.tonekit_core.specs.Calls.{Outcome, refused, written}
 use Rattle.tonekit_core.specs.Words.{has_issue, with_issue, measured_number}
 use Rattle.tonekit_core.specs.declared.layout.TheConstants.{JUDGEMENT_MEASURED, JUDGEMENT_ISSUES, SHAPE_ISSUES}
-use Rattle.tonekit_core.specs.declared.Measured.TheVariants.{Partial}
+use Rattle.tonekit_core.specs.declared.Measured.TheVariants.{Full, Partial}
 use Rattle.tonekit_core.specs.declared.MeasureIssue.TheVariants.{TooShort, ColdStartRegister}
 use Rattle.tonekit_core.specs.declared.Refusal.TheVariants.{Unvoiced, UnknownTone}
 use Rattle.tonekit_core.specs.declared.Refusal.{Refusal}
@@ -18,19 +18,19 @@ use Rattle.tonekit_bytes.proofs.Stands.{Stands, stands_whole, stands_then, field
 use Rattle.tonekit_bytes.proofs.Write.{f32s_length}
 use Rattle.spec_query.specs.Query.{load_query, frames_of}
 use Rattle.spec_query.specs.declared.Query.{Query}
-use Rattle.tonekit_query.proofs.Laws.{load_reads, read_holds}
+use Rattle.tonekit_query.proofs.Laws.{Holds, load_reads, read_holds}
 use Rattle.spec_shape.specs.Extract.{extent_of, list_of, shape_of}
 use Rattle.spec_shape.specs.Register.{in_register}
 use Rattle.spec_shape.specs.Record.{united, fit_bytes, measure_bytes, shape_bytes, shape_outcome}
+use Rattle.spec_shape.specs.declared.Extent.{Extent}
 use Rattle.spec_shape.specs.declared.ToneShape.{ToneShape}
+use Rattle.tonekit_shape.proofs.Found.{enough_found}
+use Rattle.tonekit_register.proofs.Laws.{query_sound}
+use Rattle.tonekit_measured.proofs.Measured.{always_measured}
 use Rattle.spec_lookup.specs.Source.{Source, source_of_pack}
-use Rattle.spec_judgement.specs.Inventory.{Targets, Listings}
-use Rattle.spec_judgement.specs.Judge.{plain_of, with_best, judged_of, usable, judgement_of}
+use Rattle.spec_judgement.specs.Inventory.{Targets}
+use Rattle.spec_judgement.specs.Judge.{judgement_of}
 use Rattle.spec_judgement.specs.Record.{judgement_bytes, score_bytes, delta_bytes}
-use Rattle.spec_judgement.specs.declared.Mixture.{Mixture}
-use Rattle.spec_judgement.specs.declared.Mixture.TheVariants.{Scored, Nothing}
-use Rattle.spec_judgement.specs.declared.Scoring.{Scoring}
-use Rattle.spec_judgement.specs.declared.Settings.{Settings}
 use Rattle.spec_judgement.specs.declared.Tolerance.{Tolerance}
 use Rattle.spec_judgement.specs.declared.ToneJudgement.{ToneJudgement}
 use Rattle.spec_judgement.specs.Gather.{Gathering, gathered}
@@ -91,108 +91,122 @@ module _ (expected tones : ℕ) (j : ToneJudgement) (eight : length j.loglik ≡
   issues_read : j.issues < 65536 → u16_at (judgement_bytes expected tones j) JUDGEMENT_ISSUES ≡ j.issues
   issues_read h = field16 ends 1 (omega arith) ∙ le16_back j.issues h
 
--- ---- a judgement of a usable shape, with ColdStartRegister among its issues
-best_keeps : (x : ToneShape) (s : Scoring) (t : Tolerance) (l : Listings) (j : ToneJudgement) (m : Mixture)
-    → ((with_best x s t l j m).measured ≡ j.measured) × ((with_best x s t l j m).issues ≡ j.issues)
-unfolding with_best
-best_keeps x s t l j Nothing = (refl, refl)
-best_keeps x s t l j (Scored ll slot d2) = (refl, refl)
+-- ---- the issues of a cold query
+joins : (issues : ℕ) → Cold (with_issue issues ColdStartRegister) × (with_issue issues ColdStartRegister ≤ issues + 16)
+unfolding with_issue
+joins issues =
+    split (has_issue issues ColdStartRegister)
+    (λ t. rw t (t, omega arith))
+    (λ t. let k = eqb-false (issues / 16 % 2) 1 t in let m : (issues + 16) / 16 % 2 ≡ 1 = omega arith in rw (t, m) (refl, omega arith))
 
-module _ (x : ToneShape) (settings : Settings) (t : Tolerance) (l : Listings) (g : Targets) (issues : ℕ) where
-  abbrev judged : ToneJudgement
-  judged = judgement_of x settings t l g issues
+cold_joined : (frames : List ℕ) (q : Query) → q.cold ≡ true → Cold (in_register frames q).issues × ((in_register frames q).issues ≤ q.issues + 16)
+unfolding in_register
+cold_joined frames q c = rw c (joins q.issues)
 
-  measures : usable x ≡ true → Cold issues → (judged.measured ≡ Partial) × (judged.issues ≡ issues)
-  unfolding judgement_of judged_of plain_of
-  measures u e = rw (u, (best_keeps _ _ _ _ _ _).0, (best_keeps _ _ _ _ _ _).1, some_issue issues e) (refl, refl)
-
-  cold_record : (expected tones : ℕ) → usable x ≡ true → Cold issues → issues < 65536 → ColdRecord (judgement_bytes expected tones judged)
-  cold_record expected tones u e h =
-      let eight = eight_logliks x settings t l g issues expected tones in
-      let m = measures u e in
-      record {
-        measured = measured_read expected tones judged eight ∙ ap measured_number m.0;
-        issue = rw (issues_read expected tones judged eight (rw m.1 h), m.1) e;
-      }
+-- the record of a judgement that is measured, and has ColdStartRegister among its issues
+cold_record : (expected tones : ℕ) (j : ToneJudgement) (issues : ℕ) → length j.loglik ≡ 8 → (j.measured ≡ cond (eqb issues 0) Full Partial) × (j.issues ≡ issues)
+    → Cold issues → issues < 65536 → ColdRecord (judgement_bytes expected tones j)
+cold_record expected tones j issues eight m e h =
+    let partial : j.measured ≡ Partial = m.0 ∙ rw (some_issue issues e) refl in
+    record {
+      measured = measured_read expected tones j eight ∙ ap measured_number partial;
+      issue = rw (issues_read expected tones j eight (rw m.1 h), m.1) e;
+    }
 
 -- ---- a cold query that loads
-module _ (usable_cold : (frames : List ℕ) (q : Query) → q.cold ≡ true → q.count ≤ 1024 → 3 ≤ (extent_of frames q.count q.start q.end).count
-    → let r = in_register frames q in usable (shape_of frames (extent_of frames q.count q.start q.end) r.start r.end r.floor r.ceil) ≡ true)
-    (cold_joined : (frames : List ℕ) (q : Query) → q.cold ≡ true → q.issues < 1024 → Cold (in_register frames q).issues × ((in_register frames q).issues < 2048)) where
-  module _ (s : List ℕ) (q : Query) (loads : load_query s ≡ Ok q) (cold : q.cold ≡ true) where
-    abbrev frames : List ℕ
-    frames = frames_of s q
+module _ (s : List ℕ) (q : Query) (loads : load_query s ≡ Ok q) (cold : q.cold ≡ true) where
+  abbrev frames : List ℕ
+  frames = frames_of s q
 
-    abbrev count : ℕ
-    count = (extent_of frames q.count q.start q.end).count
+  abbrev extent : Extent
+  extent = extent_of frames q.count q.start q.end
 
-    abbrev r : Query
-    r = in_register frames q
+  abbrev r : Query
+  r = in_register frames q
 
-    abbrev shape : ToneShape
-    shape = shape_of frames (extent_of frames q.count q.start q.end) r.start r.end r.floor r.ceil
+  abbrev shape : ToneShape
+  shape = shape_of frames extent r.start r.end r.floor r.ceil
 
-    joined : Cold (united r.issues shape.frames) × (united r.issues shape.frames < 65536)
-    joined =
-        let h = read_holds s q (load_reads s q loads) in
-        let j = cold_joined frames q cold h.issues in
-        (cold_united r.issues shape.frames j.0, omega (arith, united_most r.issues shape.frames, j.1))
+  abbrev issues : ℕ
+  issues = united r.issues shape.frames
 
-    module _ (g : Gathering) where
-      recorded : (t : Tolerance) → 3 ≤ count → (a : Option Targets)
-          → Writes ColdRecord (option_map_or (λ a. written (judgement_bytes q.tone (length g.listed.inventory.items) (judgement_of shape g.settings t g.listed a (united r.issues shape.frames)))) a (refused UnknownTone 0))
-      recorded t enough None = tt
-      recorded t enough (Some a) =
-          let h = read_holds s q (load_reads s q loads) in
-          cold_record shape g.settings t g.listed a (united r.issues shape.frames) q.tone (length g.listed.inventory.items) (usable_cold frames q cold h.count enough) joined.0 joined.1
+  holds : Holds s q
+  holds = read_holds s q (load_reads s q loads)
 
-      passed : (v : Result Tolerance Refusal) → query_verdict count g.tolerance g.prev g.listed.inventory s q ≡ v
-          → Writes ColdRecord (unless v (λ t. option_map_or (λ a. written (judgement_bytes q.tone (length g.listed.inventory.items) (judgement_of shape g.settings t g.listed a (united r.issues shape.frames)))) (targets_of g.listed.inventory s q.tone q.variants) (refused UnknownTone 0)))
-      passed (Err e) v = tt
-      passed (Ok t) v = recorded t (enough_voiced _ _ _ _ _ _ _ v) (targets_of g.listed.inventory s q.tone q.variants)
+  joined : Cold issues × (issues < 65536)
+  joined =
+      let j = cold_joined frames q cold in
+      (cold_united r.issues shape.frames j.0, omega (arith, united_most r.issues shape.frames, j.1, holds.issues))
 
-      gathered_cold : Writes ColdRecord (judge_gathered g s q)
-      unfolding judge_gathered
-      gathered_cold = passed (query_verdict count g.tolerance g.prev g.listed.inventory s q) refl
+  module _ (g : Gathering) where
+    abbrev tones : ℕ
+    tones = length g.listed.inventory.items
 
-    judgement_cold : (src : Source) → Writes ColdRecord (judgement src s)
-    unfolding judgement
-    judgement_cold src = rw loads (gathered_cold (gathered src (context_of q)))
+    abbrev judged : Tolerance → Targets → ToneJudgement
+    judged t a = judgement_of shape g.settings t g.listed a issues
 
-    by_pack : (held : List ℕ) (o : Out PackRead) → Writes ColdRecord (on_pack held s o)
-    by_pack held (files.refused e place) = tt
-    by_pack held (files.loaded st e) = judgement_cold (source_of_pack held st)
+    -- the record, or 13 where a target is not held
+    abbrev recorded : Tolerance → Outcome
+    recorded t = option_map_or (λ a. written (judgement_bytes q.tone tones (judged t a))) (targets_of g.listed.inventory s q.tone q.variants) (refused UnknownTone 0)
 
-    by_sheet : (held : List ℕ) (o : Out sheet.SheetRead) → Writes ColdRecord (on_sheet held s o)
-    by_sheet held (files.refused e place) = tt
-    by_sheet held (files.loaded st e) = judgement_cold (source_of_sheet held st)
+    record_cold : (t : Tolerance) (a : Targets) → 3 ≤ extent.count → ColdRecord (judgement_bytes q.tone tones (judged t a))
+    record_cold t a enough =
+        let v = enough_found frames q.count q.start q.end holds.count enough in
+        let b = query_sound s q loads cold in
+        let m = always_measured frames extent r.start r.end r.floor r.ceil v.enough v.counted v.inside b.floor_in b.ceil_in b.apart g.settings t g.listed a issues in
+        cold_record q.tone tones (judged t a) issues (eight_logliks shape g.settings t g.listed a issues q.tone tones) m joined.0 joined.1
 
-    judge_cold : (held : List ℕ) → Writes ColdRecord (judge_outcome held s)
-    unfolding judge_outcome
-    judge_cold held = by_pack held (load_pack held)
+    by_targets : (t : Tolerance) → 3 ≤ extent.count → (a : Option Targets)
+        → Writes ColdRecord (option_map_or (λ a. written (judgement_bytes q.tone tones (judged t a))) a (refused UnknownTone 0))
+    by_targets t enough None = tt
+    by_targets t enough (Some a) = record_cold t a enough
 
-    judge_sheet_cold : (held : List ℕ) → Writes ColdRecord (judge_sheet_outcome held s)
-    unfolding judge_sheet_outcome
-    judge_sheet_cold held = by_sheet held (load_sheet held)
+    by_verdict : (v : Result Tolerance Refusal) → query_verdict extent.count g.tolerance g.prev g.listed.inventory s q ≡ v → Writes ColdRecord (unless v recorded)
+    by_verdict (Err e) v = tt
+    by_verdict (Ok t) v = by_targets t (enough_voiced _ _ _ _ _ _ _ v) (targets_of g.listed.inventory s q.tone q.variants)
 
-    -- the shape record
-    abbrev ColdShape : List ℕ → Type 0
-    ColdShape bs = Cold (u16_at bs SHAPE_ISSUES)
+    gathered_cold : Writes ColdRecord (judge_gathered g s q)
+    unfolding judge_gathered
+    gathered_cold = by_verdict (query_verdict extent.count g.tolerance g.prev g.listed.inventory s q) refl
 
-    issues_of_shape : u16_at (shape_bytes r.start r.end r.issues shape) SHAPE_ISSUES ≡ united r.issues shape.frames
-    unfolding shape_bytes fit_bytes measure_bytes f32s_bytes shape_of list_of
-    issues_of_shape = le16_back (united r.issues shape.frames) joined.1
+  judgement_cold : (src : Source) → Writes ColdRecord (judgement src s)
+  unfolding judgement
+  judgement_cold src = rw loads (gathered_cold (gathered src (context_of q)))
 
-    shaped_cold : (b : Bool) → Writes ColdShape (cond b (refused Unvoiced 0) (written (shape_bytes r.start r.end r.issues shape)))
-    shaped_cold true = tt
-    shaped_cold false = rw issues_of_shape joined.0
+  by_pack : (held : List ℕ) (o : Out PackRead) → Writes ColdRecord (on_pack held s o)
+  by_pack held (files.refused e place) = tt
+  by_pack held (files.loaded st e) = judgement_cold (source_of_pack held st)
 
-    shape_cold : Writes ColdShape (shape_outcome s)
-    unfolding shape_outcome
-    shape_cold = rw loads (shaped_cold (ltb count 3))
+  by_sheet : (held : List ℕ) (o : Out sheet.SheetRead) → Writes ColdRecord (on_sheet held s o)
+  by_sheet held (files.refused e place) = tt
+  by_sheet held (files.loaded st e) = judgement_cold (source_of_sheet held st)
 
-  pub cold_measured : ColdMeasured
-  cold_measured held s bs q loads cold = (λ e. subst (Writes ColdRecord) e (judge_cold s q loads cold held), λ e. subst (Writes ColdRecord) e (judge_sheet_cold s q loads cold held))
+  judge_cold : (held : List ℕ) → Writes ColdRecord (judge_outcome held s)
+  unfolding judge_outcome
+  judge_cold held = by_pack held (load_pack held)
 
-  pub cold_shaped : ColdShaped
-  cold_shaped s bs q loads cold e = subst (Writes (ColdShape s q loads cold)) e (shape_cold s q loads cold)
+  judge_sheet_cold : (held : List ℕ) → Writes ColdRecord (judge_sheet_outcome held s)
+  unfolding judge_sheet_outcome
+  judge_sheet_cold held = by_sheet held (load_sheet held)
+
+  -- the shape record
+  abbrev ColdShape : List ℕ → Type 0
+  ColdShape bs = Cold (u16_at bs SHAPE_ISSUES)
+
+  issues_of_shape : u16_at (shape_bytes r.start r.end r.issues shape) SHAPE_ISSUES ≡ issues
+  unfolding shape_bytes fit_bytes measure_bytes f32s_bytes shape_of list_of
+  issues_of_shape = le16_back issues joined.1
+
+  shaped_cold : (b : Bool) → Writes ColdShape (cond b (refused Unvoiced 0) (written (shape_bytes r.start r.end r.issues shape)))
+  shaped_cold true = tt
+  shaped_cold false = rw issues_of_shape joined.0
+
+  shape_cold : Writes ColdShape (shape_outcome s)
+  unfolding shape_outcome
+  shape_cold = rw loads (shaped_cold (ltb extent.count 3))
+
+pub cold_measured : ColdMeasured
+cold_measured held s bs q loads cold = (λ e. subst (Writes ColdRecord) e (judge_cold s q loads cold held), λ e. subst (Writes ColdRecord) e (judge_sheet_cold s q loads cold held))
+
+pub cold_shaped : ColdShaped
+cold_shaped s bs q loads cold e = subst (Writes (ColdShape s q loads cold)) e (shape_cold s q loads cold)
