@@ -1,7 +1,7 @@
 -- Loops of which every turn is known: counted, for all, for any, and to their end without a stop. Assumes nothing.
-use Rattle.std.proofs.Common.{ℕ, zero, suc, ◌+◌, ◌-◌, ◌≤◌, ◌<◌, ◌≡◌, refl, sym, ◌∙◌, Bool, true, false, ◌&&◌, ◌||◌, arith, eqb, eqb-true}
+use Rattle.std.proofs.Common.{ℕ, zero, suc, ◌+◌, ◌≤◌, ◌<◌, ◌≡◌, refl, sym, ◌∙◌, Bool, true, false, ◌&&◌, ◌||◌, arith, eqb, eqb-true}
 use borrow.Author.Tests.{eqb-false}
-use Rattle.tonekit_core.specs.Loop.{Turn, next, turns, range, range_to}
+use Rattle.tonekit_core.specs.Loop.{Turn, next, range, range_to}
 use Rattle.tonekit_core.proofs.LoopLaws.{to_again, to_ended, range_keeps}
 use Rattle.tonekit_core.proofs.Split.{split, both}
 
