@@ -1,5 +1,5 @@
 -- Worked registers, computed; the patterns are those that the Rust's operations give.
-use Rattle.std.specs.Prelude.{ℕ, ◌≡◌, refl, Bool, true, false, List, [], ◌∷◌, ◌++◌, pos, Float, Some, None}
+use Rattle.std.specs.Prelude.{ℕ, ◌≡◌, refl, Bool, true, false, List, [], ◌∷◌, ◌++◌, pos, negsuc, Float, Some, None}
 use Rattle.std.specs.Float.{nan, fin, binary32, binary64, float_with_sign, is_sign_negative}
 use Rattle.std.specs.Float.Ieee.{add, sub, mul, div, lt, le, eq, neg, of_bits, of_int, round}
 use Rattle.tonekit_core.specs.Loop.{while, while_if, range, turns}
@@ -54,11 +54,14 @@ not_pushed : at_least_min_span (ends (f32 0xc000_0000) (f32 0x3fff_fffe)) ≡ en
 unfolding at_least_min_span while while_if narrowed float_with_sign add sub mul round neg lt le eq of_bits of_int
 not_pushed = refl
 
--- 4 st are wide enough, and kept; a register that is no number is kept
+-- 4 st are wide enough, and kept, also where only the difference as f32 is 4; less is widened about the middle; of a
+-- register that is no number neither is said
 wide_enough : (at_least_min_span (ends (f32 0x4120_0000) (f32 0x4160_0000)) ≡ ends (f32 0x4120_0000) (f32 0x4160_0000))
+    × (at_least_min_span (ends (f32 0xc000_0000) (f32 0x3fff_ffff)) ≡ ends (f32 0xc000_0000) (f32 0x3fff_ffff))
     × (at_least_min_span (ends (f32 0x40a0_0000) (f32 0x40a0_0000)) ≡ ends (f32 0x4040_0000) (f32 0x40e0_0000))
+    × (at_least_min_span (ends nan nan) ≡ ends nan nan)
 unfolding at_least_min_span while while_if narrowed float_with_sign add sub mul round neg lt le eq of_bits of_int
-wide_enough = (refl, refl)
+wide_enough = (refl, refl, refl, refl)
 
 -- 90, 150 and 250 Hz; what a register is of no frames
 fallback : cold_register [] ≡ record { floor = f32 0x4108_6a2c; median = f32 0x418a_f4c0; ceil = f32 0x41d1_b46b }
@@ -91,6 +94,11 @@ rest = 50 ∷ 0 ∷ 0 ∷ 0 ∷ 220 ∷ 66 ∷ 0 ∷ 0 ∷ 128 ∷ 63 ∷ []
 voiced_alone : voiced_st (low ++ (rest ++ tone)) 3 ≡ fin false 0 (pos 0) ∷ twelve ∷ []
 unfolding voiced_st range turns frame_at hz_to_st log2_of log_by parts_of centred series log_horner narrowed add sub mul div lt of_bits of_int round
 voiced_alone = refl
+
+-- 165 Hz: the f64 of its semitones has more digits than an f32
+of_165 : voiced_st (50 ∷ 1 ∷ 0 ∷ 0 ∷ 37 ∷ 67 ∷ 0 ∷ 0 ∷ 128 ∷ 63 ∷ []) 1 ≡ fin false 4985861 (negsuc 17) ∷ []
+unfolding voiced_st range turns frame_at hz_to_st log2_of log_by parts_of centred series log_horner narrowed add sub mul div lt of_bits of_int round
+of_165 = refl
 
 -- a query of five frames, its span frames 3 and 4, LowSnr among its issues, floor and ceiling no numbers
 abbrev asked : Bool → Query
