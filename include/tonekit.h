@@ -67,7 +67,7 @@ enum {
 /* The largest inputs that load, and the outputs, in bytes. */
 #define TONEKIT_PACK_MAX 7018
 #define TONEKIT_SHEET_MAX 13338
-#define TONEKIT_QUERY_MAX 10286
+#define TONEKIT_QUERY_MAX 10287
 #define TONEKIT_SHAPE_SIZE 124
 #define TONEKIT_JUDGEMENT_SIZE 64
 
@@ -101,8 +101,10 @@ enum {
 #define TONEKIT_COMPONENT_SIZE 45
 #define TONEKIT_REFUSAL_SIZE 6
 
-/* A query is the record below, 46 bytes of kind 48, and then as many frames as it counts. */
+/* A query is the record below, 46 bytes of kind 48, and then as many frames as it counts. Of a speaker without a register it is
+ * cold: between the two stands one byte of kind 55, so that it is TONEKIT_COLD_SIZE longer and its frames begin a byte later. */
 #define TONEKIT_QUERY_RECORD_SIZE 46
+#define TONEKIT_COLD_SIZE 1
 #define TONEKIT_FRAME_SIZE 10
 #define TONEKIT_QUERY_SIZE(frames) (TONEKIT_QUERY_RECORD_SIZE + TONEKIT_FRAME_SIZE * (frames))
 
@@ -129,7 +131,8 @@ enum {
     TONEKIT_KIND_JUDGEMENT = 49,
     TONEKIT_KIND_FRAME = 50,
     TONEKIT_KIND_SHAPE = 51,
-    TONEKIT_KIND_REFUSAL = 52      /* written by the programs, not by the calls */
+    TONEKIT_KIND_REFUSAL = 52,     /* written by the programs, not by the calls */
+    TONEKIT_KIND_COLD = 55         /* straight after the query's record, or not there: the register is taken from the frames */
 };
 
 /* Offsets in a pack's records. */
@@ -186,7 +189,9 @@ enum {
     TONEKIT_COMPONENT_POINTS = 5   /* 10 f32, evenly spaced in time */
 };
 
-/* Offsets in a query's record. */
+/* Offsets in a query's record. In a cold query floor and ceiling are not looked at, whatever their bits: the register is from 2
+ * semitones below the 5th percentile to 2 above the 95th of all its voiced frames, also those outside the span, and at least 4
+ * semitones wide; and TONEKIT_ISSUE_COLD_START_REGISTER joins the issues. */
 enum {
     TONEKIT_QUERY_ACCENT = 1,      /* u8: the accent to grade by */
     TONEKIT_QUERY_TONE = 2,        /* u8: the tone expected */
@@ -214,7 +219,7 @@ enum {
     TONEKIT_ISSUE_LOW_SNR = 0x0002,             /* tolerances are 1.5 times as wide, and there are no deltas */
     TONEKIT_ISSUE_CLIPPED = 0x0004,             /* tolerances are 1.5 times as wide */
     TONEKIT_ISSUE_TOO_SHORT = 0x0008,           /* added under 8 frames of voiced part: onset and offset alone count */
-    TONEKIT_ISSUE_COLD_START_REGISTER = 0x0010, /* tolerances are 1.5 times as wide */
+    TONEKIT_ISSUE_COLD_START_REGISTER = 0x0010, /* tolerances are 1.5 times as wide; added to those of a cold query */
     TONEKIT_ISSUE_INVALID_REGISTER = 0x0020,
     TONEKIT_ISSUE_INVALID_EVIDENCE = 0x0040,    /* alone, where nothing was measured: the contour is not finite */
     TONEKIT_ISSUE_NO_NUCLEUS = 0x0080,
@@ -237,7 +242,7 @@ enum {
     TONEKIT_SHAPE_DURATION = 110,  /* f32, ms: of the span */
     TONEKIT_SHAPE_FRACTION = 114,  /* f32: voiced frames over the span's frames */
     TONEKIT_SHAPE_CONFIDENCE = 118,/* f32: mean TONEKIT_FRAME_PROBABILITY of the voiced frames */
-    TONEKIT_SHAPE_ISSUES = 122     /* u16: the query's, and TONEKIT_ISSUE_TOO_SHORT */
+    TONEKIT_SHAPE_ISSUES = 122     /* u16: the query's, with TONEKIT_ISSUE_TOO_SHORT and TONEKIT_ISSUE_COLD_START_REGISTER */
 };
 
 /* Offsets in the record of a judgement, kind 49. */

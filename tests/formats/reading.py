@@ -7,7 +7,7 @@ from tables import f32
 
 TONE, ACCENT, RULE, PART, END, TAIL = 2, 3, 4, 5, 6, 7
 SHEET_TONE, SHEET_ACCENT, ROW, LIST, COMPONENT, SHEET_END, SHEET_TAIL = 18, 19, 20, 21, 22, 23, 24
-QUERY, FRAME = 48, 50
+QUERY, FRAME, COLD = 48, 50, 55
 
 
 class Refused(Exception):
@@ -66,22 +66,26 @@ class Reader:
 
     def may_follow(self):
         """The kinds due here, None for the end: what the table has after the last kind, but the counted kind while some are missing
-        and only then."""
+        and only then; kind 55 in either case."""
         last = self.records[-1][1][0] if self.records else 0
         due = self.formats.after[self.name][last]
-        if last not in (QUERY, FRAME, SHEET_ACCENT, ROW, COMPONENT):
+        if last not in (QUERY, COLD, FRAME, SHEET_ACCENT, ROW, COMPONENT):
             return due
-        if last in (QUERY, FRAME):
+        if last in (QUERY, COLD, FRAME):
             counted, missing = FRAME, self.formats.get(self.records[0][1], 'frame count') - len(self.of(FRAME))
         elif last == COMPONENT:
             counted, missing = COMPONENT, self.formats.get(self.last(LIST), 'component count') - self.since
         else:
             counted, missing = ROW, self.rows_due() - len(self.of(ROW))
-        return [kind for kind in due if (kind == counted) == (missing > 0) or last == SHEET_ACCENT]
+        return [kind for kind in due if (kind == counted) == (missing > 0) or last == SHEET_ACCENT or kind == COLD]
+
+    def over(self, due):
+        """Whether the last record was read: the input may end here, and nothing else that is due stands here."""
+        return None in due and self.data[self.at:self.at + 1] not in [bytes([kind]) for kind in due if kind]
 
     def read(self):
         """Every record of the input; a Refused where one is refused."""
-        while (due := self.may_follow()) != [None]:
+        while not self.over(due := self.may_follow()):
             if self.at >= len(self.data):
                 raise Refused(2, self.at)
             kind = self.data[self.at]

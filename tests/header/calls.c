@@ -24,7 +24,7 @@ static void limits(void)
                                    + TONEKIT_ACCENTS_MAX * TONEKIT_SHEET_ACCENT_SIZE + TONEKIT_ROWS_MAX * TONEKIT_ROW_SIZE
                                    + TONEKIT_LISTS_MAX * TONEKIT_LIST_SIZE + TONEKIT_COMPONENTS_MAX * TONEKIT_COMPONENT_SIZE
                                    + TONEKIT_END_SIZE);
-    check("the longest query", TONEKIT_QUERY_MAX == TONEKIT_QUERY_SIZE(TONEKIT_FRAMES_MAX));
+    check("the longest query", TONEKIT_QUERY_MAX == TONEKIT_QUERY_SIZE(TONEKIT_FRAMES_MAX) + TONEKIT_COLD_SIZE);
     check("the most rows", TONEKIT_ROWS_MAX == TONEKIT_ACCENTS_MAX * TONEKIT_TONES_MAX * (TONEKIT_TONES_MAX + 1));
 }
 
@@ -108,6 +108,33 @@ static void which_input(void)
               && answered(tonekit_check_pack(pack.bytes, pack.length, &n), &n, TONEKIT_ACCEPTED, 0));
 }
 
+/* The sample's query as a cold one: kind 55 behind its record, floor and ceiling of any bits. */
+static void cold(void)
+{
+    static uint8_t asked[TONEKIT_QUERY_MAX + 1];
+    uint8_t out[TONEKIT_SHAPE_SIZE], again[TONEKIT_JUDGEMENT_SIZE];
+    uint64_t n, length = query.length + TONEKIT_COLD_SIZE;
+    memcpy(asked, query.bytes, TONEKIT_QUERY_RECORD_SIZE);
+    memset(asked + TONEKIT_QUERY_FLOOR, 0xFF, 8);
+    asked[TONEKIT_QUERY_RECORD_SIZE] = TONEKIT_KIND_COLD;
+    memcpy(asked + TONEKIT_QUERY_RECORD_SIZE + TONEKIT_COLD_SIZE, query.bytes + TONEKIT_QUERY_RECORD_SIZE,
+           query.length - TONEKIT_QUERY_RECORD_SIZE);
+    check("a cold query loads", answered(tonekit_check_query(asked, length, &n), &n, TONEKIT_ACCEPTED, 0));
+    check("its shape says that the register is a first estimate",
+          answered(tonekit_write_shape(asked, length, out, sizeof out, &n), &n, 0, TONEKIT_SHAPE_SIZE)
+              && out[TONEKIT_SHAPE_ISSUES] == TONEKIT_ISSUE_COLD_START_REGISTER);
+    check("so does its record from the pack, and it is measured",
+          answered(tonekit_judge(pack.bytes, pack.length, asked, length, out, sizeof out, &n), &n, 0, TONEKIT_JUDGEMENT_SIZE)
+              && out[TONEKIT_ISSUES] == TONEKIT_ISSUE_COLD_START_REGISTER && out[TONEKIT_MEASURED] == TONEKIT_PARTIAL);
+    check("its record from the sheet is the same",
+          answered(tonekit_judge_sheet(sheet.bytes, sheet.length, asked, length, again, sizeof again, &n), &n, 0,
+                   TONEKIT_JUDGEMENT_SIZE)
+              && memcmp(again, out, sizeof again) == 0);
+    asked[TONEKIT_QUERY_RECORD_SIZE + TONEKIT_COLD_SIZE] = TONEKIT_KIND_COLD;
+    check("a second kind 55 is not due",
+          answered(tonekit_check_query(asked, length, &n), &n, TONEKIT_MISPLACED, TONEKIT_QUERY_RECORD_SIZE + TONEKIT_COLD_SIZE));
+}
+
 int main(int count, char **names)
 {
     if (count != 3) {
@@ -124,5 +151,6 @@ int main(int count, char **names)
     buffers();
     nothing();
     which_input();
+    cold();
     return failures != 0;
 }
