@@ -47,6 +47,8 @@ def put(folder, name, data):
 
 
 PACK, SHEET, QUERY = (content('examples', f'sample.{of}') for of in ('pack', 'sheet', 'query'))
+# The sample's query as a cold one, kind 55 behind its record.
+COLD = QUERY[:46] + b'\x37' + QUERY[46:]
 CSV, TEXT = content('examples', 'sample.csv').decode(), content('examples', 'sample.pack.txt').decode()
 # What makes the sample's query of a track.
 SAID = ['--accent', '2', '--tone', '3', '--prev', '4', '--final', '--floor', '7', '--ceil', '19']

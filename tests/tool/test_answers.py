@@ -10,8 +10,8 @@ import sys
 import zipfile
 
 import harness
-from harness import (CSV, ENVIRONMENT, PACK, PROGRAMS, QUERY, SAID, SHEET, TEXT, changed, expect, f32, folder, listing, put,
-                     tonekit)
+from harness import (COLD, CSV, ENVIRONMENT, PACK, PROGRAMS, QUERY, SAID, SHEET, TEXT, changed, expect, f32, folder, listing,
+                     put, tonekit)
 from test_inputs import RECORD, prepared
 from test_machine import program
 
@@ -56,6 +56,38 @@ def test_words_of_a_judgement():
         low = sample.query(1, 1, 0, 0, [82.0] * 30)
         words = tonekit('judge', '--pack', 'pack', put(at, 'low', low), cwd=at).out.decode()
         expect('advice is told', 'StartHigher' in words and 'start higher' in words and 'Chao' in words, words)
+
+
+def test_cold_query():
+    """Of a new speaker: pack and sheet give one record, with ColdStartRegister, whatever floor and ceiling; 11 tells its frames."""
+    with folder() as at:
+        prepared(at)
+        put(at, 'cold', COLD)
+        put(at, 'odd', changed(COLD, 13, b'\xff' * 8))
+        quiet = sample.query(3, 2, 4, 1, [None] * 8)
+        put(at, 'quiet', quiet[:46] + b'\x37' + quiet[46:])
+        for by in ('pack', 'sheet'):
+            for of in ('cold', 'odd'):
+                tonekit('judge', f'--{by}', by, of, '-o', f'{of}-by-{by}', cwd=at)
+        made = {name: data for name, data in listing(at).items() if '-by-' in name}
+        expect('one record', len(made) == 4 and len(set(made.values())) == 1 and made['cold-by-pack'] != RECORD, made)
+        words = ' '.join(tonekit('judge', '--pack', 'pack', 'cold', cwd=at).out.decode().split())
+        expect('its words', 'measured partial' in words and 'issues ColdStartRegister' in words, words)
+        words = ' '.join(tonekit('shape', 'cold', cwd=at).out.decode().split())
+        expect("its shape's words", 'issues ColdStartRegister' in words, words)
+        done = tonekit('judge', '--pack', 'pack', 'quiet', cwd=at)
+        expect('11 of a cold query', done.status == 1 and 'has 8 frames; its span, from 0 to 8, has 0 with a' in done.err, done)
+        words = tonekit('show', 'cold', cwd=at).out.decode()
+        for told in ('cold: a query: 1 cold register, 30 frames, 347 bytes',
+                     "    46  cold register: floor and ceiling are those of all voiced frames; the record's are not read",
+                     '    47  frame 0: voiced yes', '   337  frame 29: '):
+            expect(f'shown: {told!r}', told in words, words)
+        read = json.loads(tonekit('show', '--json', 'cold', cwd=at).out)
+        expect('as JSON', read['records'][1] == {'offset': 46, 'kind': 55, 'name': 'cold register', 'fields': {}}
+               and read['refused'] is None, read['records'][:2])
+        done = tonekit('check', 'cold', 'query', cwd=at)
+        expect('checked', done.status == 0 and b'loads, a query: 1 cold register, 30 frames' in done.out
+               and b'loads, a query: 30 frames' in done.out, done)
 
 
 def rows(done):

@@ -4,7 +4,7 @@ import itertools
 import random
 import struct
 
-from harness import PACK, QUERY, SHEET, changed, expect, f32, header_constants
+from harness import COLD, PACK, QUERY, SHEET, changed, expect, f32, header_constants
 from packs import Packs, joined
 
 from tonekit_tool import explain, programs
@@ -50,7 +50,8 @@ def test_table_and_check_agree():
     chance, packs = random.Random(4), Packs(random.Random(6))
     seen, differ = {}, []
     for i in range(COUNT):
-        of, data = chance.choice([('pack', PACK), ('pack', joined(packs.records())), ('sheet', SHEET), ('query', QUERY)])
+        of, data = chance.choice([('pack', PACK), ('pack', joined(packs.records())), ('sheet', SHEET), ('query', QUERY),
+                                  ('query', COLD)])
         data = damaged(chance, data)
         fault = wrong(of, data)
         refusal = programs.check(of, data)
@@ -115,6 +116,27 @@ def test_tails():
                and 'not of a size of at most 50' in words, words)
     for value, at in itertools.product((50, -50, 0.0, -0.0), (178, 182)):
         expect(f'a tail of {value} loads', programs.check('pack', changed(PACK, at, f32(value))) is None)
+
+
+def test_cold_registers():
+    """Kind 55 where it is not due, or behind the query: what stands there is told, and where it belongs."""
+    once, cold = 'a cold register stands once, straight after the record of the query', b'\x37'
+    none = COLD[:44] + bytes(2) + cold
+    for name, data, number, place, told in [
+            ('a second one', COLD[:47] + cold + COLD[47:], 1, 47, f'stands after the cold register: {once}'),
+            ('one after a frame', QUERY[:56] + cold + QUERY[56:], 1, 56, f'of a query, stands after frame 0: {once}'),
+            ('one behind the last frame', QUERY + cold, 3, 346, f'1 bytes are left; {once}'),
+            ('a second one without frames', none + cold, 3, 47, f'1 bytes are left; {once}'),
+            ('a frame of another kind behind it', changed(COLD, 47, b'\x33'), 1, 47, 'stands after the cold register'),
+            ('no frame behind it', COLD[:47], 2, 47, 'the input ends after the cold register'),
+            ('a frame cut behind it', COLD[:60], 2, 57, 'has 10 bytes, of which 3 are left'),
+            ('a flag behind it', changed(COLD, 58, b'\x07'), 10, 57, '(frame 1): a field of the query is outside its range; by the '
+             'table of layouts, voiced is 7, not 0 or 1')]:
+        refusal = programs.check('query', data)
+        words = refusal and explain.told(refusal, data, 'query')
+        expect(f'a cold query, {name}', refusal == (number, place) and told in words, words)
+    for data in (COLD, none):
+        expect(f'a cold query of {len(data)} bytes loads', programs.check('query', data) is None)
 
 
 def spelt(name):

@@ -4,7 +4,7 @@ import random
 import subprocess
 
 import harness
-from harness import PACK, QUERY, SHEET, content, expect, header_constants
+from harness import COLD, PACK, QUERY, SHEET, content, expect, header_constants
 from packs import Packs, joined
 
 import sheet_text_reader
@@ -36,7 +36,7 @@ def test_offsets_are_the_headers():
             name = prefix + OTHERS[number].get(field.name, field.name.upper())
             if name in offsets:
                 expect(f'{name} of the header', offsets[name] == field.offset, f'{offsets[name]}, in the table {field.offset}')
-    for number, size in ((48, 'QUERY_RECORD'), (50, 'FRAME'), (51, 'SHAPE'), (49, 'JUDGEMENT')):
+    for number, size in ((48, 'QUERY_RECORD'), (50, 'FRAME'), (51, 'SHAPE'), (49, 'JUDGEMENT'), (55, 'COLD')):
         expect(f'size of kind {number}', f'TONEKIT_{size}_SIZE {KINDS[number].size}\n' in header)
 
 
@@ -62,7 +62,8 @@ def test_generated_values_are_read():
 
 
 def test_records_are_written_as_read():
-    for name, data in (('pack', PACK), ('sheet', SHEET), ('query', QUERY)):
+    odd = COLD[:13] + bytes.fromhex('0100c0ff000080ff') + COLD[21:]
+    for name, data in (('pack', PACK), ('sheet', SHEET), ('query', QUERY), ('cold query', COLD), ('cold query, odd', odd)):
         again = b''.join(encode(record.kind, record.values) for record in records(data))
         expect(f'the sample {name} is written as it is read', again == data)
 

@@ -2,7 +2,7 @@
 refused."""
 import struct
 
-from harness import CSV, QUERY, SAID, expect, expect_refused, f32, folder, put, tonekit
+from harness import COLD, CSV, QUERY, SAID, expect, expect_refused, f32, folder, put, tonekit
 
 import sample
 
@@ -112,6 +112,24 @@ def test_options():
     expect('--part', part[44:46] == count and part[9:13] == count + b'\0\0' and part[46:] == QUERY[46 + 20:46 + 100], done)
     quiet, done = query_of(csv_of([0.2 if i < 5 else 0.9 for i in range(30)]), '--voiced-from', '0.5')
     expect('--voiced-from', [quiet[47 + 10 * i] for i in range(7)] == [0] * 5 + [1, 1], done)
+
+
+def test_cold():
+    """In place of a register: kind 55 behind the record, floor and ceiling zero bytes."""
+    new = SAID[:SAID.index('--floor')] + ['--cold']
+    wanted = COLD[:13] + bytes(8) + COLD[21:]
+    for more, place, other in [([], 0, b''), (['--issue', 'ColdStartRegister'], 21, b'\x10'),
+                               (['--span', '3', '9'], 5, struct.pack('<II', 3, 9))]:
+        done = tonekit('query', '-', '-o', '-', *new, *more, data=CSV.encode())
+        expect(f'--cold {more}', done.out == wanted[:place] + other + wanted[place + len(other):], done)
+    most = ''.join(f'{i / 100},110\n' for i in range(1024))
+    done = tonekit('query', '-', '-o', '-', *new, data=most.encode())
+    expect('1,024 frames of a new speaker', len(done.out) == 47 + 10240 and done.out[46:48] == b'\x37\x32', done)
+    for words, told in [(SAID + ['--cold'], '--cold: not allowed with argument --floor'),
+                        (new + ['--ceil', '19'], '--cold: not allowed with argument --ceil'), (new[:-1], 'required: --floor, --ceil (or'),
+                        (SAID[:-2], 'required: --ceil (or --cold')]:
+        done = tonekit('query', '-', '-o', '-', *words, data=CSV.encode())
+        expect(f'{words}', done.status == 2 and told in done.err and 'usage: tonekit' in done.err and not done.out, done)
 
 
 STEPS = [

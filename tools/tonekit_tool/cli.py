@@ -133,8 +133,11 @@ def add_query(parsers):
     query.add_argument('--prev', type=number(255), default=0, metavar='N', help='the tone before; none if not said')
     query.add_argument('--final', action='store_const', const=1, default=0, help='at the end of a phrase')
     for name, what in (('--floor', 'lowest'), ('--ceil', 'highest')):
-        query.add_argument(name, type=told(semitones), required=True, metavar='ST',
+        query.add_argument(name, type=told(semitones), metavar='ST',
                            help=f"the {what} pitch of the speaker's register, in semitones above 55 Hz, or in Hz as 110Hz")
+    query.add_argument('--cold', action='store_true', help="in place of --floor and --ceil: a new speaker, whose register is "
+                       "taken from all frames of the query")
+    query.set_defaults(run=lambda args: commands.query(with_register(query, args)))
     query.add_argument('--span', type=number(2 ** 32 - 1), nargs=2, metavar=('START', 'END'),
                        help='the first frame of the syllable and the one after its last; all frames if not said')
     query.add_argument('--part', type=finite, nargs=2, metavar=('START', 'END'),
@@ -143,6 +146,16 @@ def add_query(parsers):
     query.add_argument('--issue', type=issue, action='append', dest='issues', default=[], metavar='NAME', help=', '.join(ISSUES))
     query.add_argument('--variant', nargs=2, action=Variant, dest='variants', default=[], metavar=('TONE', 'WEIGHT'),
                        help=f'another tone that the word may have, and its weight; at most {MOST_VARIANTS}')
+
+
+def with_register(parser, args):
+    """The arguments of a query, which have both ends of the register or neither: none where it is cold."""
+    ends = [f'--{name}' for name in ('floor', 'ceil') if (getattr(args, name) is None) != args.cold]
+    if ends and args.cold:
+        parser.error(f'argument --cold: not allowed with argument {ends[0]}')
+    if ends:
+        parser.error(f'the following arguments are required: {", ".join(ends)} (or --cold, of a new speaker)')
+    return args
 
 
 def add_plot(parsers):

@@ -38,15 +38,23 @@ def misplaced(place, data, of, found, at):
     kind = f'a record of kind {record.number}, {name}, stands {after(found, at)}'
     if place == 0:
         return kind + ('; the file looks like text' if looks_like_text(data) else '')
-    return kind + about_tails(of, record, found[at - 1])
+    more = about_cold(of, record) or about_tails(of, record, found[at - 1])
+    return kind + (f': {more}' if more else '')
+
+
+def about_cold(of, record):
+    """Where kind 55 stands, if that is why a record is misplaced or surplus."""
+    if of == 'query' and record.kind and record.kind.name == 'cold register':
+        return 'a cold register stands once, straight after the record of the query'
+    return ''
 
 
 def about_tails(of, record, before):
     """Where tails stand, if that is why a record is misplaced."""
     if record.kind and record.kind.name == 'tail' and record.kind.format == of:
-        return ': a tail stands straight after its tone, which has one' + (' at most' if of == 'pack' else '')
+        return 'a tail stands straight after its tone, which has one' + (' at most' if of == 'pack' else '')
     if of == 'sheet' and before.kind and before.kind.name == 'tone':
-        return ': in a sheet each tone is followed by its tail, kind 24'
+        return 'in a sheet each tone is followed by its tail, kind 24'
     return ''
 
 
@@ -61,7 +69,8 @@ def cut_short(place, data, of, found, at):
 def overrun(place, data, of, found, at):
     # No more than that is read of a file.
     more = ' or more' if len(data) == ENOUGH else ''
-    return f'the {of} ends before it, and {len(data) - place}{more} bytes are left'
+    cold = at is not None and about_cold(of, found[at])
+    return f'the {of} ends before it, and {len(data) - place}{more} bytes are left' + (f'; {cold}' if cold else '')
 
 
 def looks_like_text(data):
@@ -188,7 +197,7 @@ def in_context(refusal, query, held_data):
 
 
 def voiced_words(asked, query):
-    frames = [r.values for r in records(query)[1:]]
+    frames = [r.values for r in records(query) if r.kind.name == 'frame']
     within = frames[asked['start']:asked['end']]
     voiced = sum(f['voiced'] == 1 and 0 < f['hz'] < float('inf') for f in within)
     return f'the query has {len(frames)} frames; its span, from {asked["start"]} to {asked["end"]}, has {voiced} with a pitch'

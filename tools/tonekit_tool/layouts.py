@@ -55,7 +55,8 @@ class Field(NamedTuple):
 
 class Kind(NamedTuple):
     """A kind of record. `most` is how many of it a file may have, `within` the kind of record that counts them anew and how many
-    it may have; `rules` are (refusal, field, words, whether the values and those of the record above keep it)."""
+    it may have; `rules` are (refusal, field, words, whether the values and those of the record above keep it); `meaning` is what
+    a record without fields says."""
     number: int
     name: str
     format: str
@@ -64,6 +65,7 @@ class Kind(NamedTuple):
     most: int = 0
     within: Tuple = ()
     rules: Tuple = ()
+    meaning: str = ''
 
 
 FINALS = ('any', 'no', 'yes')
@@ -193,6 +195,8 @@ QUERY = (
         Field(24, 'u8', 'variant_tones', 'variant tones', times=4, stride=5, counted='variant_count'),
         Field(25, 'f32', 'variant_weights', 'variant weights', times=4, stride=5, counted='variant_count'),
         Field(44, 'u16', 'frame_count', 'frames', limit=1024))),
+    Kind(55, 'cold register', 'query', 1, (),
+         meaning="floor and ceiling are those of all voiced frames; the record's are not read"),
     Kind(50, 'frame', 'query', 10, (
         Field(1, 'u8', 'voiced', 'voiced', FLAG, names=FINAL_FLAG),
         Field(2, 'f32', 'hz', 'hz'),

@@ -5,7 +5,7 @@ from .floats import F32, NotANumber, parsed
 from .layouts import ISSUES, KINDS, encode
 from .tracks import TrackFault
 
-RECORD, FRAME = KINDS[48], KINDS[50]
+RECORD, FRAME, COLD = KINDS[48], KINDS[50], KINDS[55]
 MOST_FRAMES = next(field.limit for field in RECORD.fields if field.name == 'frame_count')
 MOST_VARIANTS = next(field.limit for field in RECORD.fields if field.name == 'variant_count')
 REFERENCE_HZ = 55.0
@@ -42,13 +42,14 @@ def frame_bytes(frame):
 
 
 def make_query(frames, said):
-    """The query of these frames; `said` has the fields that a person chooses."""
+    """The query of these frames; `said` has the fields that a person chooses. Of a new speaker floor and ceiling are zero bytes."""
     if len(frames) > MOST_FRAMES:
         raise TrackFault(f'the track has {len(frames)} frames, and a query at most {MOST_FRAMES:,}: take a part with --part')
     start, end = said['span'] or (0, len(frames))
-    values = {name: said[name] for name in ('accent', 'tone', 'prev', 'final', 'floor', 'ceil')}
+    values = {name: said[name] for name in ('accent', 'tone', 'prev', 'final')}
+    values.update({} if said['cold'] else {name: said[name] for name in ('floor', 'ceil')})
     variants = said['variants']
     values.update(start=start, end=end, issues=issue_bits(said['issues']), variant_count=len(variants),
                   variant_tones=[tone for tone, _ in variants], variant_weights=[weight for _, weight in variants],
                   frame_count=len(frames))
-    return encode(RECORD, values) + b''.join(map(frame_bytes, frames))
+    return encode(RECORD, values) + (encode(COLD, {}) if said['cold'] else b'') + b''.join(map(frame_bytes, frames))

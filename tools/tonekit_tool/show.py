@@ -66,7 +66,7 @@ def title(found, at):
     if kind.name == 'row':
         return f'the row of accent {values["accent"]}, tone {values["tone"]}, prev {values["prev"] or "none"}'
     if kind.name == 'frame':
-        return f'frame {at - 1}'
+        return f'frame {at - sum(before.number != kind.number for before in found[:2])}'
     return f'the {kind.name}'
 
 
@@ -80,7 +80,7 @@ def line(found, at):
     """A record in one line."""
     kind, values = found[at].kind, found[at].values
     fields = [field for field in shown(kind) if field.name != own_number(kind) and (used(field, values) or not field.when)]
-    words = ', '.join(f'{field.word} {field_words(field, values)}' for field in fields)
+    words = ', '.join(f'{field.word} {field_words(field, values)}' for field in fields) or kind.meaning
     return f'{found[at].offset:6}  {head(found, at)}' + (f': {words}' if words else '')
 
 
@@ -116,13 +116,15 @@ def in_short(record):
 
 
 COUNTED = {'pack': ('tone', 'tail', 'accent', 'rule', 'part'), 'sheet': ('tone', 'accent', 'row', 'list', 'component'),
-           'query': ('frame',)}
+           'query': ('cold register', 'frame')}
+# Of these a file may have none.
+OPTIONAL = ('tail', 'cold register')
 
 
 def summary(of, found, length):
-    """What a file of a format has, in a line; tails only where a pack has some."""
+    """What a file of a format has, in a line; what is optional only where there is some."""
     counts = [(name, sum(r.kind is not None and r.kind.name == name for r in found)) for name in COUNTED[of]]
-    said = [f'{n} {name}{"" if n == 1 else "s"}' for name, n in counts if n or name != 'tail']
+    said = [f'{n} {name}{"" if n == 1 else "s"}' for name, n in counts if n or name not in OPTIONAL]
     return f'a {of}: ' + ', '.join(said) + f', {length} bytes'
 
 
