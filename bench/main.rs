@@ -58,6 +58,11 @@ fn query(frames: u16, accent: u8, prev: u8) -> Bytes {
     keep(q)
 }
 
+/// The query as a new speaker's: kind 55 behind its record, so that floor and ceiling are those of its frames.
+fn cold(query: Bytes) -> Bytes {
+    keep([&query[..46], &[55], &query[46..]].concat())
+}
+
 /// A knot count and so many knots, on a line that rises by step.
 fn curve(p: &mut Vec<u8>, knots: u8, step: f32) {
     p.push(knots);
@@ -267,6 +272,22 @@ fn table() -> Table {
     }
     for n in FRAMES {
         t.judging(frames("judge-64", n), large, query(n, 8, 1));
+    }
+    for n in FRAMES {
+        let q = cold(query(n, 1, 0));
+        t.add(
+            frames("shape-cold", n),
+            write(tonekit_write_shape, q),
+            [("Rust", answer(move || oracle::shape(q)))],
+        );
+    }
+    for n in FRAMES {
+        let q = cold(query(n, 1, 0));
+        t.add(
+            frames("judge-5-cold", n),
+            judge(tonekit_judge, small, q),
+            [("Rust", answer(move || oracle::judge(small, q)))],
+        );
     }
     for rules in RULES {
         t.judging(work("judge", "rules", rules, 1), pack(8, 5, 8, rules, false), query(8, 8, 1));

@@ -20,7 +20,7 @@ CALLS = {1: 'check_pack', 2: 'check_query', 3: 'check_sheet', 4: 'write_shape', 
 CHECK_PACK, CHECK_QUERY, CHECK_SHEET, WRITE_SHAPE, WRITE_SHEET, JUDGE, JUDGE_SHEET = range(1, 8)
 FILES = ['checks.bin', 'shapes.bin', 'sheets.bin', 'judgements.bin', 'functions.bin']
 ARENA, BEHIND = 24576, 8
-PACK_MAX, SHEET_MAX, QUERY_MAX, SHAPE, RECORD = 7018, 13338, 10286, 124, 64
+PACK_MAX, SHEET_MAX, QUERY_MAX, SHAPE, RECORD = 7018, 13338, 10287, 124, 64
 
 
 def case(call, first, second=b'', room=0, skew=0, held=None):
@@ -131,6 +131,23 @@ def some_query(r, frames, tones=8):
     return bytes(q)
 
 
+def cold(q):
+    """The query as a new speaker's, with kind 55 behind its record."""
+    return q[:46] + bytes([55]) + q[46:]
+
+
+def cold_query(r, frames):
+    """A new speaker's query: pitches as in others, of one value, of two neighbours, or of any size; some with kind 55 where it is not due."""
+    q = bytearray(some_query(r, frames))
+    level = struct.unpack('<I', f32(r.uniform(60, 300)))[0]
+    pitch = r.choice([None, None, lambda: level, lambda: level + r.randrange(2), lambda: r.getrandbits(31)])
+    for at in range(48, len(q), 10):
+        if pitch:
+            q[at:at + 4] = struct.pack('<I', pitch())
+    q[13:21] = r.choice([q[13:21], r.randbytes(8), b'\xff' * 8])
+    return r.choice([cold(bytes(q))] * 9 + [cold(cold(bytes(q))), bytes(q[:56]) + bytes([55]) + bytes(q[56:])])
+
+
 def damaged(r, data):
     """A byte changed, the end cut off, or bytes added."""
     at = r.randrange(len(data))
@@ -142,9 +159,13 @@ def made(r, host):
     packs = [largest_pack(r), alike_pack(), alike_pack(True), heavy_pack(), PACK] + [some_pack(r) for _ in range(36)]
     queries = [some_query(r, n) for n in [1024, 1024, 1023, 0, 1, 2, 3, 7, 8, 9, 30, 200]] + [QUERY]
     queries += [some_query(r, r.randint(0, 1024)) for _ in range(30)]
+    # What was made before is made as it was, from the same source of chance; what is new has one of its own.
+    new = random.Random(3)
+    colds = [cold(q) for q in queries[:13]] + [cold_query(new, n) for n in [1024, 1024, 1023, 0, 1, 2, 3, 7, 8, 9, 30, 200]]
+    colds += [cold_query(new, new.randint(0, 1024)) for _ in range(30)]
     sheets = [out[:place] for number, place, out in answers(host, [case(WRITE_SHEET, p, room=SHEET_MAX) for p in packs]) if number == 0]
     assert len(sheets) == len(packs) and max(map(len, packs)) == PACK_MAX and max(map(len, sheets)) == SHEET_MAX
-    assert max(map(len, queries)) == QUERY_MAX
+    assert max(map(len, queries)) + 1 == QUERY_MAX
     for p, s in zip(packs, sheets):
         yield WRITE_SHEET, p, b'', 0, len(s)
         yield CHECK_PACK, p, b'', 0, 0
@@ -165,6 +186,15 @@ def made(r, host):
         for q in queries[:3]:
             yield JUDGE, p, q, 0, RECORD
             yield JUDGE_SHEET, s, q, 0, RECORD
+    for q in colds:
+        yield CHECK_QUERY, q, b'', 0, 0
+        yield WRITE_SHAPE, q, b'', 0, SHAPE
+        yield CHECK_QUERY, damaged(new, q), b'', 1, 0
+        yield WRITE_SHAPE, damaged(new, q), b'', 1, 0
+    for p, s in zip(packs, sheets):
+        q = new.choice(colds)
+        yield JUDGE, p, q, 0, RECORD
+        yield JUDGE_SHEET, s, q, 0, RECORD
 
 
 def all_cases(host, arena):

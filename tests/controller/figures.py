@@ -9,7 +9,7 @@ import subprocess
 import sys
 
 from cases import (CHECK_PACK, CHECK_QUERY, CHECK_SHEET, JUDGE, JUDGE_SHEET, RECORD, SHAPE, SHEET_MAX, WRITE_SHAPE, WRITE_SHEET,
-                   accent, alike_pack, answers, case, f32, heavy_pack, largest_pack, of_one_mark, tone)
+                   accent, alike_pack, answers, case, cold, f32, heavy_pack, largest_pack, of_one_mark, tone)
 
 MEGAHERTZ = 48
 
@@ -76,6 +76,13 @@ def figures(host=None):
         ('check_sheet, alike pack\'s sheet', case(CHECK_SHEET, sheets[2])),
         ('check_sheet, 128 lists alike', case(CHECK_SHEET, alike_sheet())),
         ('check_sheet, 128 lists of one mark', case(CHECK_SHEET, alike_sheet(True))),
+        ('judge, 30 frames of a new speaker, pack of 5 tones of one curve', case(JUDGE, FIVE, cold(query(30)), RECORD)),
+        ('judge, 1024 frames of a new speaker, pack of 5 tones of one curve', case(JUDGE, FIVE, cold(query(1024)), RECORD)),
+        ('judge_sheet, the same, that pack\'s sheet', case(JUDGE_SHEET, sheets[0], cold(query(1024)), RECORD)),
+        ('judge, 1024 frames of a new speaker, all voiced, 4 variants, heavy pack', case(JUDGE, heavy, cold(hard), RECORD)),
+        ('judge_sheet, the same, heavy pack\'s sheet', case(JUDGE_SHEET, sheets[3], cold(hard), RECORD)),
+        ('write_shape, 1024 frames of a new speaker', case(WRITE_SHAPE, cold(query(1024)), room=SHAPE)),
+        ('check_query, 1024 frames of a new speaker', case(CHECK_QUERY, cold(query(1024)))),
     ]
 
 

@@ -5,7 +5,7 @@
 use std::io;
 use tonekit_core::layout;
 
-// The space holds 2 + 65,535 + 10,287 bytes and more, so the answer is that of the whole input
+// The space holds 2 + 65,535 + 10,288 bytes and more, so the answer is that of the whole input
 // (`station_enough` of tonekit_station).
 // Stays: each program is a crate with a main of its own, and this one call is all that is left of it.
 fn main(rt: HostRuntime) -> io::Result<()> {
