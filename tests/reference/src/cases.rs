@@ -126,6 +126,7 @@ pub struct Ask {
     pub register: (f32, f32),
     pub issues: u16,
     pub variants: Vec<(u8, f32)>,
+    pub cold: bool,
     pub frames: Vec<(u8, f32, f32)>,
 }
 
@@ -141,6 +142,7 @@ impl Ask {
             register: (0.0, 12.0),
             issues: 0,
             variants: Vec::new(),
+            cold: false,
             frames,
         }
     }
@@ -158,12 +160,21 @@ impl Ask {
             floats(&mut out, &[weight]);
         }
         out.extend_from_slice(&(self.frames.len() as u16).to_le_bytes());
-        for &(flag, hz, p) in &self.frames {
-            out.extend_from_slice(&[50, flag]);
-            floats(&mut out, &[hz, p]);
+        if self.cold {
+            out.push(55);
         }
+        out.extend(frame_bytes(&self.frames));
         out
     }
+}
+
+pub fn frame_bytes(frames: &[(u8, f32, f32)]) -> Vec<u8> {
+    let mut out = Vec::new();
+    for &(flag, hz, p) in frames {
+        out.extend_from_slice(&[50, flag]);
+        floats(&mut out, &[hz, p]);
+    }
+    out
 }
 
 pub fn steady(n: usize, hz: f32) -> Vec<(u8, f32, f32)> {
@@ -490,8 +501,55 @@ pub fn some_query(r: &mut Rng, tones: &[u8], accents: &[u8]) -> Ask {
         register,
         issues,
         variants,
+        cold: false,
         frames,
     }
+}
+
+/// Frames that make a register: of one pitch, which is widened at times, of two that are nearly one, of few, of any; and how many
+/// semitones a pitch is from 55 Hz.
+pub fn cold_frames(r: &mut Rng) -> Vec<(u8, f32, f32)> {
+    let n = match r.below(8) {
+        0 => r.pick(&[1usize, 2, 3, 1023, 1024]),
+        1 => 1 + 20 * r.below(8),
+        2 => 250 + r.below(100),
+        _ => 3 + r.below(40),
+    };
+    let hz = |st: f64| (55.0 * 2f64.powf(st / 12.0)) as f32;
+    let style = r.below(8);
+    // Where the ceiling, or the floor, is a power of two and a bit more, its f32s lie twice as far apart.
+    let level = r.pick(&[6.0, 14.0, 30.0, 62.0, -8.0, -16.0, -32.0, 0.0]);
+    let base = hz(level + 2.0 * r.unit());
+    let next = f32::from_bits(base.to_bits() + 1 + r.below(3) as u32);
+    let step = r.unit() * 0.2;
+    let gaps = r.pick(&[0usize, 0, 3, 8]);
+    let frame = |i: usize, r: &mut Rng| {
+        let pitch = match style {
+            0 | 1 => base,
+            2 => r.pick(&[base, next]),
+            3 => r.pick(&[55.0f32, 110.0, 27.5, 220.0, 82.5, 41.25]),
+            4 => hz((i as f64 - n as f64 / 2.0) * step),
+            5 => r.pick(&[1e-45f32, 1e-40, 20.0, 55.0, 1e30, f32::MAX]),
+            _ => hz(40.0 * r.unit() - 12.0),
+        };
+        let flag = u8::from(gaps == 0 || !r.one_in(gaps));
+        let pitch = if r.one_in(150) { odd_float(r) } else { pitch };
+        (flag, pitch, r.pick(&[1.0f32, 0.9, 0.3, 0.1]))
+    };
+    (0..n).map(|i| frame(i, r)).collect()
+}
+
+/// The same query, but of such frames, and measured in their register.
+pub fn some_cold_query(r: &mut Rng, tones: &[u8], accents: &[u8]) -> Ask {
+    let mut ask = some_query(r, tones, accents);
+    ask.cold = true;
+    if r.one_in(2) {
+        ask.frames = cold_frames(r);
+        let n = ask.frames.len();
+        let (a, b) = (r.below(n) as u32, r.below(n + 3) as u32);
+        ask.span = r.pick(&[(0, n as u32), (0, n as u32), (0, b), (a, n as u32), (a, b)]);
+    }
+    ask
 }
 
 /// A sheet that loads and need not come from a pack: every list is named by a row.
@@ -562,6 +620,7 @@ pub fn records(bytes: &[u8]) -> Vec<Vec<u8>> {
             20 => 6,
             22 => 45,
             50 => 10,
+            // 6, 23 and 55, and what is none.
             _ => 1,
         };
         let end = (at + length).min(bytes.len());
@@ -570,6 +629,8 @@ pub fn records(bytes: &[u8]) -> Vec<Vec<u8>> {
     }
     out
 }
+
+const KINDS: [u8; 20] = [0, 1, 2, 3, 4, 5, 6, 7, 17, 18, 19, 20, 21, 22, 23, 24, 48, 50, 55, 255];
 
 /// One to three changes: a field, a kind, a record left out, doubled or moved, a cut, a surplus.
 pub fn damaged(r: &mut Rng, bytes: &[u8]) -> Vec<u8> {
@@ -602,10 +663,7 @@ pub fn damaged(r: &mut Rng, bytes: &[u8]) -> Vec<u8> {
                 let j = r.below(all.len());
                 all.swap(i, j);
             }
-            3 => {
-                record[0] =
-                    r.pick(&[0u8, 1, 2, 3, 4, 5, 6, 7, 17, 18, 19, 20, 21, 22, 23, 24, 48, 50, 255])
-            }
+            3 => record[0] = r.pick(&KINDS),
             4 | 5 if record.len() > 5 => {
                 let value = odd_float(r).to_bits().to_le_bytes();
                 let at = 1 + r.below(record.len() - 4);
@@ -636,7 +694,7 @@ pub fn damaged(r: &mut Rng, bytes: &[u8]) -> Vec<u8> {
                 record.truncate(at);
                 all.truncate(i + 1);
             }
-            9 => all.push(vec![r.pick(&[0u8, 6, 23, 50]); 1 + r.below(3)]),
+            9 => all.push(vec![r.pick(&[0u8, 6, 23, 50, 55]); 1 + r.below(3)]),
             _ => {
                 let at =
                     if r.one_in(2) { r.below(record.len()) } else { r.below(record.len().min(8)) };
@@ -659,6 +717,8 @@ pub enum Case {
     Pair(f64, f64),
     Grid([[f64; 4]; 3]),
     Knots(Vec<f32>),
+    Register(Vec<u8>),
+    Span(f32, f32),
 }
 
 fn told<T>(out: &mut Vec<u8>, answer: &Result<T, Refusal>, bytes: impl Fn(&T) -> Vec<u8>) {
@@ -680,6 +740,7 @@ impl Case {
             Case::Judge(..) | Case::JudgeSheet(..) => 1,
             Case::Query(_) => 2,
             Case::Number(_) | Case::Pair(..) | Case::Grid(_) | Case::Knots(_) => 3,
+            Case::Register(_) | Case::Span(..) => 3,
         }
     }
 
@@ -720,6 +781,8 @@ impl Case {
             }
             Case::Grid(m) => out.extend_from_slice(&crate::solve(*m).to_bits().to_le_bytes()),
             Case::Knots(k) => floats(&mut out, &crate::expand_knots(k)),
+            Case::Register(frames) => floats(&mut out, &crate::register_of(frames)),
+            Case::Span(floor, ceil) => floats(&mut out, &crate::at_least_min_span(*floor, *ceil)),
         }
         out
     }

@@ -87,7 +87,8 @@ struct Judge<'a, S: Source> {
 impl<S: Source> Judge<'_, S> {
     /// "b … is 1 if any of LowSnr, Clipped or ColdStartRegister is set and 0 otherwise"
     fn poor(&self) -> u16 {
-        let issues = self.shape.issues;
+        let late = planted(COLD_AFTER_SCORING) && self.shape.set_cold;
+        let issues = self.shape.issues & if late { !COLD_START } else { !0 };
         let set = |issue: u16| u16::from(issues & issue != 0);
         let (low, clipped, cold) = (set(LOW_SNR), set(CLIPPED), set(COLD_START));
         match () {
@@ -510,9 +511,15 @@ pub fn judge<S: Source>(source: &S, q: &Query) -> Result<Vec<u8>, Refusal> {
     if planted(ACCENT_BEFORE_UNVOICED) && accent.is_none() {
         return refuse(12, 0);
     }
-    let shape = shape?;
+    let mut shape = shape?;
+    if planted(COLD_SHAPE_ALONE) && shape.set_cold {
+        shape.issues &= !COLD_START;
+    }
+    let shape = shape;
+    let own_finite = q.floor.is_finite() && q.ceil.is_finite();
+    let usable = usable(&shape) && !(planted(COLD_OWN_FINITE) && q.cold && !own_finite);
     let tails = Tails { source, query: q, issues: shape.issues };
-    if planted(NOT_FINITE_FIRST) && !usable(&shape) {
+    if planted(NOT_FINITE_FIRST) && !usable {
         return Ok(not_measured(&tails).bytes());
     }
     if planted(PREV_BEFORE_ACCENT) && q.prev != 0 && source.tone(q.prev).is_none() {
@@ -564,7 +571,7 @@ pub fn judge<S: Source>(source: &S, q: &Query) -> Result<Vec<u8>, Refusal> {
         return refuse(13, 0);
     }
 
-    if !usable(&shape) {
+    if !usable {
         return Ok(not_measured(&tails).bytes());
     }
     let target = source.tone(q.tone).unwrap_or(0);
@@ -689,10 +696,14 @@ pub fn judge<S: Source>(source: &S, q: &Query) -> Result<Vec<u8>, Refusal> {
 
     // "measured u8 (0 full, 1 partial, 2 not), issues u16"
     record.issues = shape.issues;
+    if planted(COLD_SCORING_ALONE) && shape.set_cold {
+        record.issues &= !COLD_START;
+    }
+    let full = planted(COLD_FULL) && shape.set_cold && record.issues == COLD_START;
     record.measured = if planted(INVALID_IS_NOT_MEASURED) && shape.issues & INVALID_EVIDENCE != 0 {
         2
     } else {
-        u8::from(shape.issues != 0)
+        u8::from(record.issues != 0 && !full)
     };
     Ok(record.bytes())
 }

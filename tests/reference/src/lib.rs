@@ -1,6 +1,6 @@
-//! Document 01 once more, in Rust: packs, queries and sheets, their refusals, shapes, judgements
-//! and the sheet of a pack. Written from the document, apart from the port, and used to judge the
-//! port's answers. See README.md.
+//! Document 01 once more, in Rust, with the change requests that have landed: packs, queries and
+//! sheets, their refusals, shapes, judgements and the sheet of a pack. Written from the documents,
+//! apart from the port, and used to judge the port's answers. See README.md.
 
 #![forbid(unsafe_code)]
 
@@ -11,6 +11,7 @@ mod num;
 mod pack;
 mod plant;
 mod query;
+mod register;
 mod shape;
 mod sheet;
 
@@ -27,6 +28,7 @@ use list::{List, Source, Tone};
 use pack::Pack;
 use plant::*;
 use query::Query;
+use register::Register;
 use sheet::Sheet;
 
 /// "the number and place its table fixes"
@@ -69,7 +71,9 @@ pub fn write_sheet(pack: &[u8]) -> Result<Vec<u8>, Refusal> {
 
 /// The shape record, 124 bytes. "It is written from a query alone."
 pub fn write_shape(query: &[u8]) -> Result<Vec<u8>, Refusal> {
-    Ok(shape::extract(&Query::read(query)?)?.record())
+    let mut query = Query::read(query)?;
+    query.cold &= !planted(COLD_JUDGED_ALONE);
+    Ok(shape::extract(&query)?.record())
 }
 
 /// The judgement from a pack, 64 bytes. "Pack or sheet comes before query."
@@ -78,7 +82,9 @@ pub fn judge(pack: &[u8], query: &[u8]) -> Result<Vec<u8>, Refusal> {
         Query::read(query)?;
     }
     let pack = Pack::read(pack)?;
-    judge::judge(&pack, &Query::read(query)?)
+    let mut query = Query::read(query)?;
+    query.cold &= !planted(COLD_SHEET_ALONE);
+    judge::judge(&pack, &query)
 }
 
 /// The judgement from a sheet, 64 bytes.
@@ -87,7 +93,29 @@ pub fn judge_sheet(sheet: &[u8], query: &[u8]) -> Result<Vec<u8>, Refusal> {
         Query::read(query)?;
     }
     let sheet = Sheet::read(sheet)?;
-    judge::judge(&sheet, &Query::read(query)?)
+    let mut query = Query::read(query)?;
+    query.cold &= !planted(COLD_PACK_ALONE);
+    judge::judge(&sheet, &query)
+}
+
+/// Floor, median and ceiling of `cold_register` over the voiced frames among these, which are records of kind 50.
+pub fn register_of(frames: &[u8]) -> [f32; 3] {
+    told(register::of_values(register::voiced(frames, register::ALL)))
+}
+
+/// The same of semitones.
+pub fn cold_register(semitones: &[f32]) -> [f32; 3] {
+    told(register::of_values(semitones.iter().copied().map(f64::from).collect()))
+}
+
+/// Floor and ceiling at least 4 semitones apart.
+pub fn at_least_min_span(floor: f32, ceil: f32) -> [f32; 2] {
+    let r = register::at_least_min_span(Register { floor, median: 0.0, ceil });
+    [r.floor, r.ceil]
+}
+
+fn told(r: Register) -> [f32; 3] {
+    [r.floor, r.median, r.ceil]
 }
 
 /// What a call does to a lent buffer. "Refused calls leave buffers unaltered; accepted ones leave

@@ -1,4 +1,4 @@
-//! Document 01, "Query".
+//! Document 01, "Query", with kind 55 of change request 3.
 
 use crate::bytes::*;
 use crate::plant::*;
@@ -16,6 +16,8 @@ pub struct Query<'a> {
     pub issues: u16,
     pub variant_count: usize,
     pub variants: [(u8, f32); 4],
+    /// "kind 55, without a body, straight after its query record"
+    pub cold: bool,
     /// "the part of the caller's bytes that holds the frames"
     pub frames: &'a [u8],
 }
@@ -26,12 +28,75 @@ fn length_of(kind: u8) -> Option<usize> {
     Some(match kind {
         48 => 46,
         50 => FRAME,
+        COLD if planted(COLD_BODY) => 2,
+        COLD => 1,
         _ => return None,
     })
 }
 
+/// The kind of the record that asks for a register of the query's own frames.
+const COLD: u8 = 55;
+
+/// As many frames as the query record counts, from where the walk stands.
+fn frames(walk: &mut Walk, count: usize) -> Result<(), Refusal> {
+    let off_scale = if planted(QUERY_OFF_SCALE) { 5 } else { 10 };
+    for i in 0..count {
+        let cold_here = walk.bytes.get(walk.at) == Some(&COLD);
+        if planted(COLD_DUE_SURPLUS) && cold_here {
+            return refuse(3, walk.at);
+        }
+        if planted(COLD_AFTER_FRAME) && cold_here && i > 0 {
+            walk.step(COLD);
+        }
+        walk.kind(|kind| kind == 50)?;
+        walk.whole(50)?;
+        let flag = walk.bytes[walk.at + 1];
+        if planted(PLACE_FRAME_ZERO) && flag > 1 {
+            return refuse(10, 0);
+        }
+        walk.check(off_scale, flag <= 1 || planted(FRAME_FLAG_2))?;
+        if planted(FRAME_HZ_RANGE) && flag == 1 {
+            walk.check(10, f32_at(walk.bytes, walk.at + 2).is_finite())?;
+        }
+        walk.step(50);
+    }
+    Ok(())
+}
+
+/// The end of a query that counts so many frames.
+fn end(walk: &Walk, cold: bool, count: usize) -> Result<(), Refusal> {
+    let Some(&kind) = walk.bytes.get(walk.at) else {
+        return walk.end();
+    };
+    match () {
+        _ if planted(COLD_BEHIND)
+            && kind == COLD
+            && count > 0
+            && walk.at + 1 == walk.bytes.len() =>
+        {
+            Ok(())
+        }
+        _ if planted(COLD_SECOND_MISPLACED) && kind == COLD && cold && count == 0 => {
+            refuse(1, walk.at)
+        }
+        _ if planted(COLD_BEHIND_MISPLACED) && kind == COLD && count > 0 => refuse(1, walk.at),
+        _ if planted(COLD_OTHER_MISPLACED) && kind != COLD && !cold && count == 0 => {
+            refuse(1, walk.at)
+        }
+        _ => walk.end(),
+    }
+}
+
+/// A refusal whose place is a byte early, where the mistake is on.
+fn early(refusal: Refusal, on: bool) -> Refusal {
+    Refusal { place: refusal.place - u64::from(on), ..refusal }
+}
+
 impl<'a> Query<'a> {
     pub fn read(bytes: &'a [u8]) -> Result<Query<'a>, Refusal> {
+        if planted(COLD_BEFORE) && bytes.first() == Some(&COLD) {
+            return Query::read(&bytes[1..]);
+        }
         let mut walk = Walk::new(bytes, length_of);
         walk.kind(|kind| kind == 48)?;
         walk.whole(48)?;
@@ -82,24 +147,32 @@ impl<'a> Query<'a> {
         let off_scale = if planted(QUERY_OFF_SCALE) { 5 } else { 10 };
         walk.check(off_scale, in_range)?;
         walk.step(48);
+        let here = |walk: &Walk| bytes.get(walk.at) == Some(&COLD);
+        let known = !planted(COLD_UNKNOWN) && !(planted(COLD_NO_FRAMES) && frame_count == 0);
+        let cold = here(&walk) && known;
+        if cold {
+            walk.whole(COLD)?;
+            walk.step(COLD);
+            if planted(COLD_TWICE) && here(&walk) {
+                walk.step(COLD);
+            }
+            if planted(COLD_LONGEST) && frame_count == 1024 {
+                return refuse(4, 0);
+            }
+            if planted(COLD_PLACE_ZERO) && frame_count > 0 && walk.at == bytes.len() {
+                return refuse(2, 0);
+            }
+        } else if planted(COLD_NEEDED) {
+            return refuse(1, walk.at);
+        }
         let first = walk.at;
         if planted(FRAMES_NONE) && frame_count == 0 {
             return refuse(10, 0);
         }
-        for _ in 0..frame_count {
-            walk.kind(|kind| kind == 50)?;
-            walk.whole(50)?;
-            let flag = bytes[walk.at + 1];
-            if planted(PLACE_FRAME_ZERO) && flag > 1 {
-                return refuse(10, 0);
-            }
-            walk.check(off_scale, flag <= 1 || planted(FRAME_FLAG_2))?;
-            if planted(FRAME_HZ_RANGE) && flag == 1 {
-                walk.check(10, f32_at(bytes, walk.at + 2).is_finite())?;
-            }
-            walk.step(50);
-        }
-        walk.end()?;
+        let counted = frame_count.saturating_sub(usize::from(cold && planted(COLD_COUNTED)));
+        frames(&mut walk, counted).map_err(|r| early(r, cold && planted(COLD_PLACE_FRAME)))?;
+        end(&walk, cold, frame_count).map_err(|r| early(r, cold && planted(COLD_PLACE_SURPLUS)))?;
+        let shift = usize::from(cold && planted(COLD_FRAMES_EARLY));
         Ok(Query {
             accent: bytes[1],
             tone: bytes[2],
@@ -112,7 +185,8 @@ impl<'a> Query<'a> {
             issues,
             variant_count: used,
             variants,
-            frames: &bytes[first..walk.at],
+            cold,
+            frames: &bytes[first - shift..walk.at - shift],
         })
     }
 }

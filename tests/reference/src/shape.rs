@@ -1,9 +1,11 @@
-//! Document 01, "Shape" and "Shape record": `extract`, its operations in its order.
+//! Document 01, "Shape" and "Shape record": `extract`, its operations in its order; with the register and the issue of change
+//! request 3.
 
 use crate::bytes::*;
 use crate::num::*;
 use crate::plant::*;
 use crate::query::{Query, FRAME};
+use crate::register::measure;
 use crate::Refusal;
 
 /// "Issue bits follow `MeasureIssue` from bit 0"
@@ -11,6 +13,7 @@ pub const LOW_SNR: u16 = 1 << 1;
 pub const CLIPPED: u16 = 1 << 2;
 pub const TOO_SHORT: u16 = 1 << 3;
 pub const COLD_START: u16 = 1 << 4;
+pub const INVALID_REGISTER: u16 = 1 << 5;
 pub const INVALID_EVIDENCE: u16 = 1 << 6;
 pub const CREAKY_TAIL: u16 = 1 << 9;
 
@@ -28,6 +31,8 @@ pub struct Shape {
     pub voiced_fraction: f32,
     pub f0_confidence: f32,
     pub issues: u16,
+    /// Whether ColdStartRegister is kind 55's and not the query's own, for planted mistakes.
+    pub set_cold: bool,
 }
 
 /// A voiced frame: its place in the track, semitones, voiced_p.
@@ -38,7 +43,7 @@ struct Voiced {
 }
 
 /// Semitones over 55 Hz.
-fn semitones(hz: f32) -> f64 {
+pub fn semitones(hz: f32) -> f64 {
     let st = 12.0 * log2(f64::from(hz) / 55.0);
     if planted(ST_NARROWED) {
         return f64::from(st as f32);
@@ -343,6 +348,7 @@ pub fn extract(q: &Query) -> Result<Shape, Refusal> {
     if voiced.len() < least {
         return refuse(11, 0);
     }
+    let with = measure(q);
 
     // The voiced part, its holes filled in semitones.
     let first = voiced[0].at;
@@ -356,7 +362,7 @@ pub fn extract(q: &Query) -> Result<Shape, Refusal> {
     let in_chao = planted(FILL_IN_CHAO);
     if in_chao {
         for s in &mut st {
-            *s = chao(*s, q.floor, q.ceil);
+            *s = chao(*s, with.floor, with.ceil);
         }
     }
     let (fill_grouped, fill_nearest) = (planted(FILL_GROUPED), planted(FILL_HELD));
@@ -378,7 +384,7 @@ pub fn extract(q: &Query) -> Result<Shape, Refusal> {
     let mut curve = st;
     if !in_chao {
         for s in &mut curve {
-            *s = chao(*s, q.floor, q.ceil);
+            *s = chao(*s, with.floor, with.ceil);
         }
     }
 
@@ -435,7 +441,7 @@ pub fn extract(q: &Query) -> Result<Shape, Refusal> {
     } else {
         8
     };
-    let mut issues = if planted(ISSUES_OWN_ONLY) { 0 } else { q.issues };
+    let mut issues = if planted(ISSUES_OWN_ONLY) { 0 } else { with.issues };
     if measured < enough && !planted(ISSUES_NO_SHORT) {
         issues |= TOO_SHORT;
     }
@@ -453,6 +459,7 @@ pub fn extract(q: &Query) -> Result<Shape, Refusal> {
         voiced_fraction: count / if planted(FRACTION_OF_N) { n as f32 } else { span },
         f0_confidence,
         issues,
+        set_cold: q.cold && q.issues & COLD_START == 0,
     })
 }
 
@@ -483,7 +490,10 @@ impl Shape {
         for value in [self.range, self.duration_ms, self.voiced_fraction, self.f0_confidence] {
             put_f32(&mut out, value);
         }
-        let issues = if planted(SHAPE_INVALID_ONLY) && self.contour.iter().any(|c| !c.is_finite()) {
+        let unset = planted(COLD_JUDGEMENT_ALONE) && self.set_cold;
+        let issues = if unset {
+            self.issues & !COLD_START
+        } else if planted(SHAPE_INVALID_ONLY) && self.contour.iter().any(|c| !c.is_finite()) {
             INVALID_EVIDENCE
         } else {
             self.issues

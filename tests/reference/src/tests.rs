@@ -552,6 +552,190 @@ fn unusable_without_tail() {
     assert_eq!((f32_of(&record, 3), f32_of(&record, 7), record[61]), (-1e6, -1e6, 2));
 }
 
+// "A register for a new speaker"
+
+/// The query, cold.
+fn cold(mut ask: Ask) -> Ask {
+    ask.cold = true;
+    ask
+}
+
+#[test]
+fn cold_refusals() {
+    let good = cold(Ask::of(steady(3, 110.0))).bytes();
+    assert_eq!((good.len(), good[46]), (77, 55));
+    assert_eq!(check_query(&good), None);
+    // Where a frame is due it is 1, behind the last frame surplus.
+    let with = |at: usize| check_query(&[&good[..at], &[55], &good[at..]].concat());
+    assert_eq!(with(0), refused(1, 0));
+    assert_eq!([with(46), with(47)], [refused(1, 47); 2]);
+    assert_eq!([with(57), with(67), with(77)], [refused(1, 57), refused(1, 67), refused(3, 77)]);
+    let plain = Ask::of(steady(3, 110.0)).bytes();
+    assert_eq!(check_query(&[&plain[..56], &[55], &plain[56..]].concat()), refused(1, 56));
+    assert_eq!(check_query(&[&plain[..], &[55]].concat()), refused(3, 76));
+    // No other kind is due in its place.
+    for kind in [0, 48, 53, 54, 56] {
+        let other = [&plain[..46], &[kind], &plain[46..]].concat();
+        assert_eq!(check_query(&other), refused(1, 46), "{kind}");
+    }
+    // Behind it places are a byte further on.
+    assert_eq!(check_query(&good[..47]), refused(2, 47));
+    assert_eq!(check_query(&good[..46]), refused(2, 46));
+    assert_eq!(check_query(&good[..60]), refused(2, 57));
+    assert_eq!(check_query(&[&good[..], &[0]].concat()), refused(3, 77));
+    let edited = |at: usize, byte: u8| {
+        let mut q = good.clone();
+        q[at] = byte;
+        check_query(&q)
+    };
+    assert_eq!([edited(57, 51), edited(58, 2)], [refused(1, 57), refused(10, 57)]);
+    assert_eq!([edited(4, 2), edited(22, 4), edited(23, 5)], [10, 10, 4].map(|n| refused(n, 0)));
+    // Where no frame is counted it is due all the same, once; anything else is surplus.
+    let empty = cold(Ask::of(vec![])).bytes();
+    assert_eq!(empty.len(), 47);
+    assert_eq!(check_query(&empty), None);
+    assert_eq!(write_shape(&empty).err(), refused(11, 0));
+    for more in [55, 50, 48, 53] {
+        assert_eq!(check_query(&[&empty[..], &[more]].concat()), refused(3, 47));
+    }
+    for more in [50, 48, 53, 54, 0] {
+        assert_eq!(check_query(&[&empty[..46], &[more]].concat()), refused(3, 46));
+    }
+    let most = cold(Ask::of(steady(1024, 110.0))).bytes();
+    assert_eq!((most.len(), check_query(&most)), (10_287, None));
+    assert_eq!(check_query(&cold(Ask::of(steady(1025, 110.0))).bytes()), refused(4, 0));
+}
+
+#[test]
+fn cold_registers() {
+    let bits = |register: [f32; 3]| register.map(f32::to_bits);
+    // "90 / 150 / 250 Hz"
+    let fallback = [0x4108_6A2C, 0x418A_F4C0, 0x41D1_B46B];
+    assert_eq!(bits(cold_register(&[])), fallback);
+    assert_eq!(bits(cold_register(&[f32::NAN, f32::INFINITY, f32::NEG_INFINITY])), fallback);
+    // One value; and such as give whole ranks.
+    assert_eq!(cold_register(&[12.0]), [10.0, 12.0, 14.0]);
+    assert_eq!(cold_register(&[12.0, 0.0]), [0.6 - 2.0, 6.0, 11.4 + 2.0]);
+    let rows: Vec<f32> = (0..21).rev().map(|i| i as f32).collect();
+    assert_eq!(cold_register(&rows), [-1.0, 10.0, 21.0]);
+    let ties = [[0.0; 19].to_vec(), vec![100.0; 2]].concat();
+    assert_eq!(cold_register(&ties), [-2.0, 0.0, 102.0]);
+    // Numbers below 0 stand before those above, the greater in size first.
+    let signs: Vec<f32> = [-3.0, 1.0, -1.0, 3.0, -2.0].iter().flat_map(|&v| [v; 8]).collect();
+    assert_eq!(cold_register(&signs), [-5.0, -1.0, 5.0]);
+    // Of frames: all that are voiced, and have a pitch.
+    let frames = [
+        (1, 110.0, 1.0),
+        (0, 880.0, 1.0),
+        (1, 0.0, 1.0),
+        (1, -110.0, 1.0),
+        (1, f32::NAN, 1.0),
+        (1, f32::INFINITY, 1.0),
+        (1, 55.0, 0.0),
+    ];
+    assert_eq!(register_of(&frame_bytes(&frames)), cold_register(&[12.0, 0.0]));
+    assert_eq!(bits(register_of(&frame_bytes(&frames[1..6]))), fallback);
+    assert_eq!(bits(register_of(&[])), fallback);
+    // The least and the greatest pitch.
+    let [floor, ..] = register_of(&frame_bytes(&[(1, 1e-45, 1.0)]));
+    let [.., ceil] = register_of(&frame_bytes(&[(1, f32::MAX, 1.0)]));
+    assert!((-1860.0..-1859.0).contains(&floor) && (1468.0..1469.0).contains(&ceil));
+}
+
+#[test]
+fn least_spans() {
+    let of = |floor: u32, ceil: u32| {
+        at_least_min_span(f32::from_bits(floor), f32::from_bits(ceil)).map(f32::to_bits)
+    };
+    // One push is needed; none is, for the difference of these rounds to 4.
+    assert_eq!(of(0x3FE2_CA03, 0x4085_3CC2), [0x3F77_BD01, 0x409E_F7A2]);
+    assert_eq!(of(0xC000_0000, 0x3FFF_FFFE), [0xC000_0000, 0x3FFF_FFFF]);
+    // 4 are enough, and more; 0 are widened both ways.
+    assert_eq!(at_least_min_span(10.0, 14.0), [10.0, 14.0]);
+    assert_eq!(at_least_min_span(-3.0, 14.0), [-3.0, 14.0]);
+    assert_eq!(at_least_min_span(5.0, 5.0), [3.0, 7.0]);
+    assert_eq!(at_least_min_span(7.0, 3.0), [3.0, 7.0]);
+    assert!(at_least_min_span(f32::NAN, 5.0).iter().all(|v| v.is_nan()));
+    // For all semitones of one pitch within ±2,000 that are tried, and ends anywhere there.
+    let mut r = Rng(6);
+    for _ in 0..200_000 {
+        let [a, b] = [r.unit(), r.unit()].map(|u| (4000.0 * u - 2000.0) as f32);
+        let near = f32::from_bits(a.to_bits() + r.below(4) as u32);
+        for [floor, _, ceil] in [cold_register(&[a]), cold_register(&[a, near, a])] {
+            assert!(ceil - floor >= 4.0 && floor.is_finite() && ceil.is_finite());
+        }
+        let [floor, ceil] = at_least_min_span(a, b);
+        assert!(ceil - floor >= 4.0);
+        let [floor, ceil] = at_least_min_span(a, near);
+        assert!(ceil - floor >= 4.0);
+    }
+}
+
+#[test]
+fn cold_shapes() {
+    let shape = |ask: &Ask| write_shape(&ask.bytes()).unwrap();
+    // One pitch stands in the middle of its register, whatever the query's own.
+    let mut ask = cold(Ask::of(steady(8, 110.0)));
+    let registers = [0.0, 1e30, f32::NAN, f32::INFINITY, f32::from_bits(0xFFC0_1234)];
+    for register in registers.map(|v| (v, -v)) {
+        ask.register = register;
+        let record = shape(&ask);
+        assert!((0..10).all(|k| f32_of(&record, 9 + 4 * k) == 3.0));
+        assert_eq!(record[122], 1 << 4);
+    }
+    // The frames before and behind the span count in the register; 11 is of the span.
+    ask.frames = [steady(8, 110.0), steady(8, 55.0)].concat();
+    let [floor, _, ceil] = cold_register(&[[12.0; 8], [0.0; 8]].concat());
+    assert_eq!([floor, ceil], [-2.0, 14.0]);
+    ask.span = (0, 8);
+    assert_eq!(f32_of(&shape(&ask), 9), 1.0 + 4.0 * 14.0 / 16.0);
+    ask.span = (8, 16);
+    assert_eq!(f32_of(&shape(&ask), 9), 1.0 + 4.0 * 2.0 / 16.0);
+    ask.span = (14, 16);
+    assert_eq!(write_shape(&ask.bytes()).err(), refused(11, 0));
+    // The query's own issues stay, with ColdStartRegister and without; so does TooShort.
+    ask.span = (0, 7);
+    for (own, union) in [(0, 0x18), (1 << 4, 0x18), (0x3FF, 0x3FF), (1, 0x19)] {
+        ask.issues = own;
+        assert_eq!(crate::bytes::u16_at(&shape(&ask), 122), union);
+    }
+    // Without kind 55 that issue changes no register.
+    ask.cold = false;
+    ask.register = (0.0, 12.0);
+    (ask.issues, ask.span) = (1 << 4, (0, 8));
+    assert_eq!(f32_of(&shape(&ask), 9), 5.0);
+}
+
+#[test]
+fn cold_judgements() {
+    let pack = [
+        settings(1, 1.0, 0.25),
+        tone(1, 0.5, &[3.0], None),
+        tone(2, 0.5, &[5.0], None),
+        accent(1, 0, TOL),
+        vec![6],
+    ]
+    .concat();
+    let sheet = write_sheet(&pack).unwrap();
+    let judged = |ask: &Ask| {
+        let record = judge(&pack, &ask.bytes()).unwrap();
+        assert_eq!(judge_sheet(&sheet, &ask.bytes()).unwrap(), record);
+        record
+    };
+    let mut ask = cold(Ask::of(steady(8, 110.0)));
+    ask.register = (f32::NAN, f32::NAN);
+    // The record is that of the register that was measured, with the issue among the query's own.
+    let mut warm = Ask::of(steady(8, 110.0));
+    (warm.register, warm.issues) = ((10.0, 14.0), 1 << 4);
+    assert_eq!(judged(&ask), judged(&warm));
+    assert_eq!((judged(&ask)[61], judged(&ask)[62..64] == [0x10, 0]), (1, true));
+    // It widens the tolerances: −ln 1.5³ and not 0 of the tone that is met.
+    assert_eq!(f32_of(&judged(&ask), 3), (-(1.5f64.powi(3)).ln()) as f32);
+    // 12 and what follows are as they were.
+    ask.accent = 9;
+    assert_eq!(judge(&pack, &ask.bytes()).err(), refused(12, 0));
+}
+
 #[test]
 fn query_refusals() {
     let ask = Ask::of(steady(3, 110.0));
@@ -729,7 +913,8 @@ fn pack_and_sheet_agree() {
         assert!(sheet.len() <= 13_338);
         assert_eq!(check_sheet(&sheet), None);
         for _ in 0..10 {
-            let query = some_query(&mut r, &pack.tones, &pack.accents).bytes();
+            let make = if r.one_in(3) { some_cold_query } else { some_query };
+            let query = make(&mut r, &pack.tones, &pack.accents).bytes();
             let answer = judge(&pack.bytes, &query);
             assert_eq!(answer, judge_sheet(&sheet, &query));
             judged[answer.map_or_else(|e| e.number, |_| 0) as usize] += 1;
@@ -765,9 +950,13 @@ fn records_are_in_bounds() {
     let mut r = Rng(4);
     for _ in 0..20_000 {
         let pack = some_pack(&mut r);
-        let query = some_query(&mut r, &pack.tones, &pack.accents).bytes();
+        let cold = r.one_in(3);
+        let make = if cold { some_cold_query } else { some_query };
+        let query = make(&mut r, &pack.tones, &pack.accents).bytes();
         if let Ok(record) = judge(&pack.bytes, &query) {
             assert_eq!(record.len(), 64);
+            // "A query with kind 55 that is judged is always measured"
+            assert!(!cold || record[61] == 1 && record[62] & 1 << 4 != 0);
             for i in 0..9 {
                 let ll = f32_of(&record, 3 + 4 * i);
                 assert!((-1e6..=1e6).contains(&ll));
@@ -796,11 +985,19 @@ fn generated(seed: u64, count: usize) -> Vec<Case> {
             let (p, q) = (damaged(&mut r, &pack.bytes), damaged(&mut r, &query));
             cases.push(Case::Judge(p, q));
         }
-        cases.push(Case::JudgeSheet(sheet, query.clone()));
+        cases.push(Case::JudgeSheet(sheet.clone(), query.clone()));
         for _ in 0..4 {
             let query = some_query(&mut r, &pack.tones, &pack.accents).bytes();
             cases.push(Case::Judge(pack.bytes.clone(), query));
         }
+        let cold = some_cold_query(&mut r, &pack.tones, &pack.accents).bytes();
+        cases.push(Case::Query(damaged(&mut r, &cold)));
+        cases.push(Case::Judge(pack.bytes.clone(), cold.clone()));
+        cases.push(Case::JudgeSheet(sheet, cold.clone()));
+        cases.push(Case::Query(cold));
+        cases.push(Case::Register(frame_bytes(&cold_frames(&mut r))));
+        let end = (4000.0 * r.unit() - 2000.0) as f32;
+        cases.push(Case::Span(end, f32::from_bits(end.to_bits() + r.below(9) as u32)));
         let answer = judge(&pack.bytes, &query);
         let room = r.pick(&[0usize, 10, 63, 64, 65, 130]);
         cases.push(Case::Lend(answer, room));
@@ -861,7 +1058,9 @@ fn chosen() -> Vec<Case> {
     rules.extend(rule(1, 1, 0, 0, 2));
     rules.extend(part(1.0, &[1.0]));
     cases.push(Case::Pack([&rules[..], &[6]].concat()));
-    // The 129th list, the 193rd component, and both cut.
+    // A ninth tone, the 129th list, the 193rd component, and the last two cut.
+    let ninth = sheet_tone(9, 0.5, None, [0.0; 2]);
+    cases.push(Case::Sheet([&sheet[..9 + 8 * 24], &ninth, &sheet[9 + 8 * 24..]].concat()));
     let open = &sheet[..sheet.len() - 1];
     let mut more = [open, &list(129, 1, 3, 1, 1)].concat();
     cases.push(Case::Sheet(more.clone()));
@@ -944,8 +1143,47 @@ fn chosen() -> Vec<Case> {
     }
     cases.extend((0..2000).map(|_| near_zero(&mut r)));
     cases.extend((0..2000).map(|_| through_zero(&mut r)));
+    cases.extend(cold_chosen(&mut r));
     cases.push(Case::Pack(full));
     cases.push(Case::Sheet(sheet));
+    cases
+}
+
+/// Kind 55 in each place of a query of two frames and of none; the longest query; ends that are pushed apart; a floor next to 0,
+/// which shows the last bits of the f64s behind it.
+fn cold_chosen(r: &mut Rng) -> Vec<Case> {
+    let mut cases = Vec::new();
+    for n in [0, 2] {
+        let mut ask = Ask::of(steady(n, 110.0));
+        let plain = ask.bytes();
+        ask.cold = true;
+        for query in [plain, ask.bytes()] {
+            for at in (0..=query.len()).filter(|&at| at == 0 || at >= 46) {
+                for more in [&[55][..], &[50], &[55, 55]] {
+                    cases.push(Case::Query([&query[..at], more, &query[at..]].concat()));
+                }
+                cases.push(Case::Query(query[..at].to_vec()));
+            }
+        }
+    }
+    let mut ask = cold(Ask::of(steady(1024, 110.0)));
+    ask.frames[1023].1 = 220.0;
+    ask.frames[300].1 = 55.0;
+    cases.push(Case::Query(ask.bytes()));
+    cases.push(Case::Span(f32::from_bits(0x3FE2_CA03), f32::from_bits(0x4085_3CC2)));
+    cases.push(Case::Register(vec![]));
+    cases.push(Case::Register(frame_bytes(&steady(2, 110.0))));
+    let next = |hz: f32, steps: usize| f32::from_bits(hz.to_bits() + steps as u32);
+    for _ in 0..2000 {
+        let low = 55.0 * 2f64.powf(2.0 / 12.0);
+        let (i, n) = (1 + r.below(200), 2 + r.below(18));
+        let t = 0.05 * (n - 1) as f64;
+        let below = f32::from_bits((low as f32).to_bits() - i as u32);
+        let above = next(low as f32, (i as f64 * (1.0 - t) / t) as usize + r.below(3));
+        let mut frames = steady(n, above);
+        frames[0].1 = below;
+        cases.push(Case::Register(frame_bytes(&frames)));
+    }
     cases
 }
 
