@@ -2,7 +2,8 @@
 //! of call, u32 length and the bytes of a first input, u32 length and the bytes of a second.
 //! Standard output is a row of answers, each one byte of number (0, or 11 to 15), u32 length and
 //! the bytes. Calls: 1 judge (pack, query); 2 shape (query, nothing); 3 look (pack; accent, tone,
-//! prev, final), 50 bytes a component; 4 ln, 5 log2, 6 exp, 7 root (f64s, nothing).
+//! prev, final), 50 bytes a component; 4 ln, 5 log2, 6 exp, 7 root (f64s, nothing); 8 cold_register
+//! (f32s, nothing), floor, median and ceiling as f32s.
 //! With the argument `example` it prints document 01's worked example instead.
 
 use std::io::{Read, Write};
@@ -38,6 +39,14 @@ fn answer(call: u8, a: &[u8], b: &[u8]) -> Result<Vec<u8>, u8> {
             Ok(a.chunks_exact(8)
                 .flat_map(|c| bits(f(value(c))).to_le_bytes())
                 .collect())
+        }
+        8 => {
+            let semitones: Vec<f32> = a
+                .chunks_exact(4)
+                .map(|c| f32::from_le_bytes(c.try_into().expect("4")))
+                .collect();
+            let register = oracle::cold_register(&semitones);
+            Ok(register.iter().flat_map(|v| v.to_le_bytes()).collect())
         }
         _ => panic!("no such call: {call}"),
     }

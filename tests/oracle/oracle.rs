@@ -1,5 +1,7 @@
 //! The Rust of djt358/tonalkit, asked with document 01's bytes and answering in them. Inputs are
-//! packs that load, and queries that do; the numbers 11 to 15 are the Rust's own errors.
+//! packs that load, and queries that do; the numbers 11 to 15 are the Rust's own errors. The Rust
+//! knows no kind 55: what is read here is whether it stands in a query, and then the register that
+//! the Rust's functions are given is the Rust's `cold_register` of the query's frames.
 
 use stand_ins::StandIns;
 use tonekit_core::{
@@ -7,7 +9,7 @@ use tonekit_core::{
     Register, TbuSpan, ToneId, ToneTarget,
 };
 use tonekit_pack::{LanguagePack, PackError, TargetContext};
-use tonekit_shape::{extract, Extracted};
+use tonekit_shape::{extract, voiced_semitones, Extracted};
 
 const ISSUES: [MeasureIssue; 10] = [
     MeasureIssue::Unvoiced,
@@ -94,16 +96,65 @@ pub struct Query {
     track: F0Track,
 }
 
+/// Records of kind 50 as the Rust has them.
+fn track(frames: &[u8]) -> F0Track {
+    let frames = frames.chunks_exact(10).map(|f| F0Frame {
+        hz: (f[1] == 1).then(|| f32_at(f, 2)),
+        voiced_p: f32_at(f, 6),
+    });
+    F0Track {
+        frames: frames.collect(),
+        provider: String::new(),
+    }
+}
+
+fn ends(floor: f32, ceil: f32) -> Register {
+    Register {
+        floor_st: floor,
+        median_st: 0.0,
+        ceil_st: ceil,
+        n_syllables: 0,
+    }
+}
+
+fn told(r: Register) -> [f32; 3] {
+    [r.floor_st, r.median_st, r.ceil_st]
+}
+
+/// Floor, median and ceiling by `cold_register` of semitones.
+pub fn cold_register(semitones: &[f32]) -> [f32; 3] {
+    told(tonekit_shape::cold_register(semitones, 0))
+}
+
+/// The same of all voiced frames among these records of kind 50.
+pub fn register_of(frames: &[u8]) -> [f32; 3] {
+    cold_register(&voiced_semitones(&track(frames), None))
+}
+
+/// Floor and ceiling by `at_least_min_span`.
+pub fn at_least_min_span(floor: f32, ceil: f32) -> [f32; 2] {
+    let [floor, _, ceil] = told(tonekit_shape::at_least_min_span(ends(floor, ceil)));
+    [floor, ceil]
+}
+
+/// Kind 55, straight behind the query record.
+fn cold(q: &[u8]) -> bool {
+    q.get(46) == Some(&55)
+}
+
 impl Query {
     pub fn read(q: &[u8]) -> Query {
         let variants = (0..usize::from(q[23])).map(|i| LexicalVariant {
             tone: tone(q[24 + 5 * i]),
             weight: f32_at(q, 25 + 5 * i),
         });
-        let frames = q[46..].chunks_exact(10).map(|f| F0Frame {
-            hz: (f[1] == 1).then(|| f32_at(f, 2)),
-            voiced_p: f32_at(f, 6),
-        });
+        let track = track(&q[if cold(q) { 47 } else { 46 }..]);
+        let (register, set) = if cold(q) {
+            let register = tonekit_shape::cold_register(&voiced_semitones(&track, None), 0);
+            (register, issue_bits(&[MeasureIssue::ColdStartRegister]))
+        } else {
+            (ends(f32_at(q, 13), f32_at(q, 17)), 0)
+        };
         Query {
             grading: grading(q[1]),
             target: ToneTarget {
@@ -115,17 +166,9 @@ impl Query {
                 start_frame: u32_at(q, 5),
                 end_frame: u32_at(q, 9),
             },
-            register: Register {
-                floor_st: f32_at(q, 13),
-                median_st: 0.0,
-                ceil_st: f32_at(q, 17),
-                n_syllables: 0,
-            },
-            own: u16_at(q, 21),
-            track: F0Track {
-                frames: frames.collect(),
-                provider: String::new(),
-            },
+            register,
+            own: u16_at(q, 21) | set,
+            track,
         }
     }
 
