@@ -73,6 +73,21 @@ pub fn narrow_bits(v: f32) -> u32 {
     }
 }
 
+/// The f32s that bytes hold.
+pub fn floats(a: &[u8]) -> Vec<f32> {
+    a.chunks_exact(4)
+        .map(|k| f32::from_le_bytes(k.try_into().expect("4 bytes")))
+        .collect()
+}
+
+/// Their bits, NaN as it is written.
+pub fn bits_of(values: &[f32]) -> Vec<u8> {
+    values
+        .iter()
+        .flat_map(|v| narrow_bits(*v).to_le_bytes())
+        .collect()
+}
+
 pub fn reference_answer(c: &Call) -> Answer {
     let (a, b) = (&c.a[..], &c.b[..]);
     match c.call {
@@ -93,11 +108,7 @@ pub fn reference_answer(c: &Call) -> Answer {
             .flat_map(|v| narrow_bits(reference::narrow(v)).to_le_bytes())
             .collect()),
         EXPAND_KNOTS => {
-            let knots: Vec<f32> = a
-                .chunks_exact(4)
-                .map(|k| f32::from_le_bytes(k.try_into().expect("4 bytes")))
-                .collect();
-            let points = reference::expand_knots(&knots);
+            let points = reference::expand_knots(&floats(a));
             Ok(points.iter().flat_map(|p| p.to_le_bytes()).collect())
         }
         MIN_MAX => {
@@ -112,6 +123,11 @@ pub fn reference_answer(c: &Call) -> Answer {
                 out.extend(narrow_bits(reference::max32(x, y)).to_le_bytes());
             }
             Ok(out)
+        }
+        COLD_REGISTER => Ok(bits_of(&reference::register_of(a))),
+        MIN_SPAN => {
+            let ends = floats(a);
+            Ok(bits_of(&reference::at_least_min_span(ends[0], ends[1])))
         }
         SOLVE => {
             let all: Vec<f64> = values(a).collect();

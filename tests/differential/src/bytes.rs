@@ -1,4 +1,4 @@
-//! Document 01's records, and those of change request 2: their lengths and fields, and how a row of them is taken apart.
+//! Document 01's records, and those of change requests 2 and 3: their lengths and fields, and how a row of them is taken apart.
 
 /// What a field may hold, which says where its boundaries lie.
 #[derive(Clone, Copy, PartialEq)]
@@ -68,7 +68,7 @@ pub fn record_length(kind: u8) -> Option<usize> {
         3 => 19,
         4 => 7,
         5 => 46,
-        6 | 23 => 1,
+        6 | 23 | 55 => 1,
         18 => 15,
         19 => 18,
         20 => 6,

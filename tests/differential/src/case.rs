@@ -1,5 +1,6 @@
 //! The cases: what each is made of, and which calls it makes.
 
+use crate::cold;
 use crate::damage;
 use crate::exact::exact;
 use crate::pack::{self, Pack, Part, Rule};
@@ -8,7 +9,7 @@ use crate::rng::Rng;
 use crate::sheet;
 use crate::tails;
 
-pub const KINDS: [&str; 10] = [
+pub const KINDS: [&str; 13] = [
     "pack that loads",
     "pack and query that load",
     "query that loads",
@@ -19,13 +20,16 @@ pub const KINDS: [&str; 10] = [
     "two packs, alike or nearly",
     "single functions",
     "two packs apart in one bit of a tail",
+    "pack and cold query that load",
+    "cold query damaged",
+    "registers alone",
 ];
 
-/// How many cases in 100 are of each kind.
-const SHARES: [usize; 10] = [8, 38, 13, 13, 8, 9, 4, 2, 3, 2];
+/// How many cases in 122 are of each kind; those of the last three have kind 55 (change request 3).
+const SHARES: [usize; KINDS.len()] = [8, 38, 13, 13, 8, 9, 4, 2, 3, 2, 14, 6, 2];
 
 /// The calls, by the numbers that the fixed samples give them.
-pub const CALLS: [&str; 18] = [
+pub const CALLS: [&str; 20] = [
     "",
     "check_pack",
     "check_query",
@@ -44,6 +48,8 @@ pub const CALLS: [&str; 18] = [
     "expand_knots",
     "min and max",
     "solve",
+    "cold_register",
+    "at_least_min_span",
 ];
 /// The kind of the pairs that differ in one bit of a tail.
 pub const APART: usize = 9;
@@ -64,6 +70,8 @@ pub const NARROW: u8 = 14;
 pub const EXPAND_KNOTS: u8 = 15;
 pub const MIN_MAX: u8 = 16;
 pub const SOLVE: u8 = 17;
+pub const COLD_REGISTER: u8 = 18;
+pub const MIN_SPAN: u8 = 19;
 
 /// One call and its inputs; the second is empty where the call takes one.
 #[derive(PartialEq)]
@@ -372,6 +380,22 @@ fn functions(r: &mut Rng, case: &mut Case) {
     case.call(SOLVE, &grid, &[]);
 }
 
+/// Registers of frames, and pairs of ends.
+fn registers(r: &mut Rng, case: &mut Case) {
+    for _ in 0..4 {
+        let n = cold::count(r);
+        let frames = cold::frames(r, n);
+        case.call(COLD_REGISTER, &query::frame_bytes(&frames), &[]);
+    }
+    for _ in 0..8 {
+        let ends: Vec<u8> = cold::ends(r)
+            .into_iter()
+            .flat_map(f32::to_le_bytes)
+            .collect();
+        case.call(MIN_SPAN, &ends, &[]);
+    }
+}
+
 fn looks(r: &mut Rng, accents: &[u8], tones: &[u8]) -> Vec<[u8; 4]> {
     let mut all = Vec::new();
     for &a in accents {
@@ -542,6 +566,34 @@ pub fn case(seed: u64, index: u64) -> Case {
             case.call(WRITE_SHEET, &one, &[]);
             case.call(WRITE_SHEET, &two, &[]);
         }
+        10 => {
+            let p = pack::pack(r);
+            let bytes = p.bytes();
+            let q = cold::query(r, &p).bytes();
+            case.call(CHECK_QUERY, &q, &[]);
+            case.call(WRITE_SHAPE, &q, &[]);
+            case.call(JUDGE, &bytes, &q);
+            case.call(JUDGE_SHEET, &sheet_of(&bytes), &q);
+        }
+        11 => {
+            let p = pack::pack(r);
+            let mut q = cold::query(r, &p);
+            if r.chance(1, 3) {
+                q.frames.truncate(r.below(4));
+            }
+            let mut q = q.bytes();
+            match r.below(4) {
+                0 => damage::damage(r, &mut q),
+                1 if r.chance(1, 4) => damage::crowded_query(r, &mut q),
+                _ => cold::misplaced(r, &mut q),
+            }
+            let bytes = p.bytes();
+            case.call(CHECK_QUERY, &q, &[]);
+            case.call(WRITE_SHAPE, &q, &[]);
+            case.call(JUDGE, &bytes, &q);
+            case.call(JUDGE_SHEET, &sheet_of(&bytes), &q);
+        }
+        12 => registers(r, &mut case),
         _ => functions(r, &mut case),
     }
     case

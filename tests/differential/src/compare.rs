@@ -1,9 +1,10 @@
 //! Compares the oracle and the port with the reference, call by call.
 
-use crate::ask::{canonical, component, reference_answer, values, Answer};
+use crate::ask::{bits_of, canonical, component, floats, reference_answer, values, Answer};
 use crate::bytes::{f32_at, starts, u32_at};
 use crate::case::*;
 use crate::chains;
+use crate::cold;
 use crate::port;
 use crate::rng::Rng;
 use crate::samples::{told, Sample};
@@ -164,6 +165,20 @@ pub fn with_oracle(t: &mut Tally, case: u64, kind: usize, c: &Call, ours: &Answe
                 );
             }
         }
+        COLD_REGISTER => {
+            let theirs = caught(|| bits_of(&oracle::register_of(&c.a))).ok_or((255, 255));
+            t.same("oracle: cold_register", theirs == *ours, case, || {
+                words(c, &say(ours), &say(&theirs))
+            });
+        }
+        MIN_SPAN => {
+            let ends = floats(&c.a);
+            let theirs = caught(|| bits_of(&oracle::at_least_min_span(ends[0], ends[1])));
+            let theirs = theirs.ok_or((255, 255));
+            t.same("oracle: at_least_min_span", theirs == *ours, case, || {
+                words(c, &say(ours), &say(&theirs))
+            });
+        }
         _ => {}
     }
 }
@@ -171,7 +186,7 @@ pub fn with_oracle(t: &mut Tally, case: u64, kind: usize, c: &Call, ours: &Answe
 #[cfg(not(oracle))]
 pub fn with_oracle(_: &mut Tally, _: u64, _: usize, _: &Call, _: &Answer) {}
 
-const PORTED: [&str; 18] = [
+const PORTED: [&str; 20] = [
     "",
     "port: check_pack",
     "port: check_query",
@@ -189,6 +204,8 @@ const PORTED: [&str; 18] = [
     "port: narrow",
     "",
     "",
+    "",
+    "port: cold_register",
     "",
 ];
 
@@ -223,6 +240,13 @@ pub fn with_port(
         return;
     }
     let (a, b) = (c.a.clone(), c.b.clone());
+    if c.call == COLD_REGISTER {
+        let got = Ok(bits_of(&port::register(&a)));
+        t.same(name, got == *ours && a == c.a, case, || {
+            words(c, &say(ours), &say(&got))
+        });
+        return;
+    }
     let code = |number: u8, rest: u64| u64::from(number) << 32 | rest;
     if c.call <= CHECK_SHEET {
         let want = match ours {
@@ -334,7 +358,25 @@ fn extremes(t: &mut Tally, case: u64, c: &Call, ours: &Answer) {
     );
 }
 
-/// Counts what a record holds, to show which branches the cases reach; what parents a pack has; and what is seen of tails.
+/// "A query with kind 55 that is judged is always measured": a register's ends are numbers, at least 4 semitones apart, the median
+/// between them; and those of two ends that are widened.
+pub fn wide_enough(t: &mut Tally, case: u64, c: &Call, ours: &Answer) {
+    let told = floats(ours.as_ref().expect("a register"));
+    let (floor, ceil) = (told[0], told[told.len() - 1]);
+    let finite = told.iter().all(|v| v.is_finite());
+    let between = told.windows(2).all(|pair| pair[0] < pair[1]);
+    let name = if c.call == MIN_SPAN {
+        "reference: at_least_min_span gives ends at least 4 semitones apart"
+    } else {
+        "reference: cold_register gives ends at least 4 semitones apart, the median between"
+    };
+    t.same(name, finite && between && ceil - floor >= 4.0, case, || {
+        words(c, &say(ours), "")
+    });
+}
+
+/// Counts what a record holds, to show which branches the cases reach; what parents a pack has; and what is seen of tails and of
+/// cold queries.
 fn look_at(t: &mut Tally, c: &Call, ours: &Answer) {
     if c.call == CHECK_PACK {
         for words in chains::seen(&c.a, ours) {
@@ -342,6 +384,9 @@ fn look_at(t: &mut Tally, c: &Call, ours: &Answer) {
         }
     }
     for words in tails::seen(c, ours) {
+        t.see(words);
+    }
+    for words in cold::seen(c, ours) {
         t.see(words);
     }
     let Ok(b) = ours else { return };
@@ -449,6 +494,9 @@ pub fn compare(t: &mut Tally, seed: u64, index: u64) {
         with_port(t, &mut r, index, c, &ours, None);
         if c.call == MIN_MAX {
             extremes(t, index, c, &ours);
+        }
+        if [COLD_REGISTER, MIN_SPAN].contains(&c.call) {
+            wide_enough(t, index, c, &ours);
         }
         if (WRITE_SHAPE..=JUDGE_SHEET).contains(&c.call) {
             lends(t, &mut r, index, c, &ours);

@@ -32,13 +32,17 @@ impl Unit {
 
 /// The calls that must tell a mistake apart each for itself: the readers, for what they share (ranges; places and order), a step
 /// of the arithmetic alone, for what change request 10 split a function alone and a whole record, for how a lookup goes up the
-/// parents a sheet and a record, and for tails the records of a pack and of a sheet. None stands for any call.
+/// parents a sheet and a record, for tails the records of a pack and of a sheet, and for the register of a cold query a shape and
+/// both records, or a shape and the register alone. None stands for any call.
 fn callers(number: u32) -> &'static [Option<u8>] {
     const PACK: Option<u8> = Some(CHECK_PACK);
     const QUERY: Option<u8> = Some(CHECK_QUERY);
     const SHEET: Option<u8> = Some(CHECK_SHEET);
     const RECORD: Option<u8> = Some(JUDGE);
     const SHEETS_RECORD: Option<u8> = Some(JUDGE_SHEET);
+    const SHAPE: Option<u8> = Some(WRITE_SHAPE);
+    const REGISTER: Option<u8> = Some(COLD_REGISTER);
+    const ENDS: Option<u8> = Some(MIN_SPAN);
     match number {
         20 => &[None, Some(MIN_MAX)],
         21 => &[Some(MIN_MAX)],
@@ -57,6 +61,16 @@ fn callers(number: u32) -> &'static [Option<u8>] {
         434..=463 | 492..=495 => &[RECORD, SHEETS_RECORD],
         464..=473 => &[PACK, SHEET],
         480 => &[Some(WRITE_SHEET), RECORD],
+        496..=512 => &[QUERY],
+        521 | 527..=529 | 531 => &[RECORD, SHEETS_RECORD],
+        523 => &[SHEETS_RECORD],
+        524 => &[RECORD],
+        525 | 530 => &[SHAPE],
+        513..=538 => &[SHAPE, RECORD, SHEETS_RECORD],
+        583 | 586..=589 => &[ENDS],
+        576..=585 => &[SHAPE, REGISTER, ENDS],
+        539..=575 => &[SHAPE, REGISTER],
+        590..=593 => &[REGISTER],
         _ => &[None],
     }
 }
@@ -76,7 +90,7 @@ pub fn units() -> Vec<Unit> {
 
 /// The calls that the program `replay` makes.
 fn replayed(call: u8) -> bool {
-    matches!(call, CHECK_PACK..=JUDGE_SHEET | LN..=SOLVE)
+    matches!(call, CHECK_PACK..=JUDGE_SHEET | LN..=MIN_SPAN)
 }
 
 /// Whether a call's answer, or what it leaves in the room, is another with the mistake.
@@ -215,7 +229,8 @@ type Files = Vec<(&'static str, Vec<Sample>)>;
 
 /// The file of `COVER` that takes a new sample: that of single steps, or the last.
 fn home(files: &mut Files, call: u8) -> &mut Vec<Sample> {
-    let name = COVER[if call >= MIN_MAX { 1 } else { COVER.len() - 1 }];
+    let single = [MIN_MAX, SOLVE].contains(&call);
+    let name = COVER[if single { 1 } else { COVER.len() - 1 }];
     &mut files.iter_mut().find(|f| f.0 == name).expect("a file").1
 }
 

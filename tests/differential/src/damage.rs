@@ -135,6 +135,7 @@ fn stray(r: &mut Rng, b: &[u8], all: &[usize]) -> Vec<u8> {
         7,
         24,
         49,
+        55,
         r.byte()
     );
     let n = record_length(kind).unwrap_or(1);

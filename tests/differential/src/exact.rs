@@ -35,6 +35,7 @@ pub fn on_the_curve(r: &mut Rng) -> (Pack, Query) {
         ceil: floor + width,
         issues: r.pick(&[0, 0, 1 << 9, 1 << 3]),
         variants: Vec::new(),
+        cold: false,
         frames: vec![
             Frame {
                 voiced: 1,

@@ -1,12 +1,12 @@
 //! Samples by hand: counts at their limits and past them, lent rooms around the needed length, refusals that meet in one call,
-//! parents wherever they stand, exact scores, creaky tails, and single steps of the arithmetic.
+//! parents wherever they stand, exact scores, creaky tails, cold queries and registers, and single steps of the arithmetic.
 
 use crate::bytes::{record_length, starts};
 use crate::case::*;
 use crate::exact::exact;
 use crate::moved::BEFORE;
 use crate::pack::{Accent, Pack, Part, Rule, Tone};
-use crate::query::{Frame, Query};
+use crate::query::{frame_bytes, Frame, Query};
 use crate::rng::Rng;
 use crate::samples::told;
 use crate::tails::CREAKY;
@@ -114,6 +114,7 @@ fn query(tone: u8, prev: u8) -> Query {
         ceil: 16.0,
         issues: 0,
         variants: Vec::new(),
+        cold: false,
         frames: frames(8),
     }
 }
@@ -653,6 +654,297 @@ fn creaky_judgements(all: &mut Asking) {
     both(&p, &q);
 }
 
+/// A frame of a pitch, voiced or not.
+fn at(voiced: u8, hz: f32) -> Frame {
+    Frame { voiced, hz, p: 1.0 }
+}
+
+/// Frames of these pitches.
+fn voices(pitches: &[f32]) -> Vec<Frame> {
+    pitches.iter().map(|&hz| at(1, hz)).collect()
+}
+
+/// The cold query about tone 1 of these frames, of which the span has all.
+fn cold(frames: Vec<Frame>) -> Query {
+    let mut q = query(1, 0);
+    (q.cold, q.span) = (true, (0, frames.len() as u32));
+    q.frames = frames;
+    q
+}
+
+/// Kind 55 in each place of a query of none, one or three frames, good or damaged, and what else may stand there.
+fn cold_places(all: &mut Asking) {
+    for n in [0usize, 1, 3] {
+        let q = cold(frames(n));
+        let b = q.bytes();
+        let plain = [&b[..46], &b[47..]].concat();
+        all.ask(0, CHECK_QUERY, &b, &[]);
+        all.ask(0, CHECK_QUERY, &plain, &[]);
+        all.ask(3, CHECK_QUERY, &[&b[..], &[0]].concat(), &[]);
+        // Behind each record, the first with it and without; before all.
+        for i in 0..=n {
+            let end = 47 + 10 * i;
+            let last = if i == n { 3 } else { 1 };
+            all.ask(
+                last,
+                CHECK_QUERY,
+                &[&b[..end], &[55], &b[end..]].concat(),
+                &[],
+            );
+            if i > 0 {
+                let moved = [&plain[..end - 1], &[55], &plain[end - 1..]].concat();
+                all.ask(last, CHECK_QUERY, &moved, &[]);
+            }
+        }
+        all.ask(1, CHECK_QUERY, &[&[55], &b[..]].concat(), &[]);
+        // Another kind in its place and behind it.
+        for kind in [0, 48, 50, 51, 53, 54, 56] {
+            // A frame's kind where a frame is due makes one of it and of what stands behind, whose flag is a kind's.
+            let number = match kind {
+                _ if n == 0 => 3,
+                50 => 10,
+                _ => 1,
+            };
+            let there = [&b[..46], &[kind], &b[47..]].concat();
+            all.ask(number, CHECK_QUERY, &there, &[]);
+            let behind = [&b[..47], &[kind], &b[47..]].concat();
+            all.ask(number, CHECK_QUERY, &behind, &[]);
+        }
+        // Cut, and counts that say otherwise.
+        for cut in [1, 45, 46, 47, 48, 56, 57, 58, 66] {
+            if cut < b.len() {
+                let number = if cut == 46 && n == 0 { 0 } else { 2 };
+                all.ask(number, CHECK_QUERY, &b[..cut], &[]);
+            }
+        }
+        for (count, number) in [(n + 1, 2), (n.max(1) - 1, if n == 0 { 0 } else { 3 })] {
+            let mut other = b.clone();
+            other[44] = count as u8;
+            all.ask(number, CHECK_QUERY, &other, &[]);
+        }
+        if n > 0 {
+            let fault = 47 + 10 * (n - 1);
+            for (place, byte, number) in [(fault, 55, 1), (fault, 51, 1), (fault + 1, 2, 10)] {
+                let mut other = b.clone();
+                other[place] = byte;
+                all.ask(number, CHECK_QUERY, &other, &[]);
+            }
+        }
+        // What is judged of the record comes first.
+        for (place, byte, number) in [(4, 2, 10), (22, 4, 10), (23, 5, 4), (45, 5, 4)] {
+            let mut other = [&b[..47], &[55], &b[47..]].concat();
+            other[place] = byte;
+            all.ask(number, CHECK_QUERY, &other, &[]);
+        }
+    }
+    // The longest, and one frame more; its last frame, and some in its midst, are of another pitch.
+    let mut long = frames(1024);
+    (long[1023].hz, long[300].hz, long[700].hz) = (440.0, 55.0, 27.5);
+    let q = cold(long);
+    assert_eq!(q.bytes().len(), 10_287);
+    all.ask(0, WRITE_SHAPE, &q.bytes(), &[]);
+    all.ask(0, JUDGE, &pack(2, 1).bytes(), &q.bytes());
+    all.ask(0, COLD_REGISTER, &frame_bytes(&q.frames), &[]);
+    let past = cold(frames(1025)).bytes();
+    all.ask(4, CHECK_QUERY, &past, &[]);
+}
+
+/// Cold queries measured: registers of their own that are none, spans that leave frames out, issues, rooms and refusals.
+fn cold_measured(all: &mut Asking) {
+    let p = tailed([Some([-1.5, 0.25]), None, Some([2.0, 1.0])]).bytes();
+    let sheet = reference::write_sheet(&p).expect("a pack that loads");
+    let mut each = |number: u8, q: &Query| {
+        let b = q.bytes();
+        all.ask(number, WRITE_SHAPE, &b, &[]);
+        all.ask(number, JUDGE, &p, &b);
+        all.ask(number, JUDGE_SHEET, &sheet, &b);
+    };
+    let level = [
+        110.0, 110.0, 112.0, 115.0, 119.0, 124.0, 130.0, 137.0, 145.0, 154.0,
+    ];
+    let of = |change: &dyn Fn(&mut Query)| {
+        let mut q = cold(voices(&level));
+        change(&mut q);
+        q
+    };
+    let inf = f32::INFINITY;
+    for (floor, ceil) in [
+        (0.0, 16.0),
+        (f32::NAN, 16.0),
+        (0.0, f32::NAN),
+        (-inf, inf),
+        (inf, -inf),
+        (16.0, 0.0),
+        (5.0, 5.0),
+        (-0.0, 1.0e-45),
+        (f32::MAX, -f32::MAX),
+    ] {
+        each(0, &of(&|q| (q.floor, q.ceil) = (floor, ceil)));
+    }
+    // All issues, each alone, and the same without kind 55.
+    for issues in (0..10).map(|bit| 1 << bit).chain([0x3FF, 0x3EF, 6]) {
+        for cold in [true, false] {
+            each(0, &of(&|q| (q.issues, q.cold) = (issues, cold)));
+        }
+    }
+    // Frames outside the span, before and behind, of pitches that move one end each; and a span too short.
+    for (from, to, number) in [
+        (0, 20, 0),
+        (5, 15, 0),
+        (0, 10, 0),
+        (10, 20, 0),
+        (5, 12, 0),
+        (5, 8, 0),
+        (5, 7, 11),
+        (15, 5, 11),
+        (20, 25, 11),
+        (0, u32::MAX, 0),
+        (17, u32::MAX, 0),
+    ] {
+        let others = [voices(&[70.0; 5]), voices(&level), voices(&[300.0; 5])].concat();
+        each(
+            number,
+            &of(&|q| (q.span, q.frames) = ((from, to), others.clone())),
+        );
+    }
+    // What is not voiced, or has no pitch.
+    let (low, high) = (at(0, 30.0), at(0, 900.0));
+    for odd in [
+        low.clone(),
+        high,
+        at(1, 0.0),
+        at(1, -110.0),
+        at(1, inf),
+        at(1, f32::NAN),
+    ] {
+        each(
+            0,
+            &of(&|q| {
+                q.frames.splice(3..3, [odd.clone(), low.clone()]);
+                q.span.1 = 12;
+            }),
+        );
+    }
+    each(11, &of(&|q| q.frames.iter_mut().for_each(|f| f.voiced = 0)));
+    each(11, &of(&|q| q.frames.clear()));
+    // Registers that are widened or just not: one pitch, and two that are nearly one.
+    for hz in [
+        79.0f32, 80.0, 81.5, 82.5, 84.0, 87.0, 124.5, 130.0, 133.0, 312.0, 330.0, 63.0, 34.0, 35.7,
+        22.0,
+    ] {
+        let next = f32::from_bits(hz.to_bits() + 1);
+        each(0, &of(&|q| q.frames = voices(&[hz; 10])));
+        each(
+            0,
+            &of(&|q| q.frames = voices(&[hz, next, hz, hz, next, hz, hz, hz, next, hz])),
+        );
+    }
+    // Refusals from 12 on, and one that comes before.
+    let unheld: [(u8, &dyn Fn(&mut Query)); 5] = [
+        (12, &|q| q.accent = 9),
+        (13, &|q| q.prev = 9),
+        (14, &|q| q.fin = 1),
+        (15, &|q| q.variants = vec![(1, 2.0)]),
+        (13, &|q| q.tone = 9),
+    ];
+    let gapped = gapped();
+    let gapped_sheet = reference::write_sheet(&gapped).expect("a pack that loads");
+    for (number, change) in unheld {
+        let b = of(&|q| {
+            q.prev = 2;
+            change(q);
+        })
+        .bytes();
+        all.ask(number, JUDGE, &gapped, &b);
+        all.ask(number, JUDGE_SHEET, &gapped_sheet, &b);
+    }
+    // Rooms.
+    let b = of(&|_| {}).bytes();
+    for (call, a, query, n) in [
+        (WRITE_SHAPE, &b, &Vec::new(), 124),
+        (JUDGE, &p, &b, 64),
+        (JUDGE_SHEET, &sheet, &b, 64),
+    ] {
+        for (room, number) in [(0, 9), (n - 1, 9), (n, 0), (n + 1, 0)] {
+            all.lend(number, call, a, query, Some(room));
+        }
+    }
+    let twice = [&b[..47], &[55], &b[47..]].concat();
+    all.lend(1, WRITE_SHAPE, &twice, &[], Some(0));
+    all.lend(1, JUDGE, &p, &twice, Some(0));
+    all.lend(2, JUDGE, &p[..9], &twice, Some(0));
+}
+
+/// Registers alone, and ends to be widened.
+fn registers(all: &mut Asking) {
+    let mut of = |frames: &[Frame]| all.ask(0, COLD_REGISTER, &frame_bytes(frames), &[]);
+    of(&[]);
+    of(&[
+        at(0, 110.0),
+        at(1, 0.0),
+        at(1, f32::NAN),
+        at(1, f32::INFINITY),
+    ]);
+    let least = f32::from_bits(1);
+    for hz in [
+        55.0,
+        110.0,
+        27.5,
+        80.0,
+        82.5,
+        84.0,
+        133.0,
+        330.0,
+        least,
+        f32::MAX,
+    ] {
+        for n in [1, 2, 3, 21] {
+            of(&voices(&vec![hz; n]));
+        }
+    }
+    // Ranks between two semitones and on one; ties; both signs; from the greatest down.
+    for n in [2usize, 3, 10, 11, 19, 20, 21, 22, 41] {
+        let up: Vec<f32> = (0..n).map(|i| 40.0 + 7.0 * i as f32).collect();
+        let down: Vec<f32> = up.iter().rev().copied().collect();
+        let ties: Vec<f32> = (0..n).map(|i| [55.0, 110.0, 41.25][i % 3]).collect();
+        let ends: Vec<f32> = (0..n).map(|i| if i == 0 { 27.5 } else { 220.0 }).collect();
+        [up, down, ties, ends].iter().for_each(|v| of(&voices(v)));
+    }
+    of(&voices(&[least, 1.0e-40, 1.0e-20, 55.0, 1.0e20, f32::MAX]));
+    let mut many = frames(257);
+    (many[256].hz, many[0].hz) = (880.0, 20.0);
+    of(&many);
+    let more = of_ends();
+    for [floor, ceil] in more {
+        let ends = [floor, ceil].map(f32::to_le_bytes).concat();
+        all.ask(0, MIN_SPAN, &ends, &[]);
+    }
+}
+
+/// Two ends that are pushed apart, and others.
+fn of_ends() -> Vec<[f32; 2]> {
+    let pushed = [0x3FE2_CA03, 0x4085_3CC2].map(f32::from_bits);
+    let mut all = vec![
+        pushed,
+        [-pushed[1], -pushed[0]],
+        [-2.0, f32::from_bits(0x3FFF_FFFE)],
+        [10.0, 14.0],
+        [5.0, 5.0],
+        [7.0, 3.0],
+        [0.0, 0.0],
+        [-0.0, 0.0],
+        [-1.0, 3.0],
+        [-2000.0, 2000.0],
+        [2000.0, 2000.0],
+        [-2000.0, -1998.0],
+        [13.9, 17.9],
+        [6.1, 10.1],
+    ];
+    let mut r = Rng::new(1, 0);
+    all.extend((0..24).map(|_| crate::cold::ends(&mut r)));
+    all
+}
+
 /// All of them.
 pub fn all() -> Vec<Asked> {
     let mut all = Asking(Vec::new());
@@ -665,6 +957,9 @@ pub fn all() -> Vec<Asked> {
     exact_scores(&mut all);
     tails(&mut all);
     creaky_judgements(&mut all);
+    cold_places(&mut all);
+    cold_measured(&mut all);
+    registers(&mut all);
     steps(&mut all);
     all.0
 }

@@ -4,6 +4,7 @@ mod ask;
 mod bytes;
 mod case;
 mod chains;
+mod cold;
 mod compare;
 mod cover;
 mod coverage;
@@ -15,6 +16,7 @@ mod orders;
 mod pack;
 mod port;
 mod query;
+mod registers;
 mod rng;
 mod samples;
 mod sheet;
@@ -29,7 +31,7 @@ use tally::Tally;
 
 pub const THREADS: u64 = 2;
 
-/// From so many cases on a run has to see everything of tails.
+/// From so many cases on a run has to see everything of tails and of cold queries.
 const ENOUGH: u64 = 50_000;
 
 /// With `plant` other than 0 the reference has that mistake, and the run should fail.
@@ -75,6 +77,7 @@ fn run(cases: u64, seed: u64, plant: u32) -> bool {
     }
     let unseen: Vec<&str> = tails::ALL
         .into_iter()
+        .chain(cold::ALL)
         .filter(|words| !total.seen.contains_key(words))
         .collect();
     for words in &unseen {
@@ -152,6 +155,7 @@ fn main() {
             moved::moved(number(1, 100_000), number(2, 1));
             true
         }
+        "registers" => registers::registers(number(1, 200_000), number(2, 1), number(3, 0) as u32),
         "orders" => orders::orders(number(1, 20_000), number(2, 1), number(3, 0) as u32),
         "sheets" => {
             write_sheets(number(1, 2_000), number(2, 1));

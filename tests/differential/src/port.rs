@@ -35,6 +35,15 @@ extern "C" {
     fn tonekit_root(bits: u64) -> u64;
     #[cfg(port_narrow)]
     fn tonekit_narrow(bits: u64) -> u32;
+    #[cfg(port_cold_register)]
+    fn tonekit_cold_register(
+        frames: *const u8,
+        n: u64,
+        count: u16,
+        floor: *mut u32,
+        median: *mut u32,
+        ceil: *mut u32,
+    );
 }
 
 /// Whether the port has this call.
@@ -52,12 +61,13 @@ pub fn has(call: u8) -> bool {
         12 => cfg!(port_exp),
         13 => cfg!(port_root),
         14 => cfg!(port_narrow),
+        COLD_REGISTER => cfg!(port_cold_register),
         _ => false,
     }
 }
 
 /// The port's calls that a program may have, whether or not it has them.
-pub const ALL: [u8; 12] = [1, 2, 3, 4, 5, 6, 7, 10, 11, 12, 13, 14];
+pub const ALL: [u8; 13] = [1, 2, 3, 4, 5, 6, 7, 10, 11, 12, 13, 14, COLD_REGISTER];
 
 /// The port's answer, with `out` lent; a check is lent nothing.
 #[allow(unused_variables, unused_unsafe)]
@@ -107,4 +117,26 @@ pub fn single(call: u8, bits: u64) -> u64 {
             _ => unreachable!("a function that the port has"),
         }
     }
+}
+
+/// The port's register of frames: floor, median and ceiling.
+#[allow(unused_variables, unused_mut, unused_unsafe)]
+pub fn register(frames: &[u8]) -> [f32; 3] {
+    let mut told = [u32::MAX; 3];
+    #[cfg(port_cold_register)]
+    {
+        let [floor, median, ceil] = &mut told;
+        let count = (frames.len() / 10) as u16;
+        unsafe {
+            tonekit_cold_register(
+                frames.as_ptr(),
+                frames.len() as u64,
+                count,
+                floor,
+                median,
+                ceil,
+            )
+        };
+    }
+    told.map(f32::from_bits)
 }

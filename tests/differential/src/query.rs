@@ -22,7 +22,20 @@ pub struct Query {
     pub ceil: f32,
     pub issues: u16,
     pub variants: Vec<(u8, f32)>,
+    /// Whether kind 55 stands behind the query record.
+    pub cold: bool,
     pub frames: Vec<Frame>,
+}
+
+/// The records of frames.
+pub fn frame_bytes(frames: &[Frame]) -> Vec<u8> {
+    let mut out = Vec::new();
+    for f in frames {
+        out.extend([50, f.voiced]);
+        out.extend(f.hz.to_le_bytes());
+        out.extend(f.p.to_le_bytes());
+    }
+    out
 }
 
 impl Query {
@@ -40,16 +53,15 @@ impl Query {
             out.extend(weight.to_le_bytes());
         }
         out.extend((self.frames.len() as u16).to_le_bytes());
-        for f in &self.frames {
-            out.extend([50, f.voiced]);
-            out.extend(f.hz.to_le_bytes());
-            out.extend(f.p.to_le_bytes());
+        if self.cold {
+            out.push(55);
         }
+        out.extend(frame_bytes(&self.frames));
         out
     }
 }
 
-fn any_f32(r: &mut Rng) -> f32 {
+pub fn any_f32(r: &mut Rng) -> f32 {
     match r.below(4) {
         0 => f32::from_bits(r.bits32()),
         1 => r.pick(&[0.0, -0.0, LEAST, -LEAST, NORMAL, MAX, -MAX]),
@@ -450,6 +462,7 @@ pub fn query(r: &mut Rng, pack: Option<&Pack>) -> Query {
         ceil,
         issues: bits,
         variants,
+        cold: false,
         frames,
     }
 }

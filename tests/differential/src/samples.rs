@@ -25,8 +25,8 @@ const FILES: [(&str, &[u8], usize, usize); 5] = [
     ),
 ];
 /// The files of samples chosen by limits and planted mistakes: those of whole calls and functions, which is full, those of single
-/// steps, and those of change request 2 and whatever is added.
-pub const COVER: [&str; 3] = ["cover.bin", "steps.bin", "tails.bin"];
+/// steps, those of change request 2, and those of change request 3 and whatever is added.
+pub const COVER: [&str; 4] = ["cover.bin", "steps.bin", "tails.bin", "cold.bin"];
 /// The longest file that the program that replays reads.
 pub const LONGEST: usize = 300_000;
 /// How far the first files were filled.

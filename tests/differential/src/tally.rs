@@ -6,7 +6,7 @@ use crate::case::{CALLS, KINDS};
 
 #[derive(Default)]
 pub struct Tally {
-    pub kinds: [u64; 10],
+    pub kinds: [u64; KINDS.len()],
     /// By call and number; number 0 is success.
     pub outcomes: BTreeMap<(u8, u8), u64>,
     /// By what is compared: how often, and how often it differs.
