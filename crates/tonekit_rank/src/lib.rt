@@ -1,7 +1,7 @@
 // The k-th smallest f32 of a slice, with no sort and no memory beside it: the f32s are kept as keys, whole numbers in their order.
 #![tactic(auto)]
 
-ghost use Rattle.std.specs.Prelude.{◌≡◌, ◌<◌, ltb, length, get_or};
+ghost use Rattle.std.specs.Prelude.{◌≡◌, ◌<◌, ◌^◌, ltb, length, get_or};
 ghost use Rattle.std.specs.List.{count_by};
 ghost use Rattle.tonekit_rank.specs.Rank.{key_of, value_of, sorted};
 
@@ -37,23 +37,32 @@ fn value_of(key: u32) -> f32
     }
 }
 
-// How many keys are below x.
-fn count_below(keys: &[u32], x: u32) -> usize
+// How many keys are below x, in 32 bits: a controller counts in a register, and x86-64 in as many lanes as
+// it compares keys.
+fn count_below(keys: &[u32], x: u32) -> u32
+    requires { length keys.now < 2 ^ 32 }
     ensures { result ≡ count_by (λ key. ltb key x) keys.now }
 {
-    keys.iter().filter(|key| **key < x).count()
+    let mut n: u32 = 0;
+    for key in keys {
+        if *key < x {
+            n += 1;
+        }
+    }
+    n
 }
 
-// The k-th smallest of the f32s with these keys, k counted from 0: its key is the greatest number with at most k keys below it, found
-// bit by bit.
+// The k-th smallest of the f32s with these keys, k counted from 0: its key is the greatest number with at
+// most k keys below it, found bit by bit.
 pub fn ranked(keys: &[u32], k: usize) -> f32
-    requires { k < length keys.now }
+    requires one_of_them { k < length keys.now }
+    requires countable { length keys.now < 2 ^ 32 }
     ensures { result ≡ value_of (get_or (sorted keys.now) k 0) }
 {
     let mut key: u32 = 0;
     for bit in (0..KEY_BITS).rev() {
         let raised = key + (1 << bit);
-        if count_below(keys, raised) <= k {
+        if count_below(keys, raised) as usize <= k {
             key = raised;
         }
     }

@@ -39,31 +39,25 @@ some_of keys [] h a b c k = let e = ap length k.are in absurd (omega arith)
 some_of keys (x ∷ l) h a b c k = rw (a, b, c, values_of keys (x ∷ l) k) refl
 
 -- ---- semitones of voiced frames, frame by frame
-abbrev st_turn : List ℕ → ℕ → List Float → List Float
-st_turn frames i l = option_map_or (λ v. l ++ (narrowed (hz_to_st v.hz) ∷ [])) (frame_at frames i) l
+abbrev with_frame : List Float → Option Voiced → List Float
+with_frame l frame = option_map_or (λ v. l ++ (narrowed (hz_to_st v.hz) ∷ [])) frame l
 
-st_step : (frames : List ℕ) (i : ℕ) → voiced_st frames (i + 1) ≡ st_turn frames i (voiced_st frames i)
+st_more : (frames : List ℕ) (i : ℕ) {frame : Option Voiced} → frame_at frames i ≡ frame → voiced_st frames (i + 1) ≡ with_frame (voiced_st frames i) frame
 unfolding voiced_st
-st_step frames i = range_last (st_turn frames) i []
-
-pub st_voiced : (frames : List ℕ) (i : ℕ) (v : Voiced) → frame_at frames i ≡ Some v → voiced_st frames (i + 1) ≡ voiced_st frames i ++ (narrowed (hz_to_st v.hz) ∷ [])
-st_voiced frames i v e = st_step frames i ∙ ap (λ (o : Option Voiced). option_map_or (λ v. voiced_st frames i ++ (narrowed (hz_to_st v.hz) ∷ [])) o (voiced_st frames i)) e
-
-pub st_unvoiced : (frames : List ℕ) (i : ℕ) → frame_at frames i ≡ None → voiced_st frames (i + 1) ≡ voiced_st frames i
-st_unvoiced frames i e = st_step frames i ∙ ap (λ (o : Option Voiced). option_map_or (λ v. voiced_st frames i ++ (narrowed (hz_to_st v.hz) ∷ [])) o (voiced_st frames i)) e
+st_more frames i e = range_last (λ i l. with_frame l (frame_at frames i)) i [] ∙ ap (with_frame (voiced_st frames i)) e
 
 -- they are no more than the frames, and what holds of each holds of all
 module _ (P : Float → Type 0) (frames : List ℕ) (each : (i : ℕ) (v : Voiced) → frame_at frames i ≡ Some v → P (narrowed (hz_to_st v.hz))) where
   abbrev Few : ℕ → List Float → Type 0
   Few i l = (length l ≤ i) × All P l
 
-  turn : (i : ℕ) (l : List Float) (o : Option Voiced) → frame_at frames i ≡ o → Few i l → Few (i + 1) (option_map_or (λ v. l ++ (narrowed (hz_to_st v.hz) ∷ [])) o l)
+  turn : (i : ℕ) (l : List Float) (frame : Option Voiced) → frame_at frames i ≡ frame → Few i l → Few (i + 1) (with_frame l frame)
   turn i l (Some v) e q = let x = narrowed (hz_to_st v.hz) in (omega (arith, length-append l (x ∷ []), q.0), All-push P l x q.1 (each i v e))
   turn i l None e q = (omega (arith, q.0), q.1)
 
   pub each_voiced : (count : ℕ) → Few count (voiced_st frames count)
   unfolding voiced_st
-  each_voiced count = range_keeps (st_turn frames) Few 0 count [] zero-le (λ i l h q. turn i l (frame_at frames i) refl q) (zero-le, All-nil P)
+  each_voiced count = range_keeps (λ i l. with_frame l (frame_at frames i)) Few 0 count [] zero-le (λ i l h q. turn i l (frame_at frames i) refl q) (zero-le, All-nil P)
 
 number_of : (frames : List ℕ) (i : ℕ) (v : Voiced) → frame_at frames i ≡ Some v → Number (narrowed (hz_to_st v.hz))
 number_of frames i v e = (narrow_fits (hz_to_st v.hz), in_finite tt (frame_semitone frames i v e).1)
@@ -87,11 +81,11 @@ filled_more frames keys n i v {key} f h e k =
       long = length-set keys n key ∙ long;
       few = omega arith;
       first = take_more_set keys n key (omega arith)
-          ∙ rw (f.first, k) (sym (ap (map key_of) (st_voiced frames i v e) ∙ map-append key_of (voiced_st frames i) (narrowed (hz_to_st v.hz) ∷ [])));
+          ∙ rw (f.first, k) (sym (ap (map key_of) (st_more frames i e) ∙ map-append key_of (voiced_st frames i) (narrowed (hz_to_st v.hz) ∷ [])));
     }
 
 pub filled_same : (frames keys : List ℕ) (n i : ℕ) → Filled frames keys n i → frame_at frames i ≡ None → Filled frames keys n (i + 1)
-filled_same frames keys n i f e = record { long = f.long; few = let l = f.few in omega arith; first = f.first ∙ ap (map key_of) (sym (st_unvoiced frames i e)) }
+filled_same frames keys n i f e = record { long = f.long; few = let l = f.few in omega arith; first = f.first ∙ ap (map key_of) (sym (st_more frames i e)) }
 
 pub filled_keys : (frames keys : List ℕ) (n i count : ℕ) → Filled frames keys n i → i ≤ count → count ≤ i → KeysOf (take n keys) (voiced_st frames count)
 filled_keys frames keys n i count f l h =

@@ -1,3 +1,4 @@
+-- the key sought has the bits found so far
 use Rattle.tonekit_rank.proofs.Halving.{Sought}
 use Rattle.tonekit_rank.proofs.ranked.Given as goal
 

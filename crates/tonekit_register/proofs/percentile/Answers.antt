@@ -1,5 +1,5 @@
 -- `percentile`: the rank is a share of the last place, so its whole part is a place among the keys.
-use Rattle.std.proofs.Common.{◌<◌, ◌∙◌, length, arith}
+use Rattle.std.proofs.Common.{◌<◌, ◌∙◌, length, arith, rules}
 use Rattle.tonekit_register.proofs.Places.{rank_low, rank_lt, place_lt, by_ranks}
 use Rattle.tonekit_register.proofs.percentile.Goals as goal
 use Rattle.tonekit_register.proofs.percentile.Goals.{After-floor_index-lo}
@@ -17,7 +17,7 @@ pub overflow_add-lo : goal.overflow_add-lo
 overflow_add-lo c = omega (arith, low_place (goal.at.overflow_add-lo c).After-floor_index-lo, c.requires.few)
 
 pub ranked-requires : goal.ranked-requires
-ranked-requires c = low_place (goal.at.ranked-requires c).After-floor_index-lo
+ranked-requires c = record { one_of_them = low_place (goal.at.ranked-requires c).After-floor_index-lo; countable = search rules }
 
 pub returns : goal.returns
 returns c =

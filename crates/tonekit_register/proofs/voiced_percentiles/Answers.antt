@@ -13,10 +13,15 @@ loop-i-init c = filled_start c.args.frames.now _ refl
 pub loop-i-preserved : goal.loop-i-preserved
 loop-i-preserved c =
     let frames = c.args.frames.now in
+    let l = c.loop-i in
     elim c.match-read_frame.branch [
-      | in-Some w ↦ rw (w.keys-is, w.n-is) (filled_more frames c.loop-i.keys c.loop-i.n c.loop-i.i w.in-Some.v c.loop-i.invariant (search rules) (sym w.in-Some.ensures) (w.key_of.ensures ∙ ap key_of (w.narrow.ensures ∙ ap narrowed (w.hz_to_st-st.ensures ∙ ap hz_to_st w.from.ensures))))
-      | in_default w ↦ rw (w.keys-is, w.n-is) (filled_same frames c.loop-i.keys c.loop-i.n c.loop-i.i c.loop-i.invariant (sym w.in_default.ensures))
+      | in-Some w ↦
+          let key = w.key_of.ensures ∙ ap key_of (w.narrow.ensures ∙ ap narrowed (w.hz_to_st-st.ensures ∙ ap hz_to_st w.from.ensures)) in
+          rw (w.keys-is, w.n-is) (filled_more frames l.keys l.n l.i w.in-Some.v l.invariant (search rules) (sym w.in-Some.ensures) key)
+      | in_default w ↦ rw (w.keys-is, w.n-is) (filled_same frames l.keys l.n l.i l.invariant (sym w.in_default.ensures))
     ]
 
 pub returns : goal.returns
-returns c = c.p5_p50_p95.ensures _ (filled_keys c.args.frames.now c.loop-i.keys c.loop-i.n c.loop-i.i c.args.count c.loop-i.invariant (search rules) (search rules))
+returns c =
+    let l = c.loop-i in
+    c.p5_p50_p95.ensures _ (filled_keys c.args.frames.now l.keys l.n l.i c.args.count l.invariant (search rules) (search rules))

@@ -1,3 +1,4 @@
+-- the first n keys are those of the voiced frames so far
 use Rattle.tonekit_register.proofs.KeyLists.{Filled}
 use Rattle.tonekit_register.proofs.voiced_percentiles.Given as goal
 
