@@ -58,6 +58,7 @@ pub fn st_to_chao(floor: f64, width: f64, st: f64) -> f64
 
 // Whether frame i is voiced.
 // Stays: `is_voiced` under this crate's definition; without it each caller cites the lemma by which the two definitions are one.
+#[inline(always)]
 #[tactic(auto, using(tonekit_query::proofs::Steps::frame_voiced_lem))]
 pub fn voiced(frames: &[u8], i: usize) -> bool
     ensures { result ≡ voiced frames.now i }
@@ -86,6 +87,7 @@ fn seconds(j: usize) -> f64
 
 impl Frames<'_> {
     // Whether frame j from the first on is voiced.
+    #[inline(always)]
     pub fn voiced(self, j: usize) -> bool
         requires { j < 2 ^ 60 }
         ensures { result ≡ voiced self.entry.bytes.now (self.entry.first + j) }
