@@ -28,9 +28,11 @@ pub enum Call {
     Expand = 15,
     Pick = 16,
     Solve = 17,
+    Register = 18,
+    Spread = 19,
 }
 
-const CALLS: [Call; 15] = [
+const CALLS: [Call; 17] = [
     Call::CheckPack,
     Call::CheckQuery,
     Call::CheckSheet,
@@ -46,6 +48,8 @@ const CALLS: [Call; 15] = [
     Call::Expand,
     Call::Pick,
     Call::Solve,
+    Call::Register,
+    Call::Spread,
 ];
 
 impl TryFrom<u8> for Call {
@@ -121,6 +125,8 @@ impl Call {
             Call::Expand => functions::expanded(first, recorded),
             Call::Pick => functions::picked(first, recorded),
             Call::Solve => functions::solved(first, recorded),
+            Call::Register => functions::registered(first, recorded),
+            Call::Spread => functions::spread(first, recorded),
         }
     }
 }

@@ -2,10 +2,13 @@
 ghost use Rattle.std.specs.Prelude.{ℕ, ◌<◌, ◌≤◌, slice_index_or};
 ghost use Rattle.std.specs.Float.{nan};
 ghost use Rattle.spec_lookup.specs.Knots.{Knot};
+ghost use Rattle.tonekit_min_span.specs.Near.{Near};
 
 use crate::recorded::Recorded;
 use tonekit_bytes::{f32_at, u32_at};
+use tonekit_core::layout;
 use tonekit_float::AnyFloat;
+use tonekit_min_span::Register;
 
 // The f64 that eight bytes hold.
 fn f64_of(bytes: &[u8; 8]) -> f64 {
@@ -116,4 +119,40 @@ pub fn solved(input: &[u8], recorded: Recorded) -> bool {
         && rest.is_empty()
         && more.is_empty()
         && tonekit_fit::lead(m).bits() == u64::from_le_bytes(*answer)
+}
+
+// Whether the register of frames is as recorded: floor, median and ceiling.
+pub fn registered(frames: &[u8], recorded: Recorded) -> bool {
+    let count = (frames.len() / layout::FRAME_SIZE).min(1024);
+    let register = tonekit_register::cold_register(frames, count as u16);
+    recorded.has(12)
+        && frames.len() == layout::FRAME_SIZE * count
+        && register.floor.bits() == u32_at(recorded.bytes, 0, 0)
+        && register.median.bits() == u32_at(recorded.bytes, 4, 0)
+        && register.ceil.bits() == u32_at(recorded.bytes, 8, 0)
+}
+
+// An end of a register, or 0 where a number is none: of size above 8,190.
+fn end(x: f32) -> f32
+    ensures { Near result }
+{
+    if x >= -8190.0 {
+        if x <= 8190.0 {
+            return x;
+        }
+    }
+    0.0
+}
+
+// Whether floor and ceiling are as recorded once they are at least 4 semitones apart.
+pub fn spread(input: &[u8], recorded: Recorded) -> bool {
+    let register = tonekit_min_span::at_least_min_span(Register {
+        floor: end(f32_at(input, 0, 0)),
+        median: 0.0,
+        ceil: end(f32_at(input, 4, 0)),
+    });
+    recorded.has(8)
+        && input.len() == 8
+        && register.floor.bits() == u32_at(recorded.bytes, 0, 0)
+        && register.ceil.bits() == u32_at(recorded.bytes, 4, 0)
 }

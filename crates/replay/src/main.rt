@@ -17,7 +17,7 @@ use std::{fs, io};
 use tonekit_bytes::{byte_at, u32_at};
 
 // The files of samples.
-const FILES: [&str; 8] = [
+const FILES: [&str; 9] = [
     "checks.bin",
     "shapes.bin",
     "sheets.bin",
@@ -26,6 +26,7 @@ const FILES: [&str; 8] = [
     "cover.bin",
     "steps.bin",
     "tails.bin",
+    "cold.bin",
 ];
 
 // How many samples were run, how many of them by a program's function too, and how many differ.

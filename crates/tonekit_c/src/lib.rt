@@ -2,7 +2,7 @@
 // where nothing was refused) and, through `place`, the place of a refusal or the bytes written.
 #![tactic(auto)]
 
-ghost use Rattle.std.specs.Prelude.{◌≡◌, length};
+ghost use Rattle.std.specs.Prelude.{◌≡◌, length, min};
 ghost use Rattle.std.specs.Float.{binary32, binary64};
 ghost use Rattle.std.specs.Float.Ieee.{of_bits, to_bits};
 ghost use Rattle.spec_arithmetic.specs.Narrow.{narrowed};
@@ -14,6 +14,7 @@ ghost use Rattle.spec_query.specs.Query.{check_query};
 ghost use Rattle.spec_sheet.specs.Reader.{check_sheet};
 ghost use Rattle.spec_sheet.specs.Outcome.{sheet_outcome};
 ghost use Rattle.spec_shape.specs.Record.{shape_outcome};
+ghost use Rattle.spec_shape.specs.Register.{voiced_st, cold_register};
 ghost use Rattle.spec_judgement.specs.Judgement.{judge_outcome};
 ghost use Rattle.spec_sheet.specs.JudgeSheet.{judge_sheet_outcome};
 ghost use Rattle.tonekit_c.specs.Export.{checked_place, answer_number, answer_place, Hands};
@@ -148,4 +149,25 @@ pub extern "C" fn tonekit_exp(bits: u64) -> u64
     ensures { result ≡ to_bits binary64 (exp_of (of_bits binary64 bits)) }
 {
     tonekit_log::exp(f64::of_bits(bits)).bits()
+}
+
+// The register of a cold query, of so many of its frames: the bits of floor, median and ceiling. No query has more
+// than 1,024.
+// Stays: the C interface hands slices and places one by one.
+#[unsafe(no_mangle)]
+pub extern "C" fn tonekit_cold_register(
+    frames: &[u8],
+    count: u16,
+    floor: &mut u32,
+    median: &mut u32,
+    ceil: &mut u32,
+)
+    ensures { let r = cold_register (voiced_st frames.now (min count 1024)) in
+        (floor.new ≡ to_bits binary32 r.floor) × ((median.new ≡ to_bits binary32 r.median)
+        × (ceil.new ≡ to_bits binary32 r.ceil)) }
+{
+    let register = tonekit_register::cold_register(frames, count.min(1024));
+    *floor = register.floor.bits();
+    *median = register.median.bits();
+    *ceil = register.ceil.bits();
 }
