@@ -5,6 +5,7 @@
 use crate::ask::{reference_answer, Answer};
 use crate::case::*;
 use crate::chains;
+use crate::cold;
 use crate::compare::{say, with_port, words};
 use crate::damage::entangle;
 use crate::limits::chain_of_eight;
@@ -15,7 +16,7 @@ use crate::rng::Rng;
 use crate::tally::Tally;
 use crate::THREADS;
 
-/// How many queries a pair is asked.
+/// How many queries a pair is asked; the first is cold.
 const QUERIES: usize = 4;
 
 /// A pack, mostly one that loads. What is wrong with another stands before the accents, or is judged where none of them does:
@@ -103,8 +104,12 @@ fn pair(t: &mut Tally, seed: u64, index: u64) {
     }
     let [a, b] = of(WRITE_SHEET, &[]);
     let _ = alike(t, r, index, &a, &b);
-    for _ in 0..QUERIES {
-        let q = query(r, Some(&first)).bytes();
+    for i in 0..QUERIES {
+        let q = match i {
+            0 => cold::query(r, &first),
+            _ => query(r, Some(&first)),
+        };
+        let q = q.bytes();
         let [a, b] = of(JUDGE, &q);
         let judged = alike(t, r, index, &a, &b);
         t.see(if judged.is_ok() {

@@ -76,7 +76,10 @@ fn register(t: &mut Tally, seed: u64, index: u64) {
     of_semitones(t, index, &semitones(r));
 }
 
-/// Whether none differs; with `plant` other than 0 the reference has that mistake.
+/// From so many registers on each sort of register and of ends has to be seen.
+const ENOUGH: u64 = 20_000;
+
+/// Whether none differs, and all is seen; with `plant` other than 0 the reference has that mistake.
 pub fn registers(count: u64, seed: u64, plant: u32) -> bool {
     let mut all = Tally::default();
     std::thread::scope(|s| {
@@ -97,6 +100,16 @@ pub fn registers(count: u64, seed: u64, plant: u32) -> bool {
     });
     println!("{count} registers, seed {seed}");
     all.print_compared();
-    println!("\n{} differ", all.differing());
-    all.differing() == 0
+    println!();
+    let alone = |words: &&str| words.starts_with("register:") || words.starts_with("ends:");
+    let unseen: Vec<&str> = cold::ALL
+        .into_iter()
+        .filter(alone)
+        .filter(|words| !all.seen.contains_key(words))
+        .collect();
+    for words in &unseen {
+        println!("never seen: {words}");
+    }
+    println!("{} differ", all.differing());
+    all.differing() == 0 && (unseen.is_empty() || count < ENOUGH)
 }
