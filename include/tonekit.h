@@ -309,6 +309,11 @@ uint64_t tonekit_exp(uint64_t bits);
 uint64_t tonekit_root(uint64_t bits);
 uint32_t tonekit_narrow(uint64_t bits);
 
+/* The register of a new speaker, whose query is cold: of so many frames, at most 1,024, which stand in the bytes as in a query. It
+ * gives the bits of three f32s. Tests compare it. */
+void tonekit_cold_register(const uint8_t *frames, uint64_t frames_length, uint16_t count, uint32_t *floor, uint32_t *median,
+                           uint32_t *ceil);
+
 #ifdef __cplusplus
 }
 #endif
