@@ -67,8 +67,8 @@ fn next_to_zero(r: &mut Rng, n: usize) -> Vec<f32> {
     let mut best = (f64::INFINITY, base, base);
     for _ in 0..40 {
         // Up to so many steps on the nearer side, and on the other as many as come to nothing.
-        let far = (60.0 * r.unit()).exp2().min(400.0) + 1.0;
-        let near = r.range(1, far as usize) as f64;
+        let most = r.pick(&[3, 30, 400]);
+        let near = r.range(1, most) as f64;
         let (down, up) = if t < 0.5 {
             (near, near * (1.0 - t) / t.max(1e-3))
         } else {
@@ -144,6 +144,9 @@ fn pitches(r: &mut Rng, n: usize) -> Vec<f32> {
 
 /// Frames that make a register: some of them unvoiced, some voiced and without a pitch.
 pub fn frames(r: &mut Rng, n: usize) -> Vec<Frame> {
+    if n == 0 {
+        return Vec::new();
+    }
     let pitches = pitches(r, n);
     let gaps = r.pick(&[0, 0, 0, 1, 3, 8]);
     let spoiled = r.chance(1, 8);
@@ -185,16 +188,7 @@ pub fn query(r: &mut Rng, pack: &Pack) -> Query {
             let behind = behind.min(most - before);
             let start = before as u32;
             q.span = (start, start + q.frames.len() as u32);
-            let mut all = Vec::new();
-            for n in [before, behind] {
-                if n > 0 {
-                    all.push(frames(r, n));
-                } else {
-                    all.push(Vec::new());
-                }
-            }
-            let own = std::mem::take(&mut q.frames);
-            q.frames = [&all[0][..], &own, &all[1]].concat();
+            q.frames = [frames(r, before), q.frames, frames(r, behind)].concat();
         }
         _ => {
             let n = count(r);
