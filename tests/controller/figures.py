@@ -81,6 +81,8 @@ def figures(host=None):
         ('judge_sheet, the same, that pack\'s sheet', case(JUDGE_SHEET, sheets[0], cold(query(1024)), RECORD)),
         ('judge, 1024 frames of a new speaker, all voiced, 4 variants, heavy pack', case(JUDGE, heavy, cold(hard), RECORD)),
         ('judge_sheet, the same, heavy pack\'s sheet', case(JUDGE_SHEET, sheets[3], cold(hard), RECORD)),
+        ('judge, 1024 frames of a new speaker, all voiced, pack of 5 tones of one curve', case(JUDGE, FIVE, cold(query(1024, holes=False)), RECORD)),
+        ('judge, 1024 frames, all voiced, pack of 5 tones of one curve', case(JUDGE, FIVE, query(1024, holes=False), RECORD)),
         ('write_shape, 1024 frames of a new speaker', case(WRITE_SHAPE, cold(query(1024)), room=SHAPE)),
         ('check_query, 1024 frames of a new speaker', case(CHECK_QUERY, cold(query(1024)))),
     ]

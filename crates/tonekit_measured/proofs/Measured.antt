@@ -30,16 +30,17 @@ use Rattle.tonekit_measured.proofs.Chao.{drawn_long, drawn_sized}
 use Rattle.tonekit_measured.proofs.Mean.{mean_finite}
 use Rattle.tonekit_measured.proofs.Weights.{weight_finite}
 
--- ---- a judgement of a shape that is usable says that it was measured
-best_measured : (x : ToneShape) (s : Scoring) (t : Tolerance) (l : Listings) (j : ToneJudgement) (m : Mixture) → (with_best x s t l j m).measured ≡ j.measured
+-- ---- what a judgement of a usable shape says of itself: that it was measured, in part where there is an issue, and the issues that it was given
+best_keeps : (x : ToneShape) (s : Scoring) (t : Tolerance) (l : Listings) (j : ToneJudgement) (m : Mixture)
+    → ((with_best x s t l j m).measured ≡ j.measured) × ((with_best x s t l j m).issues ≡ j.issues)
 unfolding with_best
-best_measured x s t l j Nothing = refl
-best_measured x s t l j (Scored ll slot d2) = refl
+best_keeps x s t l j Nothing = (refl, refl)
+best_keeps x s t l j (Scored ll slot d2) = (refl, refl)
 
-usable_measured : (x : ToneShape) (settings : Settings) (t : Tolerance) (l : Listings) (g : Targets) (issues : ℕ) → usable x ≡ true
-    → (judgement_of x settings t l g issues).measured ≡ cond (eqb issues 0) Full Partial
+usable_judged : (x : ToneShape) (settings : Settings) (t : Tolerance) (l : Listings) (g : Targets) (issues : ℕ) → usable x ≡ true
+    → let j = judgement_of x settings t l g issues in (j.measured ≡ cond (eqb issues 0) Full Partial) × (j.issues ≡ issues)
 unfolding judgement_of judged_of plain_of
-usable_measured x settings t l g issues u = rw u (best_measured x _ t l _ _)
+usable_judged x settings t l g issues u = rw u (best_keeps x _ t l _ _)
 
 -- ---- the shape
 ten_finite : (f : ℕ → Float) → ((k : ℕ) → k < 10 → T (finite (f k))) → T (list_all finite (ten_of (list_of f 10)))
@@ -85,7 +86,7 @@ module _ (frames : List ℕ) (e : Extent) (start end : ℕ) (floor ceil : Float)
   unfolding usable shape_of
   always_usable = is_true _ (and_i _ _ contour_finite weights_finite)
 
-  -- so no judgement of it says that it was not measured
+  -- so every judgement of it is measured
   pub always_measured : (settings : Settings) (t : Tolerance) (l : Listings) (g : Targets) (issues : ℕ)
-      → (judgement_of (shape_of frames e start end floor ceil) settings t l g issues).measured ≡ cond (eqb issues 0) Full Partial
-  always_measured settings t l g issues = usable_measured (shape_of frames e start end floor ceil) settings t l g issues always_usable
+      → let j = judgement_of (shape_of frames e start end floor ceil) settings t l g issues in (j.measured ≡ cond (eqb issues 0) Full Partial) × (j.issues ≡ issues)
+  always_measured settings t l g issues = usable_judged (shape_of frames e start end floor ceil) settings t l g issues always_usable
