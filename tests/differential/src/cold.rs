@@ -156,14 +156,7 @@ pub fn frames(r: &mut Rng, n: usize) -> Vec<Frame> {
         let hz = match voiced {
             0 if r.chance(1, 2) => any_f32(r),
             0 => hz * r.between(0.25, 4.0),
-            _ if spoiled && r.chance(1, 6) => r.pick(&[
-                0.0,
-                -0.0,
-                -110.0,
-                f32::NAN,
-                f32::INFINITY,
-                f32::NEG_INFINITY,
-            ]),
+            _ if spoiled && r.chance(1, 6) => r.pick(&crate::query::NO_PITCH),
             _ => hz,
         };
         Frame {

@@ -27,6 +27,16 @@ pub struct Query {
     pub frames: Vec<Frame>,
 }
 
+/// What stands for hz where a frame with its flag set has no pitch.
+pub const NO_PITCH: [f32; 6] = [
+    0.0,
+    -0.0,
+    -110.0,
+    f32::NAN,
+    f32::INFINITY,
+    f32::NEG_INFINITY,
+];
+
 /// The records of frames.
 pub fn frame_bytes(frames: &[Frame]) -> Vec<u8> {
     let mut out = Vec::new();
@@ -431,14 +441,7 @@ pub fn query(r: &mut Rng, pack: Option<&Pack>) -> Query {
                 frame.hz = any_f32(r);
             }
             if spoiled && r.chance(1, 6) {
-                frame.hz = r.pick(&[
-                    0.0,
-                    -0.0,
-                    -110.0,
-                    f32::NAN,
-                    f32::INFINITY,
-                    f32::NEG_INFINITY,
-                ]);
+                frame.hz = r.pick(&NO_PITCH);
             }
             frame
         })
