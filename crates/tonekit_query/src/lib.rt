@@ -146,12 +146,12 @@ fn frames_end(cold: bool, count: u16) -> usize
 fn read_frames(query: &[u8], count: u16) -> Result<Query, Rejection>
     ensures { result ≡ read_frames query.now count }
 {
-    let cold = is_cold(query);
-    for i in 0..count {
-        let at = frames_end(cold, i);
+    let mut at = frames_from(is_cold(query));
+    for _ in 0..count {
         if let Err(why) = frame_verdict(query, at) {
             return Err(why.at(at));
         }
+        at += layout::FRAME_SIZE;
     }
     Ok(fields(query))
 }
