@@ -1,5 +1,5 @@
 -- The lists of a plan, and a memo of numbers that promises only that what it holds is right.
-use Rattle.std.specs.Prelude.{ℕ, suc, ◌≤◌, ◌<◌, ◌≡◌, true, List, map, ltb, length, get_or}
+use Rattle.std.specs.Prelude.{ℕ, suc, ◌≤◌, ◌<◌, ◌≡◌, true, cond, List, [], ◌∷◌, ◌++◌, map, ltb, length, get_or}
 use Rattle.spec_lookup.specs.Source.{Carried}
 use Rattle.spec_lookup.specs.declared.Listing.{Listing}
 use Rattle.spec_sheet.specs.Number.{seen_in, place_in}
@@ -43,6 +43,10 @@ pub record Right (s : List ℕ) (its : List (List Carried)) (e : Known) : Type 0
 pub record Consistent (s : List ℕ) (lists : List Entry) (memo : List Known) : Type 0 where
   pub marked : (i : ℕ) → i < length lists → Marked s (list_at s lists i) (get_or lists i no_entry).mark
   pub right : (i : ℕ) → i < length memo → Right s (planned s lists) (get_or memo i no_known)
+
+-- a memo with one entry more, where there is room
+abbrev pub memo_after : List Known → Known → List Known
+memo_after memo e = cond (ltb (length memo) 128) (memo ++ e ∷ []) memo
 
 -- the place of a list among lists: that of the first that is the same, or behind the last
 pub record FirstPlace (v : List Carried) (lists : List (List Carried)) (place : ℕ) : Type 0 where

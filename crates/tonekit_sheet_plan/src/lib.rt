@@ -10,7 +10,7 @@ ghost use Rattle.spec_sheet.specs.Number.{same, number_in};
 ghost use Rattle.spec_sheet.specs.Sheet.{lists_of};
 ghost use Rattle.tonekit_sheet_plan.specs.Rows.{pack_view};
 ghost use Rattle.tonekit_sheet_plan.specs.Listings.{carried_by, listing_from, Kept, LookKept};
-ghost use Rattle.tonekit_sheet_plan.specs.Entries.{entry_listing, list_at, Marked, Right, Consistent, FirstPlace, Noted};
+ghost use Rattle.tonekit_sheet_plan.specs.Entries.{entry_listing, list_at, memo_after, Marked, Right, Consistent, FirstPlace, Noted};
 
 mod curves;
 pub mod rows;
@@ -153,7 +153,8 @@ impl<'a> Plan<'a> {
     // One more entry of the memo, where there is room.
     fn remember(&mut self, e: Known)
         requires { Right self.old.bytes.now (planned_by self.old) e }
-        ensures { (self.new.bytes.now ≡ self.old.bytes.now) × (self.new.lists.items ≡ self.old.lists.items) }
+        ensures { (self.new.bytes.now ≡ self.old.bytes.now) × (self.new.lists.items ≡ self.old.lists.items)
+            × (self.new.memo.items ≡ memo_after self.old.memo.items e) }
     {
         if !self.memo.is_full() {
             self.memo.push(e);
