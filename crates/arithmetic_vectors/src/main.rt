@@ -5,7 +5,9 @@
 ghost use Rattle.std.specs.Prelude.{◌≡◌, ℕ, ◌+◌, ◌≤◌, ◌<◌, ◌^◌, length};
 ghost use Rattle.arithmetic_vectors.specs.Replay.{operation_number, u64_at, answer, tally, replayed};
 
+use std::fmt::Write;
 use std::{fs, io};
+use tonekit_edge::Pieces;
 use tonekit_float::AnyFloat;
 
 // A vector's bytes: the operation, the bits of its input, the bits of its answer.
@@ -92,10 +94,18 @@ fn replay<F: Fn(u64) -> u64>(s: &[u8], op: Operation, function: &F) -> Count
     c
 }
 
-// Replays the vectors of one operation, and writes its line.
+// What the program writes, each piece by a write of its own.
+fn pieces<R: Print + Eprint>(rt: &R) -> Pieces<'_, R> {
+    Pieces {
+        rt,
+        program: "arithmetic_vectors",
+    }
+}
+
+// Replays the vectors of one operation, and writes its line, which begins with words for the operation.
 fn report<F: Fn(u64) -> u64>(
     rt: &(impl Print + Eprint),
-    name: &str,
+    words: &str,
     s: &[u8],
     op: Operation,
     function: F,
@@ -104,37 +114,33 @@ fn report<F: Fn(u64) -> u64>(
     requires answers { (b n : ℕ) → F.post function b n → n ≡ answer op b }
 {
     let Count { run, differ } = replay(s, op, &function);
-    tonekit_edge::say(
-        rt,
-        "arithmetic_vectors",
-        format_args!("{name} {run} differ {differ}\n"),
-    );
+    let _ = write!(pieces(rt), "{words}{run} differ {differ}\n");
 }
 
 // Replays the file, and says how much of it there is.
 #[tactic(auto, unfolding(crate::specs::Replay::answer))]
 fn main(rt: HostRuntime) -> io::Result<()> {
     let Ok(mut file) = fs::open(&rt, "vectors.bin") else {
-        tonekit_edge::say(&rt, "arithmetic_vectors", "no vectors\n");
+        let _ = write!(pieces(&rt), "no vectors\n");
         return Ok(());
     };
     let mut buf = [0u8; 262144];
     let n = tonekit_edge::read_full(&mut file, &mut buf)?;
-    tonekit_edge::say(&rt, "arithmetic_vectors", format_args!("bytes {n}\n"));
+    let _ = write!(pieces(&rt), "bytes {n}\n");
     let vectors = &buf[..n];
-    report(&rt, "narrow", vectors, Operation::Narrow, |b| {
+    report(&rt, "narrow ", vectors, Operation::Narrow, |b| {
         u64::from(tonekit_float::narrow(f64::of_bits(b)).bits())
     });
-    report(&rt, "root", vectors, Operation::Root, |b| {
+    report(&rt, "root ", vectors, Operation::Root, |b| {
         tonekit_root::sqrt(f64::of_bits(b)).bits()
     });
-    report(&rt, "ln", vectors, Operation::Ln, |b| {
+    report(&rt, "ln ", vectors, Operation::Ln, |b| {
         tonekit_log::ln(f64::of_bits(b)).bits()
     });
-    report(&rt, "log2", vectors, Operation::Log2, |b| {
+    report(&rt, "log2 ", vectors, Operation::Log2, |b| {
         tonekit_log::log2(f64::of_bits(b)).bits()
     });
-    report(&rt, "exp", vectors, Operation::Exp, |b| {
+    report(&rt, "exp ", vectors, Operation::Exp, |b| {
         tonekit_log::exp(f64::of_bits(b)).bits()
     });
     Ok(())

@@ -12,9 +12,11 @@ ghost use Rattle.std.specs.Iterator.{at_most};
 
 use crate::calls::Call;
 use crate::recorded::Recorded;
+use std::fmt::Write;
 use std::rt::Files;
 use std::{fs, io};
 use tonekit_bytes::{byte_at, u32_at};
+use tonekit_edge::Pieces;
 
 // The files of samples.
 const FILES: [&str; 9] = [
@@ -161,6 +163,14 @@ fn replay(s: &[u8]) -> Tally {
     tally
 }
 
+// What the program writes, each piece by a write of its own.
+fn pieces<R: Print + Eprint>(rt: &R) -> Pieces<'_, R> {
+    Pieces {
+        rt,
+        program: "replay",
+    }
+}
+
 // Opens a file of samples, replays it and writes a line; a file that is not there has no bytes.
 fn report<R: Files + Print + Eprint>(rt: &R, name: &str) -> io::Result<()> {
     let mut buf = [0u8; 300000];
@@ -169,10 +179,9 @@ fn report<R: Files + Print + Eprint>(rt: &R, name: &str) -> io::Result<()> {
         Err(_) => 0,
     };
     let Tally { run, told, differ } = replay(&buf[..n]);
-    tonekit_edge::say(
-        rt,
-        "replay",
-        format_args!("{name}: bytes {n}, calls {run}, by programs {told}, differ {differ}\n"),
+    let _ = write!(
+        pieces(rt),
+        "{name}: bytes {n}, calls {run}, by programs {told}, differ {differ}\n"
     );
     Ok(())
 }
@@ -184,10 +193,9 @@ fn main(rt: HostRuntime) -> io::Result<()> {
     }
     let words = programs::UNKNOWN_WORDS.len();
     let differ = programs::unknown_words_differ();
-    tonekit_edge::say(
-        &rt,
-        "replay",
-        format_args!("words that check does not know: {words}, differ {differ}\n"),
+    let _ = write!(
+        pieces(&rt),
+        "words that check does not know: {words}, differ {differ}\n"
     );
     Ok(())
 }

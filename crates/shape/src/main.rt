@@ -13,6 +13,7 @@ fn main(rt: HostRuntime) -> io::Result<()> {
     tonekit_edge::run(
         &rt,
         "shape",
+        &mut rt.reader(),
         &mut space,
         &mut out,
         tonekit_output::shape_output,

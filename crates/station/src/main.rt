@@ -14,6 +14,7 @@ fn main(rt: HostRuntime) -> io::Result<()> {
     tonekit_edge::run(
         &rt,
         "station",
+        &mut rt.reader(),
         &mut space,
         &mut out,
         tonekit_station_output::station_output,

@@ -20,9 +20,14 @@ fn main(rt: HostRuntime) -> io::Result<()> {
     if tonekit_edge::arg_count(&rt) == 2 && knows(word) {
         let mut space = [0u8; 65536];
         let mut out = [0u8; layout::REFUSAL_SIZE];
-        return tonekit_edge::run(&rt, "check", &mut space, &mut out, |input, record| {
-            tonekit_output::check_output(word, input, record).unwrap_or(0)
-        });
+        return tonekit_edge::run(
+            &rt,
+            "check",
+            &mut rt.reader(),
+            &mut space,
+            &mut out,
+            |input, record| tonekit_output::check_output(word, input, record).unwrap_or(0),
+        );
     }
     let _ = eprintln!(rt;
         "usage: check pack | check query | check sheet, with the bytes on standard input"

@@ -2,13 +2,16 @@
 // standard error.
 #![tactic(auto)]
 
-ghost use Rattle.std.specs.Prelude.{◌<◌, ◌≤◌, length, take, IfOk};
+ghost use Rattle.std.specs.Prelude.{◌≡◌, ℕ, ◌<◌, ◌≤◌, length, take, IfOk, IfErr};
 ghost use Rattle.std.specs.Io.{ReadsAtMost};
 ghost use Rattle.std.specs.Io.KnownBytes.{Consumes, IsAtEnd};
+ghost use Rattle.tonekit_edge.specs.Run.{AnswersAt};
 
 mod page;
+mod pieces;
 
 pub use crate::page::Page;
+pub use crate::pieces::Pieces;
 use arrayvec::ArrayString;
 use std::convert::AsSlice;
 use std::env::{Env, FillError};
@@ -61,9 +64,9 @@ fn reason(text: &str) -> &str {
         .map_or(text, |(words, _)| words)
 }
 
-// Tells on standard error where not all could be written to standard output.
-fn told(rt: &impl Eprint, program: &str, written: io::Result<()>) {
-    if let Err(error) = written {
+// Writes bytes to standard output, and tells on standard error where not all could be written.
+pub fn write_out(rt: &(impl Print + Eprint), program: &str, bytes: &[u8]) {
+    if let Err(error) = Print::write_all(rt, bytes) {
         fail(
             rt,
             format_args!("{program}: not all bytes could be written"),
@@ -72,28 +75,24 @@ fn told(rt: &impl Eprint, program: &str, written: io::Result<()>) {
     }
 }
 
-// Writes bytes to standard output, and tells on standard error where not all could be written.
-pub fn write_out(rt: &(impl Print + Eprint), program: &str, bytes: &[u8]) {
-    told(rt, program, Print::write_all(rt, bytes));
-}
-
-// Writes a text to standard output, and tells on standard error where not all could be written.
-pub fn say(rt: &(impl Print + Eprint), program: &str, text: impl Display + Drop) {
-    told(rt, program, print!(rt; "{text}"));
-}
-
-// A program's work: reads standard input, as far as there is space, and writes to standard output as many bytes as
-// `answer` says that it put at the front of what is lent to it.
-pub fn run<B: AsSlice<u8>, F: Fn(&[u8], &mut B) -> usize>(
-    rt: &(impl Input + Print + Eprint),
+// A program's work: reads its input, as far as there is space, calls `answer` with what was read, and writes to standard
+// output as many bytes as it says that it put at the front of what is lent to it.
+pub fn run<R: Read, B: AsSlice<u8>, F: Fn(&[u8], &mut B) -> usize>(
+    rt: &(impl Print + Eprint),
     program: &str,
+    reader: &mut R,
     space: &mut [u8],
     out: &mut B,
     answer: F,
 ) -> io::Result<()>
     requires { F.IsAlwaysCallable answer }
+    ensures answers { IfOk result (λ _. (n m : ℕ) × (n ≤ length space.new)
+        × Consumes (R.remaining reader.old) (R.remaining reader.new) (take n space.new)
+        × (n < length space.new → IsAtEnd (R.remaining reader.new))
+        × AnswersAt F.Fn answer (take n space.new) out.old m out.new) }
+    ensures unread { IfErr result (λ _. out.new ≡ out.old) }
 {
-    let n = read_full(&mut rt.reader(), space)?;
+    let n = read_full(reader, space)?;
     let m = answer(&space[..n], out);
     let bytes = out.as_slice();
     write_out(rt, program, &bytes[..m.min(bytes.len())]);

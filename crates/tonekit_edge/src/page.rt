@@ -16,7 +16,9 @@ pub struct Page<'a, R> {
 
 impl<'a, R: Print + Eprint> Page<'a, R> {
     // An empty page.
-    pub fn new(rt: &'a R, program: &'a str) -> Self {
+    pub fn new(rt: &'a R, program: &'a str) -> Self
+        ensures { result.text.items ≡ [] }
+    {
         Page {
             rt,
             program,
