@@ -14,7 +14,7 @@ use Rattle.spec_arithmetic.specs.Position.{position}
 use Rattle.spec_query.specs.Frames.{frame_at}
 use Rattle.spec_query.specs.declared.Query.{Query}
 use Rattle.spec_judgement.specs.declared.Tolerance.{Tolerance}
-use Rattle.spec_judgement.specs.declared.ToneListing.{ToneListing}
+use Rattle.tonekit_entries.specs.declared.ToneListing.{ToneListing}
 use Rattle.spec_query.specs.Query.{variant_fine, variants_fine, record_verdict, frame_verdict, fields_of, read_query, load_query}
 use Rattle.spec_pack.specs.Ranges.{above_zero, probability_fine, knot_fine, weight_fine, slot_fine, knots_fine, region_fine, tail_fine, tails_fine, tolerances_fine}
 use Rattle.spec_pack.specs.Pack.{due_after, size_of, holds, zero_or_held, settings_verdict, tone_verdict, tail_verdict, accent_verdict, rule_verdict, part_verdict, body_verdict, added, parents_held, chain_ends, chains_end, end_verdict, read_pack, load_pack}

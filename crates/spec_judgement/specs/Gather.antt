@@ -8,11 +8,11 @@ use Rattle.std.specs.Float.Ieee.{of_bits}
 use Rattle.tonekit_core.specs.Loop.{range}
 use Rattle.spec_lookup.specs.Source.{Tone, Accent, Carried, Source, accent_in, tone_in, absent_tone}
 use Rattle.spec_lookup.specs.declared.Context.{Context}
-use Rattle.spec_judgement.specs.declared.Region.{Region}
+use Rattle.tonekit_entries.specs.declared.Region.{Region}
 use Rattle.spec_judgement.specs.declared.Tolerance.{Tolerance}
 use Rattle.spec_judgement.specs.Inventory.{Inventory, Listings, listing, no_entry}
-use Rattle.spec_judgement.specs.declared.ToneListing.{ToneListing}
-use Rattle.spec_judgement.specs.declared.ToneEntry.{ToneEntry}
+use Rattle.tonekit_entries.specs.declared.ToneListing.{ToneListing}
+use Rattle.tonekit_entries.specs.declared.ToneEntry.{ToneEntry}
 use Rattle.spec_judgement.specs.declared.Slots.{Slots}
 use Rattle.spec_judgement.specs.declared.Settings.{Settings}
 

@@ -7,8 +7,8 @@ use Rattle.tonekit_core.specs.Loop.{turns, range}
 use Rattle.spec_lookup.specs.Source.{Tone, Accent, Carried, Source, accent_in, tone_in}
 use Rattle.spec_lookup.specs.declared.Context.{Context}
 use Rattle.spec_judgement.specs.declared.Slot.{Slot}
-use Rattle.spec_judgement.specs.declared.ToneEntry.{ToneEntry}
-use Rattle.spec_judgement.specs.declared.Region.{Region}
+use Rattle.tonekit_entries.specs.declared.ToneEntry.{ToneEntry}
+use Rattle.tonekit_entries.specs.declared.Region.{Region}
 use Rattle.spec_judgement.specs.declared.Tolerance.{Tolerance}
 use Rattle.spec_judgement.specs.Inventory.{Inventory, Listings}
 use Rattle.spec_judgement.specs.Gather.{f32, with_tone, put_in, slotted, listings, gathered}

@@ -3,8 +3,8 @@ use Rattle.std.specs.Prelude.{ℕ, Option, Some, None, [], get_or}
 use Rattle.std.specs.Float.{nan}
 use Rattle.arrayvec.specs.ArrayVec.{ArrayVec}
 use Rattle.tonekit_core.specs.declared.Name.{Name}
-use Rattle.spec_judgement.specs.declared.ToneEntry.{ToneEntry}
-use Rattle.spec_judgement.specs.declared.ToneListing.{ToneListing}
+use Rattle.tonekit_entries.specs.declared.ToneEntry.{ToneEntry}
+use Rattle.tonekit_entries.specs.declared.ToneListing.{ToneListing}
 use Rattle.spec_judgement.specs.declared.Slot.{Slot}
 use Rattle.spec_judgement.specs.declared.Slots.{Slots}
 use Rattle.spec_judgement.specs.declared.Target.{Target}

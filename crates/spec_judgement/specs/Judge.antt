@@ -30,7 +30,7 @@ use Rattle.spec_judgement.specs.declared.LogSumExp.{LogSumExp}
 use Rattle.spec_judgement.specs.Deltas.{no_deltas, deltas_of}
 use Rattle.spec_judgement.specs.declared.Deltas.{Deltas}
 use Rattle.spec_judgement.specs.declared.Ranking.{Ranking}
-use Rattle.spec_judgement.specs.declared.ToneEntry.{ToneEntry}
+use Rattle.tonekit_entries.specs.declared.ToneEntry.{ToneEntry}
 use Rattle.spec_judgement.specs.declared.Slot.{Slot}
 use Rattle.spec_judgement.specs.declared.Slots.{Slots}
 use Rattle.spec_judgement.specs.declared.Component.{Component}

@@ -20,8 +20,8 @@ use Rattle.tonekit_core.specs.declared.DeltaKind.TheVariants.{EndLower, WiderRan
 use Rattle.tonekit_core.specs.declared.Measured.TheVariants.{Partial}
 use Rattle.tonekit_core.specs.declared.layout.TheConstants.{SINGLE_FORM, MIXTURE_FORM}
 use Rattle.tonekit_core.specs.declared.Name.{Name}
-use Rattle.spec_judgement.specs.declared.Region.{Region}
-use Rattle.spec_judgement.specs.declared.ToneEntry.{ToneEntry}
+use Rattle.tonekit_entries.specs.declared.Region.{Region}
+use Rattle.tonekit_entries.specs.declared.ToneEntry.{ToneEntry}
 use Rattle.spec_judgement.specs.declared.ToneJudgement.{ToneJudgement}
 use Rattle.spec_judgement.specs.Inventory.{Inventory}
 use Rattle.spec_judgement.specs.Judge.{component_at, weighed, part_mixing, ranked, ranking_of, heard_of, advice_of, nearest_at, not_measured}

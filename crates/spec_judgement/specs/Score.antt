@@ -13,7 +13,7 @@ use Rattle.spec_arithmetic.specs.Log.{ln_of}
 use Rattle.spec_arithmetic.specs.Exp.{exp_of}
 use Rattle.spec_shape.specs.declared.ToneShape.{ToneShape}
 use Rattle.spec_judgement.specs.declared.Tolerance.{Tolerance}
-use Rattle.spec_judgement.specs.declared.Region.{Region}
+use Rattle.tonekit_entries.specs.declared.Region.{Region}
 use Rattle.spec_judgement.specs.declared.Scoring.{Scoring}
 use Rattle.spec_judgement.specs.declared.LogSumExp.{LogSumExp}
 use Rattle.spec_judgement.specs.declared.Mixture.{Mixture}

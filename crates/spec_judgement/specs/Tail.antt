@@ -10,7 +10,7 @@ use Rattle.spec_arithmetic.specs.Narrow.{narrowed}
 use Rattle.spec_arithmetic.specs.Log.{ln_of}
 use Rattle.spec_judgement.specs.Score.{empty, add_to, value_of, clamp_log}
 use Rattle.spec_judgement.specs.Inventory.{Inventory, Targets, entry_at, target_at}
-use Rattle.spec_judgement.specs.declared.ToneEntry.{ToneEntry}
+use Rattle.tonekit_entries.specs.declared.ToneEntry.{ToneEntry}
 use Rattle.spec_judgement.specs.declared.Target.{Target}
 
 -- `tail_loglik`: what a tail is worth to a tone; 0 where the issues have none

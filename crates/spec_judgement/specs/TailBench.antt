@@ -14,7 +14,7 @@ use Rattle.spec_judgement.specs.Judge.{tone_mixing, loglik_at, logliks, llr_of}
 use Rattle.spec_judgement.specs.Tail.{tail_loglik, target_tail_loglik, with_tail}
 use Rattle.spec_judgement.specs.declared.Component.{Component}
 use Rattle.spec_judgement.specs.declared.Target.{Target}
-use Rattle.spec_judgement.specs.declared.ToneEntry.{ToneEntry}
+use Rattle.tonekit_entries.specs.declared.ToneEntry.{ToneEntry}
 
 abbrev f32 : ℕ → Float
 f32 bits = of_bits binary32 bits

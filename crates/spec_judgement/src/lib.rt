@@ -3,6 +3,7 @@
 
 use arrayvec::ArrayVec;
 use tonekit_core::{DeltaKind, Measured, Name};
+pub use tonekit_entries::{Inventory, Region, ToneEntry, ToneListing};
 
 // The two settings that a judgement scores by: the temperature, and the posterior from which on a tone is heard.
 #[derive(Clone, Copy)]
@@ -18,13 +19,6 @@ pub struct Tolerance {
     pub onset: f32,
     pub offset: f32,
     pub turning: f32,
-}
-
-// Where in a tone missing pitch is not penalised.
-#[derive(Clone, Copy)]
-pub struct Region {
-    pub from: f32,
-    pub to: f32,
 }
 
 // How a call's issues, the graded accent and the pack's settings change scoring.
@@ -105,28 +99,6 @@ pub struct Ranking {
     pub background: LogSumExp,
     pub top: Option<Lead>,
 }
-
-// What was looked up for a tone: the name of its components, and how many they are.
-#[derive(Clone, Copy)]
-pub struct ToneListing {
-    pub name: Name,
-    pub count: u8,
-}
-
-// A tone that is judged against: its number, its prior and its region, what a creaky tail is worth to it at
-// the query's place in the phrase, and what was looked up for it, if anything was.
-#[derive(Clone, Copy, Default)]
-pub struct ToneEntry {
-    pub number: u8,
-    pub prior: f32,
-    pub region: Option<Region>,
-    pub tail: f32,
-    pub listing: Option<ToneListing>,
-}
-
-// The tones that are judged against, in pack order; the components of tone t stand in the slots from
-// 4 * t on.
-pub type Inventory = ArrayVec<ToneEntry, 8>;
 
 // A component: its weight and its ten points.
 #[derive(Clone, Copy)]

@@ -5,8 +5,8 @@ use Rattle.tonekit_core.specs.Loop.{range}
 use Rattle.tonekit_core.proofs.LoopLaws.{again, ended}
 use Rattle.spec_lookup.specs.Source.{Carried, Source, absent_tone}
 use Rattle.spec_lookup.specs.declared.Context.{Context}
-use Rattle.spec_judgement.specs.declared.ToneEntry.{ToneEntry}
-use Rattle.spec_judgement.specs.declared.ToneListing.{ToneListing}
+use Rattle.tonekit_entries.specs.declared.ToneEntry.{ToneEntry}
+use Rattle.tonekit_entries.specs.declared.ToneListing.{ToneListing}
 use Rattle.spec_judgement.specs.declared.Slots.{Slots}
 use Rattle.spec_judgement.specs.Inventory.{Inventory, Listings, listing, no_entry, count_in}
 use Rattle.tonekit_inventory.specs.Gathers.{Lists}

@@ -9,7 +9,7 @@ use Rattle.spec_lookup.specs.Source.{Tone, Carried, Source, absent_tone}
 use Rattle.spec_lookup.specs.declared.Context.{Context}
 use Rattle.spec_judgement.specs.Inventory.{Listings, no_entry, entry_at, slot_at}
 use Rattle.spec_judgement.specs.declared.Slot.{Slot}
-use Rattle.spec_judgement.specs.declared.ToneEntry.{ToneEntry}
+use Rattle.tonekit_entries.specs.declared.ToneEntry.{ToneEntry}
 use Rattle.spec_judgement.specs.Gather.{entry_of, named_of, with_tone, put_in, slotted, given_of, list_tone, listings}
 use Rattle.tonekit_inventory.specs.Fields.{slot_of}
 use Rattle.std.proofs.lemmas.List.{get_or-map}

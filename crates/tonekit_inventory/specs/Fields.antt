@@ -5,7 +5,7 @@ use Rattle.spec_arithmetic.specs.Fields.{byte_at, f32_at}
 use Rattle.spec_lookup.specs.Source.{Accent, Carried}
 use Rattle.spec_lookup.specs.Source as source
 use Rattle.spec_judgement.specs.Gather.{f32}
-use Rattle.spec_judgement.specs.declared.Region.{Region}
+use Rattle.tonekit_entries.specs.declared.Region.{Region}
 use Rattle.spec_judgement.specs.declared.Settings.{Settings}
 use Rattle.spec_judgement.specs.declared.Slot.{Slot}
 use Rattle.spec_judgement.specs.declared.Tolerance.{Tolerance}

@@ -9,7 +9,7 @@ use Rattle.spec_lookup.specs.Source.{Carried, Source}
 use Rattle.spec_lookup.specs.declared.Context.{Context}
 use Rattle.spec_arithmetic.specs.Files.{Out, loaded, refused}
 use Rattle.spec_sheet.specs.Reader.{SheetRead, load_sheet}
-use Rattle.spec_judgement.specs.declared.ToneListing.{ToneListing}
+use Rattle.tonekit_entries.specs.declared.ToneListing.{ToneListing}
 use Rattle.spec_sheet.specs.FromSheet.{carried_from, look_sheet, source_of_sheet}
 use Rattle.tonekit_sheet_read.specs.Held.{records_of}
 use Rattle.tonekit_sheet_read.specs.declared.Sheet.{Sheet}

@@ -16,7 +16,7 @@ use Rattle.spec_judgement.specs.Deltas.{no_deltas}
 use Rattle.spec_judgement.specs.DeltasBench as deltas
 use Rattle.spec_judgement.specs.Inventory.{Inventory}
 use Rattle.spec_judgement.specs.Judge.{ranking_of, heard_of}
-use Rattle.spec_judgement.specs.declared.ToneEntry.{ToneEntry}
+use Rattle.tonekit_entries.specs.declared.ToneEntry.{ToneEntry}
 use Rattle.spec_judgement.specs.declared.Tolerance.{Tolerance}
 use Rattle.spec_judgement.specs.JudgeBench as heard
 use Rattle.spec_judgement.specs.Target.{variants_good}

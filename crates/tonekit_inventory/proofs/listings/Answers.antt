@@ -12,7 +12,7 @@ pub loop-t-preserved : goal.loop-t-preserved
 loop-t-preserved g c =
     let v = c.loop-t.invariant in
     let p = c.put-listing.ensures in
-    record { few = v.few; all = v.all; going = going_on _ _ _ _ _ _ v.going (search rules) v.few _ c.tone-tone.ensures _ p.name p.few _ c.push.ensures.items _ p.slots }
+    record { few = v.few; all = v.all; going = going_on _ _ _ _ _ _ v.going (search rules) v.few _ c.tone-tone.ensures _ p.name p.few _ c.push.ensures _ p.slots }
 
 pub returns : goal.returns
 returns g c = let v = c.loop-t.invariant in going_ends _ _ _ _ _ _ v.going (search rules) v.few

@@ -5,7 +5,7 @@ use lib.Ieee.{nan, binary64, add, sub, mul}
 use Rattle.tonekit_core.specs.Loop.{range}
 use Rattle.spec_arithmetic.specs.Constants.{zero64}
 use Rattle.spec_judgement.specs.Score.{point_weight}
-use Rattle.spec_judgement.specs.declared.Region.{Region}
+use Rattle.tonekit_entries.specs.declared.Region.{Region}
 use Rattle.spec_judgement.specs.declared.Squares.{Squares}
 use Rattle.tonekit_score.proofs.squares_of.Given as goal
 
