@@ -3,6 +3,7 @@ use Rattle.std.specs.Prelude.{ℕ, Bool, cond, not, Option, Some, None, ok_or, R
 use Rattle.tonekit_core.specs.Calls.{Outcome, refused, written}
 use Rattle.std.specs.List.{list_all}
 use Rattle.std.specs.Option.{option_map_or}
+use Rattle.std.specs.Result.{result_ok}
 use Rattle.tonekit_core.specs.declared.Refusal.{Refusal}
 use Rattle.tonekit_core.specs.declared.Refusal.TheVariants as refusal
 use Rattle.tonekit_core.specs.declared.Rejection.{Rejection}
@@ -60,7 +61,7 @@ judge_gathered g s q =
     let x = shape_of frames e r.start r.end r.floor r.ceil in
     let record_of = λ (t : Tolerance) (a : Targets). judgement_bytes q.tone (length i.items) (judgement_of x g.settings t g.listed a (united r.issues x.frames)) in
     unless (query_verdict e.count g.tolerance g.prev i s q)
-    (λ t. option_map_or (λ a. written (record_of t a)) (targets_of i s q.tone q.variants) (refused refusal.UnknownTone 0))
+    (λ t. option_map_or (λ a. written (record_of t a)) (result_ok (targets_of i s q.tone q.variants)) (refused refusal.UnknownTone 0))
 
 abbrev pub on_query : Source → List ℕ → Result Query Rejection → Outcome
 on_query src s (Err e) = refused e.why e.place

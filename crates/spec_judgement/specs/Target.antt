@@ -1,5 +1,5 @@
 -- The tones that a query asks for, as `expect` of the Rust weighs them: the main tone, then its variants.
-use Rattle.std.specs.Prelude.{ℕ, zero, suc, ◌+◌, Bool, true, cond, not, ◌&&◌, ◌==◌, Option, Some, None, option_map, List, [], ◌∷◌, ◌++◌, position, length, ltb, Float}
+use Rattle.std.specs.Prelude.{ℕ, zero, suc, ◌+◌, Bool, true, cond, not, ◌&&◌, ◌==◌, Option, option_map, Result, Ok, Err, List, [], ◌∷◌, ◌++◌, position, length, ltb, Float}
 use Rattle.std.specs.Option.{option_map_or}
 use Rattle.std.specs.Float.{binary32}
 use Rattle.std.specs.Float.Ieee.{neg, add, sub, lt, le, of_bits}
@@ -47,8 +47,9 @@ target_weight s main (suc i) = variant_weight s i
 unfoldable pub with_target : Target → Targets → Targets
 with_target t g = record { items = cond (ltb (length g.items) 5) (g.items ++ t ∷ []) g.items }
 
--- the target of a query of this tone and so many variants, among the inventory's tones; "unknown tone: .. target tone not held", where one of them is not
-unfoldable pub targets_of : Inventory → List ℕ → ℕ → ℕ → Option Targets
+-- the target of a query of this tone and so many variants, among the inventory's tones; "unknown tone: .. target tone not held", where one of them is not,
+-- and those before it are there
+unfoldable pub targets_of : Inventory → List ℕ → ℕ → ℕ → Result Targets Targets
 targets_of i s tone variants =
     let aimed = λ (k : ℕ). target_of i (target_tone s tone k) (target_weight s (main_weight s variants) k) in
-    range_to (λ k (g : Targets). option_map_or (λ t. next (with_target t g)) (aimed k) (stop None)) Some 0 (variants + 1) (record { items = [] })
+    range_to (λ k (g : Targets). option_map_or (λ t. next (with_target t g)) (aimed k) (stop (Err g))) Ok 0 (variants + 1) (record { items = [] })

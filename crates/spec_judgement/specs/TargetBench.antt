@@ -1,5 +1,5 @@
 -- Worked cases for variants, by computing.
-use Rattle.std.specs.Prelude.{ℕ, ◌≡◌, refl, true, false, Some, None, List, [], ◌∷◌, ◌++◌, map, replicate}
+use Rattle.std.specs.Prelude.{ℕ, ◌≡◌, refl, true, false, None, Ok, Err, List, [], ◌∷◌, ◌++◌, map, replicate}
 use Rattle.std.specs.Float.{binary32}
 use Rattle.std.specs.Float.Ieee.{is_nan, neg, add, sub, lt, le, of_bits}
 use Rattle.tonekit_core.specs.Loop.{turns, range, turns_to, range_to}
@@ -46,13 +46,25 @@ numbered ns = record { items = map (λ n. record { number = n; prior = zero32; r
 
 -- tone 2 with variants 1 and 2 that weigh 0.25 and 0.5: what is left is 0.25
 pub three_targets : targets_of (numbered (1 ∷ 2 ∷ [])) (variants (0 ∷ 0 ∷ 0x80 ∷ 0x3e ∷ []) (0 ∷ 0 ∷ 0 ∷ 0x3f ∷ [])) 2 2
-    ≡ Some (record {
+    ≡ Ok (record {
       items = record { place = 1; weight = of_bits binary32 0x3e80_0000 } ∷ record { place = 0; weight = of_bits binary32 0x3e80_0000 } ∷ record { place = 1; weight = of_bits binary32 0x3f00_0000 } ∷ [];
     })
 unfolding targets_of target_of place_of with_target main_weight range turns range_to turns_to greater is_nan add sub lt of_bits
 three_targets = refl
 
--- "13 for targets": a variant's tone that is not held, even where it weighs 0
-pub unknown_variant : targets_of (numbered (2 ∷ [])) (variants (0 ∷ 0 ∷ 0 ∷ 0 ∷ []) (0 ∷ 0 ∷ 0 ∷ 0 ∷ [])) 2 1 ≡ None
+-- "13 for targets": a variant's tone that is not held, even where it weighs 0; the main tone, which is, is there
+pub unknown_variant : targets_of (numbered (2 ∷ [])) (variants (0 ∷ 0 ∷ 0 ∷ 0 ∷ []) (0 ∷ 0 ∷ 0 ∷ 0 ∷ [])) 2 1
+    ≡ Err (record { items = record { place = 0; weight = of_bits binary32 0x3f80_0000 } ∷ [] })
 unfolding targets_of target_of place_of with_target main_weight range turns range_to turns_to greater is_nan add sub lt of_bits
 unknown_variant = refl
+
+-- the second variant's, with the main tone and the first variant there: tone 2 with 0.25, and tone 1
+pub unknown_second : targets_of (numbered (2 ∷ 1 ∷ [])) (replicate 24 0 ++ ((1 ∷ 0 ∷ 0 ∷ 0 ∷ 0x3f ∷ []) ++ (7 ∷ 0 ∷ 0 ∷ 0x80 ∷ 0x3e ∷ []))) 2 2
+    ≡ Err (record { items = record { place = 0; weight = of_bits binary32 0x3e80_0000 } ∷ record { place = 1; weight = of_bits binary32 0x3f00_0000 } ∷ [] })
+unfolding targets_of target_of place_of with_target main_weight range turns range_to turns_to greater is_nan add sub lt of_bits
+unknown_second = refl
+
+-- and the main tone's own, with nothing before it
+pub unknown_main : targets_of (numbered (2 ∷ [])) (variants (0 ∷ 0 ∷ 0 ∷ 0 ∷ []) (0 ∷ 0 ∷ 0 ∷ 0 ∷ [])) 3 1 ≡ Err (record { items = [] })
+unfolding targets_of target_of place_of with_target main_weight range turns range_to turns_to greater is_nan add sub lt of_bits
+unknown_main = refl

@@ -2,7 +2,8 @@
 use Rattle.std.proofs.Common.{ℕ, ◌+◌, ◌/◌, ◌%◌, ◌≤◌, ◌<◌, ◌≡◌, refl, ◌∙◌, ap, subst, Bool, true, false, cond, List, ◌++◌, eqb, eqb-true, ne_eqb, ltb, length, arith}
 use borrow.Author.Tests.{eqb-false}
 use Rattle.std.specs.Option.{option_map_or}
-use Rattle.std.specs.Prelude.{Option, Some, None, Result, Ok, Err}
+use Rattle.std.specs.Result.{result_ok}
+use Rattle.std.specs.Prelude.{Result, Ok, Err}
 use Rattle.tonekit_core.specs.Calls.{Outcome, refused, written}
 use Rattle.tonekit_core.specs.Words.{has_issue, with_issue, measured_number}
 use Rattle.tonekit_core.specs.declared.layout.TheConstants.{JUDGEMENT_MEASURED, JUDGEMENT_ISSUES, SHAPE_ISSUES}
@@ -147,7 +148,7 @@ module _ (s : List ℕ) (q : Query) (loads : load_query s ≡ Ok q) (cold : q.co
 
     -- the record, or 13 where a target is not held
     abbrev recorded : Tolerance → Outcome
-    recorded t = option_map_or (λ a. written (judgement_bytes q.tone tones (judged t a))) (targets_of g.listed.inventory s q.tone q.variants) (refused UnknownTone 0)
+    recorded t = option_map_or (λ a. written (judgement_bytes q.tone tones (judged t a))) (result_ok (targets_of g.listed.inventory s q.tone q.variants)) (refused UnknownTone 0)
 
     record_cold : (t : Tolerance) (a : Targets) → 3 ≤ extent.count → ColdRecord (judgement_bytes q.tone tones (judged t a))
     record_cold t a enough =
@@ -156,10 +157,10 @@ module _ (s : List ℕ) (q : Query) (loads : load_query s ≡ Ok q) (cold : q.co
         let m = always_measured frames extent r.start r.end r.floor r.ceil v.enough v.counted v.inside b.floor_in b.ceil_in b.apart g.settings t g.listed a issues in
         cold_record q.tone tones (judged t a) issues (eight_logliks shape g.settings t g.listed a issues q.tone tones) m joined.0 joined.1
 
-    by_targets : (t : Tolerance) → 3 ≤ extent.count → (a : Option Targets)
-        → Writes ColdRecord (option_map_or (λ a. written (judgement_bytes q.tone tones (judged t a))) a (refused UnknownTone 0))
-    by_targets t enough None = tt
-    by_targets t enough (Some a) = record_cold t a enough
+    by_targets : (t : Tolerance) → 3 ≤ extent.count → (a : Result Targets Targets)
+        → Writes ColdRecord (option_map_or (λ a. written (judgement_bytes q.tone tones (judged t a))) (result_ok a) (refused UnknownTone 0))
+    by_targets t enough (Err before) = tt
+    by_targets t enough (Ok a) = record_cold t a enough
 
     by_verdict : (v : Result Tolerance Refusal) → query_verdict extent.count g.tolerance g.prev g.listed.inventory s q ≡ v → Writes ColdRecord (unless v recorded)
     by_verdict (Err e) v = tt

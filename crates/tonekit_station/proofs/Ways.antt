@@ -54,13 +54,13 @@ module _ (g : Gathering) (s : List ℕ) (q : Query) (e : Extent) (is : e ≡ ext
   unfolding judge_gathered
   turned_back_lem r v = rw (← is, v)
 
-  module _ (t : Tolerance) (fine : query_verdict e.count g.tolerance g.prev g.listed.inventory s q ≡ Ok t) (a : Option Targets)
+  module _ (t : Tolerance) (fine : query_verdict e.count g.tolerance g.prev g.listed.inventory s q ≡ Ok t) (a : Result Targets Targets)
       (aims : a ≡ targets_of g.listed.inventory s q.tone q.variants) where
-    pub target_loose : a ≡ None → judge_gathered g s q ≡ refused refusal.UnknownTone 0
+    pub target_loose : (before : Targets) → a ≡ Err before → judge_gathered g s q ≡ refused refusal.UnknownTone 0
     unfolding judge_gathered
-    target_loose o = rw (← is, fine, ← aims, o)
+    target_loose before o = rw (← is, fine, ← aims, o)
 
-    pub target_held : (targets : Targets) → a ≡ Some targets → (r : Query) → r ≡ in_register (frames_of s q) q
+    pub target_held : (targets : Targets) → a ≡ Ok targets → (r : Query) → r ≡ in_register (frames_of s q) q
         → (x : ToneShape) → x ≡ shape_of (frames_of s q) e r.start r.end r.floor r.ceil
         → (issues : ℕ) → issues ≡ united r.issues x.frames
         → (j : ToneJudgement) → j ≡ judgement_of x g.settings t g.listed targets issues

@@ -1,6 +1,7 @@
 -- What an outcome of a judgement holds where it is bytes: what holds of the record of every judgement. Assumes nothing.
-use Rattle.std.specs.Prelude.{Option, Some, None, Result, Ok, Err}
+use Rattle.std.specs.Prelude.{Result, Ok, Err}
 use Rattle.std.specs.Option.{option_map_or}
+use Rattle.std.specs.Result.{result_ok}
 use Rattle.std.proofs.Common.{ℕ, List, length}
 use Rattle.tonekit_core.specs.Calls.{Outcome, refused, written}
 use Rattle.tonekit_core.proofs.Calls.{Writes}
@@ -40,18 +41,18 @@ Records P =
     → P (judgement_bytes expected tones (judgement_of x settings t l g issues))
 
 -- 13 where a target is not held, or the record
-abbrev recorded : Gathering → Tolerance → Query → List ℕ → Extent → Option Targets → Outcome
+abbrev recorded : Gathering → Tolerance → Query → List ℕ → Extent → Result Targets Targets → Outcome
 recorded g t q frames e o =
     let r = in_register frames q in
     let x = shape_of frames e r.start r.end r.floor r.ceil in
     option_map_or
     (λ a. written (judgement_bytes q.tone (length g.listed.inventory.items) (judgement_of x g.settings t g.listed a (united r.issues x.frames))))
-    o (refused UnknownTone 0)
+    (result_ok o) (refused UnknownTone 0)
 
 module _ (P : List ℕ → Type 0) (records : Records P) where
-  recorded_writes : (g : Gathering) (q : Query) (frames : List ℕ) (e : Extent) (t : Tolerance) (a : Option Targets) → Writes P (recorded g t q frames e a)
-  recorded_writes g q frames e t None = tt
-  recorded_writes g q frames e t (Some a) =
+  recorded_writes : (g : Gathering) (q : Query) (frames : List ℕ) (e : Extent) (t : Tolerance) (a : Result Targets Targets) → Writes P (recorded g t q frames e a)
+  recorded_writes g q frames e t (Err before) = tt
+  recorded_writes g q frames e t (Ok a) =
       let r = in_register frames q in
       let x = shape_of frames e r.start r.end r.floor r.ceil in
       records x g.settings t g.listed a (united r.issues x.frames) q.tone (length g.listed.inventory.items)

@@ -95,7 +95,7 @@ fn judge_gathered(
         Ok(tolerance) => tolerance,
         Err(r) => return Err(r.at(0)),
     };
-    let Some(targets) = tonekit_target::targets_of(&g.inventory, query, q.tone, q.variants) else {
+    let Ok(targets) = tonekit_target::targets_of(&g.inventory, query, q.tone, q.variants) else {
         return Err(Refusal::UnknownTone.at(0));
     };
     let r = tonekit_register::in_register(frames, q);

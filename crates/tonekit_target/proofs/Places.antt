@@ -1,8 +1,8 @@
 -- The turns of `targets_of` by a name, and that targets of which each is placed are held. Assumes nothing.
-use Rattle.std.specs.Prelude.{Option, None}
+use Rattle.std.specs.Prelude.{Result, Err}
 use Rattle.std.specs.Option.{option_map_or}
 use Rattle.std.specs.Float.{nan}
-use Rattle.std.proofs.Common.{ℕ, ◌<◌, List, Float, ◌≡◌, [], ◌∷◌, ◌++◌, length, get_or, length-append, lt-ltb, arith, ⊎_elim, eq-or-lt_of_le}
+use Rattle.std.proofs.Common.{ℕ, ◌<◌, List, Float, ◌≡◌, [], ◌∷◌, ◌++◌, ap, length, get_or, length-append, lt-ltb, arith, ⊎_elim, eq-or-lt_of_le}
 use Rattle.std.proofs.Math.ListN.{get_or-append}
 use Rattle.std.proofs.Math.Seq.{get_or-append_seam}
 use Rattle.tonekit_core.specs.Loop.{Turn, next, stop}
@@ -11,11 +11,14 @@ use Rattle.spec_judgement.specs.Asked.{TargetsHeld}
 use Rattle.spec_judgement.specs.declared.Target.{Target}
 use Rattle.spec_judgement.specs.Target.{target_tone, target_weight, target_of, with_target}
 
-abbrev pub aim_turn : Inventory → List ℕ → ℕ → Float → ℕ → Targets → Turn Targets (Option Targets)
-aim_turn i s tone main k g = option_map_or (λ t. next (with_target t g)) (target_of i (target_tone s tone k) (target_weight s main k)) (stop None)
+abbrev pub aim_turn : Inventory → List ℕ → ℕ → Float → ℕ → Targets → Turn Targets (Result Targets Targets)
+aim_turn i s tone main k g = option_map_or (λ t. next (with_target t g)) (target_of i (target_tone s tone k) (target_weight s main k)) (stop (Err g))
 
 abbrev pub no_targets : Targets
 no_targets = record { items = [] }
+
+pub none_yet : (g : Targets) → g.items ≡ [] → g ≡ no_targets
+none_yet g e = ap (λ xs. record { items = xs }) e
 
 -- what stands past the end of a list of targets
 abbrev no_target : Target

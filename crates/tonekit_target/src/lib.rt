@@ -2,7 +2,7 @@
 // variants, by their places in the inventory.
 #![tactic(auto)]
 
-ghost use Rattle.std.specs.Prelude.{◌≡◌, ◌==◌, IfSome, ◌≤◌, ◌<◌, length};
+ghost use Rattle.std.specs.Prelude.{◌≡◌, ◌==◌, IfSome, IfOk, ◌≤◌, ◌<◌, length};
 ghost use Rattle.spec_judgement.specs.Asked.{TargetsHeld};
 ghost use Rattle.spec_judgement.specs.Target.{variant_weight_good, variant_weights_good, main_weight, variants_good, place_of, target_of, targets_of};
 
@@ -78,18 +78,30 @@ fn target_of(inventory: &Inventory, n: u8, weight: f32) -> Option<Target>
 }
 
 // The targets of a query that loads, among the inventory's tones: the main tone, with what the
-// variants leave to it, and the variants; none where one of them is not held.
-pub fn targets_of(inventory: &Inventory, query: &[u8], tone: u8, variants: u8) -> Option<Targets>
+// variants leave to it, and the variants; where one of them is not held, those before it.
+pub fn targets_of(
+    inventory: &Inventory,
+    query: &[u8],
+    tone: u8,
+    variants: u8,
+) -> Result<Targets, Targets>
     requires { variants ≤ 4 }
     ensures { (result ≡ targets_of inventory.now query.now tone variants)
-        × IfSome result (λ g. TargetsHeld (length inventory.now.items) g) }
+        × IfOk result (λ g. TargetsHeld (length inventory.now.items) g) }
 {
     let main = tonekit_float::greater(main_weight(query, variants), 0.0);
     let mut g = Targets::new();
-    g.push(target_of(inventory, tone, main)?);
+    let Some(first) = target_of(inventory, tone, main) else {
+        return Err(g);
+    };
+    g.push(first);
     for i in 0..usize::from(variants) {
         let variant = tonekit_query::variant_tone(query, i);
-        g.push(target_of(inventory, variant, tonekit_query::variant_weight(query, i))?);
+        let weight = tonekit_query::variant_weight(query, i);
+        let Some(next) = target_of(inventory, variant, weight) else {
+            return Err(g);
+        };
+        g.push(next);
     }
-    Some(g)
+    Ok(g)
 }

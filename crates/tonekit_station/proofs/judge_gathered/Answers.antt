@@ -22,7 +22,7 @@ pub returns-in_default : goal.returns-in_default
 returns-in_default c =
     rw c.at-in_default.ensures
     (delivers_refused _ _ _ _
-    (target_loose _ _ _ c.voiced_frames-e.result (voiced (goal.at.returns-in_default c).After-voiced_frames-e) _ (sym c.query_verdict.ensures ∙ c.in-Ok.is) _ c.targets_of.ensures.0 c.in_default.is))
+    (target_loose _ _ _ c.voiced_frames-e.result (voiced (goal.at.returns-in_default c).After-voiced_frames-e) _ (sym c.query_verdict.ensures ∙ c.in-Ok.is) _ c.targets_of.ensures.0 _ c.in_default.is))
 
 pub shape_of-x-requires : goal.shape_of-x-requires
 shape_of-x-requires c =
@@ -32,12 +32,12 @@ shape_of-x-requires c =
     record { enough = n; ordered = e.ordered; counted = e.counted; inside = omega (arith, h, c.requires.1) }
 
 pub judgement_of-j-requires : goal.judgement_of-j-requires
-judgement_of-j-requires c = (c.requires.0, rw c.in-Some.is at c.targets_of.ensures.1)
+judgement_of-j-requires c = (c.requires.0, rw c.in-Ok-targets_of.is at c.targets_of.ensures.1)
 
 pub returns : goal.returns
 returns c =
     delivers_same _ _ _ _ _
-    (target_held _ _ _ c.voiced_frames-e.result (voiced (goal.at.returns c).After-voiced_frames-e) _ (sym c.query_verdict.ensures ∙ c.in-Ok.is) _ c.targets_of.ensures.0 c.in-Some.targets c.in-Some.is
+    (target_held _ _ _ c.voiced_frames-e.result (voiced (goal.at.returns c).After-voiced_frames-e) _ (sym c.query_verdict.ensures ∙ c.in-Ok.is) _ c.targets_of.ensures.0 c.in-Ok-targets_of.targets c.in-Ok-targets_of.is
     c.in_register-r.result (rw (← c.frames-frames.ensures) c.in_register-r.ensures)
     c.shape_of-x.result (rw (← c.frames-frames.ensures) c.shape_of-x.ensures) c.united-issues.result c.united-issues.ensures c.judgement_of-j.result c.judgement_of-j.ensures c.judgement_record-record.result
     (c.judgement_record-record.ensures ∙ ap (λ (n : ℕ). judgement_bytes c.args.q.tone n c.judgement_of-j.result) c.len.ensures.value))
