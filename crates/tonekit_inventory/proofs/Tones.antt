@@ -9,7 +9,7 @@ use Rattle.tonekit_bytes.proofs.InOrder.{order_length, order_get}
 use Rattle.spec_lookup.specs.Source.{Carried, components, tone_at, source_of_pack, absent_tone}
 use Rattle.spec_lookup.specs.declared.Listing.{Listing}
 use Rattle.tonekit_expect.proofs.Carried.{named, components_at, components_length}
-use Rattle.tonekit_inventory.specs.Fields.{region_at, tail_at}
+use Rattle.tonekit_inventory.specs.Fields.{region_at, region_in, tail_at}
 use Rattle.tonekit_inventory.specs.OfPack.{source_in}
 use Rattle.spec_judgement.specs.Gather.{region_of, entry_of, named_of}
 use Rattle.std.proofs.lemmas.List.{get_or-map}
@@ -26,8 +26,8 @@ listing_named s l h =
     ∙ rw (components_length s l l.count, components_at s l nothing_carried l.count 0 h, n.owner, n.form, n.label)
 
 -- ---- a tone's values in its record
-pub region_is : (s : List ℕ) (o : ℕ) → region_at s (o + 47) ≡ region_of (tone_at 47 7 s o)
-unfolding region_at
+pub region_is : (s : List ℕ) (o : ℕ) → region_in (region_at s (o + 47)) ≡ region_of (tone_at 47 7 s o)
+unfolding region_at region_in
 region_is s o =
     let a : o + 47 + 1 ≡ o + 48 = omega arith in
     let b : o + 47 + 5 ≡ o + 52 = omega arith in
@@ -48,7 +48,7 @@ module _ (s : List ℕ) (p : Pack) where
         get_or-map (tone_at 47 7 s) (in_order p.tones.at p.tones.count) t 0 absent_tone (rw order_length h)
         ∙ ap (tone_at 47 7 s) (order_get p.tones.at p.tones.count t h)
 
-    pub entry_is : record { number = byte_at s (at + 1); prior = f32_at s (at + 2); region = region_at s (at + 47); tail = tail_at 7 last s (at + 56); listing = None }
+    pub entry_is : record { number = byte_at s (at + 1); prior = f32_at s (at + 2); region = region_in (region_at s (at + 47)); tail = tail_at 7 last s (at + 56); listing = None }
         ≡ entry_of last (get_or (source_in s p).tones t absent_tone) None
     unfolding tail_at
     entry_is = rw (tone_is, region_is)

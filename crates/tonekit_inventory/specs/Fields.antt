@@ -9,10 +9,15 @@ use Rattle.tonekit_entries.specs.declared.Region.{Region}
 use Rattle.spec_judgement.specs.declared.Settings.{Settings}
 use Rattle.spec_judgement.specs.declared.Slot.{Slot}
 use Rattle.spec_judgement.specs.declared.Tolerance.{Tolerance}
+use Rattle.tonekit_inventory.specs.declared.RegionFields.{RegionFields}
 
 -- "region flag u8, from f32, to f32"
-unfoldable pub region_at : List ℕ → ℕ → Option Region
-region_at s o = cond (eqb (byte_at s o) 0) None (Some (record { from = f32_at s (o + REGION_FROM); to = f32_at s (o + REGION_TO) }))
+unfoldable pub region_at : List ℕ → ℕ → RegionFields
+region_at s o = record { flag = byte_at s o; region = record { from = f32_at s (o + REGION_FROM); to = f32_at s (o + REGION_TO) } }
+
+-- the region, if the flag is not 0
+unfoldable pub region_in : RegionFields → Option Region
+region_in f = cond (eqb f.flag 0) None (Some f.region)
 
 -- "at phrase end f32, elsewhere f32": the one for a place in the phrase, of a record of that kind; where none stands there, 0
 unfoldable pub tail_at : ℕ → Bool → List ℕ → ℕ → Float

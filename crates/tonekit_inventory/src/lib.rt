@@ -5,7 +5,7 @@
 ghost use Rattle.std.specs.Prelude.{◌≡◌, ◌≤◌, ◌<◌, ℕ, List, Result, None, Ok, Err, IfOk, IfErr, length, get_or};
 ghost use Rattle.tonekit_core.specs.declared.Rejection.{Rejection};
 ghost use Rattle.spec_lookup.specs.Source.{Source, accent_in, tone_in, absent_tone};
-ghost use Rattle.tonekit_inventory.specs.Fields.{region_at, tail_at, tolerance_at, settings_at};
+ghost use Rattle.tonekit_inventory.specs.Fields.{region_at, region_in, tail_at, tolerance_at, settings_at};
 ghost use Rattle.spec_judgement.specs.Gather.{entry_of, named_of, given_of, graded_of, put_in, no_slots};
 ghost use Rattle.tonekit_inventory.specs.Fields.{settings_of};
 ghost use Rattle.tonekit_inventory.specs.Gathers.{Lists, Gathers};
@@ -65,18 +65,39 @@ pub trait Held<'a>: Drop {
         ensures { result ≡ settings_of (source self.now).settings };
 }
 
-// The region whose flag stands at an offset, if the flag is not 0; bytes that are not there are 0.
+// A region as it stands in a record: its flag, and its bounds whatever the flag says.
+#[derive(Clone, Copy)]
+pub struct RegionFields {
+    pub flag: u8,
+    pub region: Region,
+}
+
+impl RegionFields {
+    // The region, if the flag is not 0.
+    #[tactic(auto, unfolding(crate::specs::Fields::region_in))]
+    pub fn used(self) -> Option<Region>
+        ensures { result ≡ region_in self }
+    {
+        if self.flag == 0 {
+            return None;
+        }
+        Some(self.region)
+    }
+}
+
+// The region whose flag stands at an offset; bytes that are not there are 0.
 #[tactic(auto, unfolding(crate::specs::Fields::region_at))]
-pub fn region_at(s: &[u8], o: usize) -> Option<Region>
+pub fn region_at(s: &[u8], o: usize) -> RegionFields
     ensures { result ≡ region_at s.now o }
 {
-    if byte_at(s, o, 0) == 0 {
-        return None;
-    }
-    Some(Region {
+    let region = Region {
         from: f32_at(s, o, layout::REGION_FROM),
         to: f32_at(s, o, layout::REGION_TO),
-    })
+    };
+    RegionFields {
+        flag: byte_at(s, o, 0),
+        region,
+    }
 }
 
 // The tail's value for a place in the phrase, where a record of that kind stands at an offset; else 0.

@@ -65,7 +65,7 @@ impl<'a> Held<'a> for HeldPack<'a> {
         ToneEntry {
             number: byte_at(s, o, layout::OWN_NUMBER),
             prior: f32_at(s, o, layout::TONE_PRIOR),
-            region: crate::region_at(s, o + layout::TONE_REGION),
+            region: crate::region_at(s, o + layout::TONE_REGION).used(),
             tail: crate::tail_at(s, o + layout::TONE_SIZE, layout::TAIL_KIND, last),
             listing: None,
         }

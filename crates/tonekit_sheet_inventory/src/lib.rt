@@ -161,7 +161,10 @@ impl<'a> Held<'a> for HeldSheet<'a> {
         ToneEntry {
             number: byte_at(self.view.bytes, o, layout::OWN_NUMBER),
             prior: f32_at(self.view.bytes, o, layout::SHEET_TONE_PRIOR),
-            region: tonekit_inventory::region_at(self.view.bytes, o + layout::SHEET_TONE_REGION),
+            region: tonekit_inventory::region_at(
+                self.view.bytes,
+                o + layout::SHEET_TONE_REGION,
+            ).used(),
             tail: tonekit_inventory::tail_at(
                 self.view.bytes,
                 o + layout::SHEET_TONE_SIZE,

@@ -18,5 +18,5 @@ overflow_add-o-2 c = record { fits = omega (arith, c.sheet_tone_at-o.ensures, be
 
 pub returns : goal.returns
 returns c =
-    rw (c.tail_at.ensures, c.region_at.ensures, c.f32_at.ensures, c.byte_at.ensures)
+    rw (c.tail_at.ensures, c.used.ensures, c.region_at.ensures, c.f32_at.ensures, c.byte_at.ensures)
     (entry_is c.args.self.now.view.bytes.now c.args.self.now.view.sheet c.args.t (below (goal.at.returns c).Start) c.args.last _ c.sheet_tone_at-o.ensures)

@@ -15,4 +15,4 @@ bounds-self-t c = omega (arith, below (goal.at.bounds-self-t c).Start, c.args.se
 
 pub returns : goal.returns
 returns c =
-    rw (c.tail_at.ensures, c.region_at.ensures, c.f32_at.ensures, c.byte_at.ensures, c.from-o.ensures) (entry_is c.args.self.now.view.bytes.now c.args.self.now.view.pack c.args.t (below (goal.at.returns c).Start) c.args.last)
+    rw (c.tail_at.ensures, c.used.ensures, c.region_at.ensures, c.f32_at.ensures, c.byte_at.ensures, c.from-o.ensures) (entry_is c.args.self.now.view.bytes.now c.args.self.now.view.pack c.args.t (below (goal.at.returns c).Start) c.args.last)
