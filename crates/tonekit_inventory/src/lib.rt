@@ -15,9 +15,10 @@ mod pack;
 
 pub use pack::HeldPack;
 pub use spec_judgement::Gathered;
-use spec_judgement::{Inventory, Region, Settings, Slots, Tolerance, ToneEntry, ToneListing};
+use spec_judgement::{Settings, Slots, Tolerance};
 use tonekit_bytes::{byte_at, f32_at};
 use tonekit_core::{Rejection, layout};
+use tonekit_entries::{Inventory, Region, ToneEntry, ToneListing};
 use tonekit_expect::Context;
 
 // What a station holds: some bytes, as those of a pack or of a sheet, with what was read of them. `source` says
