@@ -110,7 +110,7 @@ fn judge_gathered(
         &targets,
         issues,
     );
-    let record = tonekit_record::judgement_record(q.tone, g.inventory.len() as u8, j);
+    let record = tonekit_record::record_of(q.tone, g.inventory.len() as u8, j);
     tonekit_bytes::write_record(out, &record)
 }
 

@@ -3,5 +3,4 @@ use Rattle.tonekit_record.proofs.Parts.{delta_parts}
 use Rattle.tonekit_record.proofs.put_delta.Goals as goal
 
 pub returns : goal.returns
-returns c =
-    delta_parts c.args.out.now c.args.at c.args.d c.kind_of.ensures c.amount_of.ensures c.put_u8.ensures c.put_f32.ensures
+returns c = delta_parts c.args.out.now c.args.at c.args.d c.kind_of.ensures c.put_u8.ensures c.put_f32.ensures

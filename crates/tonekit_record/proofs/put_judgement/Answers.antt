@@ -1,6 +1,6 @@
 -- `put_judgement` meets its contract: the calls' stores are the definition's.
 use Rattle.std.proofs.Common.{◌≡◌, rules, arith, length}
-use Rattle.tonekit_record.proofs.Parts.{record_parts}
+use Rattle.tonekit_record.proofs.Parts.{fields_parts}
 use Rattle.tonekit_record.proofs.put_judgement.Goals as goal
 use Rattle.tonekit_record.proofs.put_judgement.Goals.{Start}
 
@@ -10,7 +10,7 @@ eight c = search rules
 
 pub returns : goal.returns
 returns c =
-    record_parts c.args.expected c.args.tones c.args.j (eight (goal.at.returns c).Start) c.args.out.now
+    fields_parts c.args.expected c.args.tones c.args.j (eight (goal.at.returns c).Start) c.args.out.now
     c.put_head.ensures c.put_f32s.ensures c.put_scores.ensures c.put_deltas.ensures c.put_tail.ensures
 
 pub put_f32s-requires : goal.put_f32s-requires

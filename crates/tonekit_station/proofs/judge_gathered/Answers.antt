@@ -39,6 +39,6 @@ returns c =
     delivers_same _ _ _ _ _
     (target_held _ _ _ c.voiced_frames-e.result (voiced (goal.at.returns c).After-voiced_frames-e) _ (sym c.query_verdict.ensures ∙ c.in-Ok.is) _ c.targets_of.ensures.0 c.in-Ok-targets_of.targets c.in-Ok-targets_of.is
     c.in_register-r.result (rw (← c.frames-frames.ensures) c.in_register-r.ensures)
-    c.shape_of-x.result (rw (← c.frames-frames.ensures) c.shape_of-x.ensures) c.united-issues.result c.united-issues.ensures c.judgement_of-j.result c.judgement_of-j.ensures c.judgement_record-record.result
-    (c.judgement_record-record.ensures ∙ ap (λ (n : ℕ). judgement_bytes c.args.q.tone n c.judgement_of-j.result) c.len.ensures.value))
+    c.shape_of-x.result (rw (← c.frames-frames.ensures) c.shape_of-x.ensures) c.united-issues.result c.united-issues.ensures c.judgement_of-j.result c.judgement_of-j.ensures c.record_of-record.result
+    (c.record_of-record.ensures ∙ ap (λ (n : ℕ). judgement_bytes c.args.q.tone n c.judgement_of-j.result) c.len.ensures.value))
     c.write_record.ensures
