@@ -1,6 +1,6 @@
 -- The parts of a judgement's record, written one after the other, are the record, of 64 bytes; and a judgement's record is that of its
 -- fields. Assumes nothing.
-use Rattle.std.proofs.Common.{ℕ, ◌+◌, ◌≤◌, ◌≡◌, refl, ap, ◌∙◌, List, [], ◌∷◌, ◌++◌, append_assoc, append-nil, zero-add, arith, length, length-append, drop_of_length-le}
+use Rattle.std.proofs.Common.{ℕ, ◌+◌, ◌≤◌, ◌≡◌, refl, sym, ap, ◌∙◌, List, [], ◌∷◌, ◌++◌, append_assoc, append-nil, zero-add, arith, length, length-append, drop_of_length-le, Float}
 use Rattle.std.proofs.Common.{Option, Some, None}
 use lib.Seq.{sets, sets-eq}
 use Rattle.tonekit_core.specs.Words.{measured_number}
@@ -12,7 +12,7 @@ use Rattle.spec_judgement.specs.declared.Deltas.{Deltas}
 use Rattle.spec_judgement.specs.Record.{nearest_bytes, score_bytes, one_bytes, delta_bytes, judgement_bytes}
 use Rattle.tonekit_record.specs.declared.DeltaFields.{DeltaFields}
 use Rattle.tonekit_record.specs.declared.JudgementFields.{JudgementFields}
-use Rattle.tonekit_record.specs.Fields.{kind_number, kinds_count, written_scores, written_delta, written_deltas, fields_bytes, kind_of, delta_count, delta_fields, fields_of}
+use Rattle.tonekit_record.specs.Fields.{kind_number, kinds_count, written_scores, written_delta, written_deltas, fields_bytes, kind_of, amount_of, delta_count, delta_fields, fields_of}
 use Rattle.spec_judgement.specs.declared.ToneJudgement.{ToneJudgement}
 
 -- kind, expected, tone count; measured, issues
@@ -70,12 +70,18 @@ pub deltas_length : (ds : Deltas) → length (delta_bytes ds) ≡ 11
 unfolding delta_bytes one_bytes
 deltas_length ds = refl
 
--- ---- a delta's two puts
-pub delta_parts : (l : List ℕ) {o o' : List ℕ} (at : ℕ) (d : DeltaFields) {k : ℕ} → k ≡ kind_number d.kind → o ≡ sets l at (k ∷ [])
+-- ---- a delta's two puts: of its fields, and of a judgement's delta
+pub delta_fields_parts : (l : List ℕ) {o o' : List ℕ} (at : ℕ) (d : DeltaFields) {k : ℕ} → k ≡ kind_number d.kind → o ≡ sets l at (k ∷ [])
     → o' ≡ sets o (at + 1) (f32_bytes d.amount) → o' ≡ sets l at (written_delta d)
 unfolding written_delta
-delta_parts l at d q e e' =
+delta_fields_parts l at d q e e' =
     more l (kind_number d.kind ∷ []) (f32_bytes d.amount) at (at + 1) (e ∙ ap (λ (v : ℕ). sets l at (v ∷ [])) q) refl e'
+
+pub delta_parts : (l : List ℕ) {o o' : List ℕ} (at : ℕ) (d : Option Delta) {k : ℕ} {v : Float} → k ≡ kind_of d → v ≡ amount_of d → o ≡ sets l at (k ∷ [])
+    → o' ≡ sets o (at + 1) (f32_bytes v) → o' ≡ sets l at (one_bytes d)
+delta_parts l {o} at d q a e e' =
+    delta_fields_parts l at (delta_fields d) (q ∙ sym (kind_written d)) e (e' ∙ ap (λ (v : Float). sets o (at + 1) (f32_bytes v)) a)
+    ∙ ap (λ (b : List ℕ). sets l at b) (delta_written d)
 
 -- ---- five parts of these lengths, one after the other
 module _ (head fs ss ds end : List ℕ) (h : length head ≡ 3) (f : length fs ≡ 32) (s : length ss ≡ 15) (d : length ds ≡ 11) where

@@ -1,1 +1,2 @@
+pub mod OrNone
 pub mod Places
