@@ -70,7 +70,7 @@ pub deltas_length : (ds : Deltas) → length (delta_bytes ds) ≡ 11
 unfolding delta_bytes one_bytes
 deltas_length ds = refl
 
--- ---- a delta's two puts: of its fields, and of a judgement's delta
+-- ---- a delta's two puts: of its fields, by which a record is written, and of a judgement's delta, for callers: no proof here cites that
 pub delta_fields_parts : (l : List ℕ) {o o' : List ℕ} (at : ℕ) (d : DeltaFields) {k : ℕ} → k ≡ kind_number d.kind → o ≡ sets l at (k ∷ [])
     → o' ≡ sets o (at + 1) (f32_bytes d.amount) → o' ≡ sets l at (written_delta d)
 unfolding written_delta

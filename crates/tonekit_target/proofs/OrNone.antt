@@ -1,4 +1,5 @@
--- `targets_of` without what it says of a refusal: the targets, or none where one of them is not held. Assumes nothing.
+-- `targets_of` without what it says of a refusal: the targets, or none where one of them is not held. It is for callers that want an option; no
+-- proof here cites it. Assumes nothing.
 use Rattle.std.specs.Prelude.{Option, Some, None, Ok, Err}
 use Rattle.std.specs.Option.{option_map_or}
 use Rattle.std.specs.Result.{result_ok}
@@ -23,6 +24,7 @@ module _ {S R T : Type 0} (f : ℕ → S → Turn S R) (g : ℕ → S → Turn S
   to_mapped (suc k) i (next s) = ap (turns_to g (λ s. h (end s)) k (i + 1)) (sym (same i s)) ∙ to_mapped k (i + 1) (f i s)
   to_mapped (suc k) i (stop r) = refl
 
+-- a turn of the search ends with the targets so far: by `result_ok`, with none
 turn_mapped : (g : Targets) (o : Option Target)
     → mapped (result_ok {T = Targets}) (option_map_or (λ t. next (with_target t g)) o (stop (Err g))) ≡ option_map_or (λ t. next (with_target t g)) o (stop None)
 turn_mapped g None = refl
@@ -34,7 +36,4 @@ pub targets_or_none : (i : Inventory) (s : List ℕ) (tone variants : ℕ)
     range_to (λ k (g : Targets). option_map_or (λ t. next (with_target t g)) (aimed k) (stop None)) Some 0 (variants + 1) (record { items = [] })
 unfolding targets_of range_to
 targets_or_none i s tone variants =
-    let aimed = λ (k : ℕ). target_of i (target_tone s tone k) (target_weight s (main_weight s variants) k) in
-    sym
-    (to_mapped (aim_turn i s tone (main_weight s variants)) (λ k (g : Targets). option_map_or (λ t. next (with_target t g)) (aimed k) (stop None)) Ok result_ok
-    (λ k g. turn_mapped g (aimed k)) (variants + 1 - 0) 0 (next (record { items = [] })))
+    sym (to_mapped (aim_turn i s tone (main_weight s variants)) _ Ok result_ok (λ k g. turn_mapped g _) (variants + 1 - 0) 0 (next (record { items = [] })))
